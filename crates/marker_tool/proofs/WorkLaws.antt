@@ -6,7 +6,10 @@ use Rattle.marker_tool.proofs.Listing.{is_listing}
 use Rattle.marker_tool.proofs.MarkerLaws.{has_markers, all_surplus}
 use Rattle.marker_tool.proofs.MissingLaws.{all_missing}
 use Rattle.marker_tool.proofs.SameTree.{without_append, with_append, cleaning_of, cleans, is_cleaning, filling_of, fills, is_filling}
+use Rattle.basics.proofs.Common.{length-take}
 use Rattle.fs_ops.specs.Places.{bucket_asks}
+use Rattle.fs_tree.specs.Tree.{IsDirectory}
+use Rattle.marker_tool.specs.Works.{IsBatch}
 
 same_tree : (z : Objects) → SameTree z z
 same_tree z = record { files = λ k f. refl; kept = λ q h. h; only = λ q h. h }
@@ -47,6 +50,15 @@ clean_end p z (Err r) m h = subst (IsCleaning p z) (sym h.1) (still_clean p z)
 taken : (n : ℕ) (ks : List (List ℕ)) (k : List ℕ) → IsIn k (take n ks) → IsIn k ks
 taken n ks k i = subst (IsIn k) (take-append-drop n ks) (in_front k (take n ks) (drop n ks) i)
 
+batch_of : (p : List ℕ) (z : Objects) (k : List ℕ) (ks : List (List ℕ)) → IsDirectory z p
+    → ((j : List ℕ) → IsIn j (k ∷ ks) → IsIn j (surplus_in (all_below (prefix_of p) z)))
+    → IsBatch p z (take 1000 (k ∷ ks))
+batch_of p z k ks d h = record {
+  directory = d;
+  few = omega (arith, length-take 1000 (k ∷ ks));
+  each = λ j i. (surplus_all p z).each j (h j (taken 1000 (k ∷ ks) j i));
+}
+
 pub clean_laws : IsWork (λ q es. surplus_in es) (λ q es. length (surplus_in es)) 1000 drops without Cleans IsCleaning CleanSends
 clean_laws = record {
   some = omega arith;
@@ -57,7 +69,7 @@ clean_laws = record {
   looks = λ p z a h. inl h;
   refused = λ p z r h. (h, refl);
   during = λ p z ks d h. is_cleaning p z ks (λ k i. (surplus_all p z).each k (h k i)) d;
-  sent = λ p z k ks d h. inr (take 1000 (k ∷ ks), refl, d, λ j i. (surplus_all p z).each j (h j (taken 1000 (k ∷ ks) j i)));
+  sent = λ p z k ks d h. inr (k, take 999 ks, refl, batch_of p z k ks d h);
   given = λ p z d. (d, cleans p z (surplus_in (all_below (prefix_of p) z)) (surplus_all p z));
   at_end = clean_end;
 }

@@ -1,5 +1,5 @@
 -- What the marker tool asks in a directory, beside looks.
-use Rattle.std.specs.Prelude.{◌≡◌, ◌⊎◌, ℕ, true, List, [], ◌∷◌, take}
+use Rattle.std.specs.Prelude.{◌≡◌, ◌⊎◌, ℕ, ◌≤◌, true, List, [], ◌∷◌, length, take}
 use Rattle.fs_ops.specs.Prelude.{Objects, IsIn, Ask, Put, DropAll, bucket_asks, is_look, marker, IsDirectory, IsSurplus, IsMissing}
 use Rattle.std.specs.FinMap as fin
 
@@ -17,9 +17,15 @@ abbrev pub with_markers : Objects → List (List ℕ) → Objects
 with_markers z [] = z
 with_markers z (k ∷ ks) = with_markers (fin.insert z k marker) ks
 
--- surplus keys of a directory are deleted, and else it looks
+-- these are surplus keys of a directory, at most a thousand
+pub record IsBatch (p : List ℕ) (z : Objects) (ks : List (List ℕ)) : Type 0 where
+  pub directory : IsDirectory z p
+  pub few : length ks ≤ 1000
+  pub each : (k : List ℕ) → IsIn k ks → IsSurplus p z k
+
+-- it looks, or deletes some surplus keys of a directory in one batch, at least one
 abbrev pub CleanSends : List ℕ → Objects → Ask → Type 0
-CleanSends p z a = (is_look a ≡ true) ⊎ ((ks : List (List ℕ)) × (a ≡ DropAll ks) × IsDirectory z p × ((k : List ℕ) → IsIn k ks → IsSurplus p z k))
+CleanSends p z a = (is_look a ≡ true) ⊎ ((k : List ℕ) × (ks : List (List ℕ)) × (a ≡ DropAll (k ∷ ks)) × IsBatch p z (k ∷ ks))
 
 -- a missing marker of a directory is put, and else it looks
 abbrev pub FillSends : List ℕ → Objects → Ask → Type 0

@@ -9,7 +9,7 @@
 //! path's key where a file stands there, NotFound where nothing does. `AuditMarkers`: exactly the markers of
 //! the directories below the path and its own, each surplus, a leaf or odd, in the order of their keys; it
 //! changes nothing and asks nothing but looks. `CleanMarkers`: exactly the surplus ones are gone, so many are
-//! told, every other key is as it was, and none is left; it deletes nothing else (`sends`). `FillMarkers`:
+//! told, every other key is as it was, and none is left; it deletes nothing else, and sends no empty batch (`sends`). `FillMarkers`:
 //! exactly the missing ones are put, so many are told, every other key is as it was, and none is missing; it
 //! puts nothing else (`sends`). At each moment of both the tree of files and directories is the same, and
 //! every key is as it was, or is such a marker of a directory and is gone, or is put. The look, the walk and

@@ -1,5 +1,8 @@
 -- A command that the shell did on a store, by what the shell says of it.
-use Rattle.s3a_shell.proofs.Common.{AreAnswered, AreBy, Bool, Command, Content, Does, Done, Entry, IsHonest, List, MayStandAt, None, OnlyIn, Shell, Store, Work, bucket_in, ended_by, false, has_changed, length, moment, only_looks, opening, subst, sym, true, upload_at, work_said, ℕ, ◌^◌, ◌∙◌, ◌≡◌, ◌≤◌}
+use Rattle.s3a_shell.specs.Asking.{MaySend}
+use Rattle.s3a_shell.proofs.Common.{AllByRecursion, AreAnswered, AreBy, Bool, Command, Content, Does, Done, Entry, IsHonest, List}
+use Rattle.s3a_shell.proofs.Common.{MayStandAt, None, OnlyIn, Shell, Store, Work, bucket_in, ended_by, false, has_changed, length, moment}
+use Rattle.s3a_shell.proofs.Common.{only_looks, opening, subst, sym, true, upload_at, work_said, ℕ, ◌^◌, ◌∙◌, ◌≡◌, ◌≤◌}
 use Rattle.durable_store.specs.Outcomes.{IsSound}
 use Rattle.durable_store.proofs.Found.{few_ids}
 
@@ -8,19 +11,25 @@ pub few_of : (c : Content) → IsSound (Store c) → c.next ≤ 2 ^ 62
 few_of c is = few_ids c is
 
 pub done_of : (command : Command) (bytes : List ℕ) (c service : Content) (refused changed : Bool) (text : List ℕ) (es : List Entry) (work : Work) → Does command bytes (opening c) (record { refused = refused; text = text }) (moment c es (length es)) → service ≡ (moment c es (length es)).content → AreBy Shell 0 es → AreAnswered es
-    → IsHonest c es → ((m : ℕ) → MayStandAt command bytes (opening c) (moment c es m)) → changed ≡ has_changed es → (changed ≡ false → service ≡ c) → (refused ≡ true → service ≡ c) → ((id : ℕ) → c.next ≤ id → upload_at service (bucket_in command) id ≡ None) → (only_looks command ≡ true → changed ≡ false) → OnlyIn (bucket_in command) (ended_by command c) c service → work ≡ work_said refused changed c text es → Done command bytes c work
-done_of command bytes c service refused changed text es work did content by answered honest moments tells same kept ended reads stays is = record {
-  what = record { refused = refused; text = text };
-  sent = es;
-  did = did;
-  by = by;
-  answered = answered;
-  honest = honest;
-  moments = moments;
-  stays = subst (λ (d : Content). OnlyIn (bucket_in command) (ended_by command c) c d) content stays;
-  ended = subst (λ (d : Content). (id : ℕ) → c.next ≤ id → upload_at d (bucket_in command) id ≡ None) content ended;
-  reads = λ e. sym tells ∙ reads e;
-  refused = λ e. sym content ∙ kept e;
-  unchanged = λ e. sym content ∙ same (tells ∙ e);
-  is = subst (λ (b : Bool). work ≡ work_said refused b c text es) tells is;
-}
+    → IsHonest c es → AllByRecursion (λ e. MaySend command bytes (opening c) e.request) es
+    → ((m : ℕ) → MayStandAt command bytes (opening c) (moment c es m)) → changed ≡ has_changed es → (changed ≡ false → service ≡ c)
+    → (refused ≡ true → service ≡ c) → ((id : ℕ) → c.next ≤ id → upload_at service (bucket_in command) id ≡ None)
+    → (only_looks command ≡ true → changed ≡ false) → OnlyIn (bucket_in command) (ended_by command c) c service
+    → work ≡ work_said refused changed c text es → Done command bytes c work
+done_of command bytes c service refused changed text es work did content by answered honest asked moments tells same kept ended reads
+    stays is = record {
+      what = record { refused = refused; text = text };
+      sent = es;
+      did = did;
+      by = by;
+      answered = answered;
+      honest = honest;
+      asked = asked;
+      moments = moments;
+      stays = subst (λ (d : Content). OnlyIn (bucket_in command) (ended_by command c) c d) content stays;
+      ended = subst (λ (d : Content). (id : ℕ) → c.next ≤ id → upload_at d (bucket_in command) id ≡ None) content ended;
+      reads = λ e. sym tells ∙ reads e;
+      refused = λ e. sym content ∙ kept e;
+      unchanged = λ e. sym content ∙ same (tells ∙ e);
+      is = subst (λ (b : Bool). work ≡ work_said refused b c text es) tells is;
+    }

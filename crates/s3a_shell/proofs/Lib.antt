@@ -8,6 +8,7 @@ mod Joining
 mod Aborting
 mod Listing
 mod Looking
+mod Asking
 pub mod Doing
 pub mod Plain
 mod Common

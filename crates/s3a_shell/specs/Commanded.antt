@@ -1,11 +1,13 @@
 -- What a command is to do, by what is held.
 use Rattle.std.specs.Prelude.{◌≡◌, ℕ, ◌≤◌, Bool, true, false, List, [], length, codes, Option, Some, None}
-use Rattle.machine.specs.Prelude.{Content, opening, new_content, moment, IsHonest, MOST_MINIMUM, Shell, Entry, AreAnswered, AreBy}
+use Rattle.machine.specs.Prelude.{AllByRecursion, Content, opening, new_content, moment, IsHonest, MOST_MINIMUM, Shell, Entry}
+use Rattle.machine.specs.Prelude.{AreAnswered, AreBy}
 use Rattle.s3a_words.specs.declared.command.Command.{Command}
 use Rattle.s3a_words.specs.declared.command.Command.TheVariants.{Init}
 use Rattle.s3a_words.specs.Kinds.{kind_of, is_put, is_play}
 use Rattle.store_frame.specs.Held.{upload_at}
 use Rattle.s3a_shell.specs.declared.said.Said.{Said}
+use Rattle.s3a_shell.specs.Asking.{MaySend}
 use Rattle.s3a_shell.specs.Doings.{only_looks, Does, MayStandAt}
 use Rattle.s3a_shell.specs.Sendings.{has_changed}
 use Rattle.s3a_shell.specs.Stays.{OnlyIn, bucket_in, ended_by}
@@ -51,6 +53,8 @@ pub record Done (command : Command) (bytes : List ℕ) (c : Content) (work : Wor
   pub by : AreBy Shell 0 sent
   pub answered : AreAnswered sent
   pub honest : IsHonest c sent
+  -- each request is one that the command may send
+  pub asked : AllByRecursion (λ e. MaySend command bytes (opening c) e.request) sent
   -- at each moment, wherever it stops, there stands what may stand then of the command
   pub moments : (m : ℕ) → MayStandAt command bytes (opening c) (moment c sent m)
   -- other buckets stand, and so do the uploads that it does not end

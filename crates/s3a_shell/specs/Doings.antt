@@ -112,7 +112,7 @@ Does _ bytes z what s = ⊥
 
 -- a path is deleted in part
 abbrev pub DeletedSome : Bool → Path → Scene → Scene → Type 0
-DeletedSome recursive path z s = AlwaysIn path.bucket (delete.always (record { path = path.key; recursive = recursive })) z s
+DeletedSome recursive path z s = AlwaysIn path.bucket (delete.InPart (record { path = path.key; recursive = recursive })) z s
 
 -- what may stand at any moment of a command that was begun in the scene z, with the bytes of its input: wherever it stops, this is left
 abbrev pub MayStandAt : Command → List ℕ → Scene → Scene → Type 0

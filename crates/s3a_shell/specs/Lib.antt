@@ -4,4 +4,5 @@ pub mod Sendings
 pub mod Uploading
 pub mod Doings
 pub mod Stays
+pub mod Asking
 pub mod Commanded

@@ -1,6 +1,6 @@
 ghost use Rattle.std.specs.Prelude.{◌≡◌, None, IfOk, OnOk, option_map};
 ghost use Rattle.s3_types.specs.Answer.{answer, apply};
-ghost use Rattle.s3a_shell.specs.Sendings.{IsCounted, Sent, AppliedOrNot};
+ghost use Rattle.s3a_shell.specs.Sendings.{IsCounted, Sent, Asked, AppliedOrNot};
 ghost use Rattle.s3a_shell.specs.Doings.{refusal_word, refused_or_fine, DidMake};
 
 use crate::said::{Said, fine, refusing};
@@ -36,6 +36,7 @@ impl Session {
         ensures word { IfOk result (λ word. option_map (λ w. w.now) word ≡ refusal_word
             (answer self.old.store.scene (Request.MakeBucket name.now))) }
         ensures scene { OnOk result (self.new.store.scene ≡ apply self.old.store.scene (Request.MakeBucket name.now)) }
+        ensures asked { OnOk result (Asked (λ r. r ≡ Request.MakeBucket name.now) self.old self.new) }
         ensures sent { OnOk result (Sent (AppliedOrNot (Request.MakeBucket name.now) self.old.store.scene)
             self.old self.new) }
     {
@@ -57,6 +58,7 @@ impl Session {
     pub(crate) fn make_bucket(&mut self, name: &Text) -> Result<Said, AllocError>
         requires { IsCounted self.old }
         ensures did { IfOk result (λ what. DidMake name.now self.old.store.scene what self.new.store.scene) }
+        ensures asked { OnOk result (Asked (λ r. r ≡ Request.MakeBucket name.now) self.old self.new) }
         ensures sent { OnOk result (Sent (AppliedOrNot (Request.MakeBucket name.now) self.old.store.scene)
             self.old self.new) }
     {

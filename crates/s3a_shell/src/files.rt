@@ -1,5 +1,6 @@
-ghost use Rattle.std.specs.Prelude.{◌≡◌, ◌≤◌, length, IfOk, OnOk};
-ghost use Rattle.s3a_shell.specs.Sendings.{IsCounted, Sent};
+ghost use Rattle.std.specs.Prelude.{◌≡◌, ◌≤◌, false, length, IfOk, OnOk};
+ghost use Rattle.s3a_shell.specs.Asking.{PutSends, PutSendsUnless};
+ghost use Rattle.s3a_shell.specs.Sendings.{IsCounted, Sent, Asked};
 ghost use Rattle.s3a_shell.specs.Doings.{most_input, Created, FileOrNot, DidPut};
 
 use crate::said::{Said, nothing_said, refusing};
@@ -28,6 +29,8 @@ impl Session {
         requires counted { IsCounted self.old }
         ensures did { IfOk result (λ what. Created path.now bytes.now overwrite policy self.old.store.scene
             what self.new.store.scene) }
+        ensures asked { OnOk result (Asked (PutSendsUnless false path.now bytes.now overwrite policy self.old.store.scene)
+            self.old self.new) }
         ensures sent { OnOk result (Sent (FileOrNot policy path.now bytes.now self.old.store.scene) self.old self.new) }
     {
         let alloc = self.alloc;
@@ -55,6 +58,8 @@ impl Session {
         requires { IsCounted self.old }
         ensures did { IfOk result (λ what. DidPut path.now bytes.now overwrite policy self.old.store.scene
             what self.new.store.scene) }
+        ensures asked { OnOk result (Asked (PutSends path.now bytes.now overwrite policy self.old.store.scene)
+            self.old self.new) }
         ensures sent { OnOk result (Sent (FileOrNot policy path.now bytes.now self.old.store.scene) self.old self.new) }
     {
         if bytes.as_slice().len() > MOST_INPUT {

@@ -7,7 +7,9 @@
 //! by the tree of its bucket's objects (`Does`), and at each moment there stands what may stand then
 //! (`moments`); `mb`, `uploads` and `abort-uploads` what the store's rules have. Its sendings are the
 //! shell's, in event 0, each with the answer that was due, and the store that it leaves is what they
-//! make of the one that it was given. Other buckets stand, and so do all uploads but those that
+//! make of the one that it was given. Each request is one of its operation, and what is not due is not sent (`asked`):
+//! `mkdir` puts no marker of a directory that stands, `cp` copies no key again that stood, `clean-markers` sends no empty
+//! batch, and a refused command sends looks alone. Other buckets stand, and so do all uploads but those that
 //! `abort-uploads` ends (`stays`); what was refused, or sent no change, leaves the store as it was.
 //! One that only looks sends no change (`reads`), and no upload is live at the end that was begun by
 //! the command (`ended`).

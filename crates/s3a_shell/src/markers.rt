@@ -3,7 +3,8 @@ ghost use Rattle.bucket_ops.specs.Phases.{AlwaysIn};
 ghost use Rattle.fs_tree.specs.MarkerTool.{Audits, Cleans, Fills, IsCleaning, IsFilling};
 ghost use Rattle.bucket_ops.specs.Uploads.{IsStill};
 ghost use Rattle.s3a_shell.specs.Texts.{kind_word, marker_line, marker_lines, cleaned_line, filled_line, said};
-ghost use Rattle.s3a_shell.specs.Sendings.{IsCounted, Sent, has_changed};
+ghost use Rattle.s3a_shell.specs.Asking.{LooksIn, CleanMarkersSends, FillMarkersSends};
+ghost use Rattle.s3a_shell.specs.Sendings.{IsCounted, Sent, Asked, has_changed};
 ghost use Rattle.s3a_shell.specs.Doings.{Did};
 
 use crate::said::{Said, fine, refused};
@@ -94,6 +95,7 @@ impl Session {
         ensures did { IfOk result (λ what. Did path.now (Audits path.now.key) marker_lines self.old.store.scene
             what self.new.store.scene) }
         ensures looks { OnOk result (has_changed self.new.journal.entries ≡ has_changed self.old.journal.entries) }
+        ensures asked { OnOk result (Asked (LooksIn path.now.bucket) self.old self.new) }
         ensures sent { OnOk result (Sent (IsStill self.old.store.scene) self.old self.new) }
     {
         let audit = AuditMarkers::new(self.alloc, path)?;
@@ -106,6 +108,7 @@ impl Session {
         requires { IsCounted self.old }
         ensures did { IfOk result (λ what. Did path.now (Cleans path.now.key) cleaned_line self.old.store.scene
             what self.new.store.scene) }
+        ensures asked { OnOk result (Asked (CleanMarkersSends path.now self.old.store.scene) self.old self.new) }
         ensures sent { OnOk result (Sent (AlwaysIn path.now.bucket (IsCleaning path.now.key) self.old.store.scene)
             self.old self.new) }
     {
@@ -119,6 +122,7 @@ impl Session {
         requires { IsCounted self.old }
         ensures did { IfOk result (λ what. Did path.now (Fills path.now.key) filled_line self.old.store.scene
             what self.new.store.scene) }
+        ensures asked { OnOk result (Asked (FillMarkersSends path.now self.old.store.scene) self.old self.new) }
         ensures sent { OnOk result (Sent (AlwaysIn path.now.bucket (IsFilling path.now.key) self.old.store.scene)
             self.old self.new) }
     {

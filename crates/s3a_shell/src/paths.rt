@@ -4,7 +4,8 @@ ghost use Rattle.fs_tree.specs.Answers.{Stats, Reads, Lists, Makes, Deletes};
 ghost use Rattle.fs_ops.specs.code.Make as make;
 ghost use Rattle.bucket_ops.specs.Uploads.{IsStill};
 ghost use Rattle.s3a_shell.specs.Texts.{status_line, entry_line, entry_lines, bytes_alone, nothing, said};
-ghost use Rattle.s3a_shell.specs.Sendings.{IsCounted, Sent, has_changed};
+ghost use Rattle.s3a_shell.specs.Asking.{LooksIn, MakeSends, DeleteSends};
+ghost use Rattle.s3a_shell.specs.Sendings.{IsCounted, Sent, Asked, has_changed};
 ghost use Rattle.s3a_shell.specs.Doings.{Did, DeletedSome};
 
 use crate::said::{Said, bytes_said, fine, nothing_said, refused};
@@ -76,6 +77,7 @@ impl Session {
         ensures did { IfOk result (λ what. Did path.now (Stats path.now.key) status_line self.old.store.scene
             what self.new.store.scene) }
         ensures looks { OnOk result (has_changed self.new.journal.entries ≡ has_changed self.old.journal.entries) }
+        ensures asked { OnOk result (Asked (LooksIn path.now.bucket) self.old self.new) }
         ensures sent { OnOk result (Sent (IsStill self.old.store.scene) self.old self.new) }
     {
         let stat = Stat::new(self.alloc, path)?;
@@ -89,6 +91,7 @@ impl Session {
         ensures did { IfOk result (λ what. Did path.now (Lists path.now.key) entry_lines self.old.store.scene
             what self.new.store.scene) }
         ensures looks { OnOk result (has_changed self.new.journal.entries ≡ has_changed self.old.journal.entries) }
+        ensures asked { OnOk result (Asked (LooksIn path.now.bucket) self.old self.new) }
         ensures sent { OnOk result (Sent (IsStill self.old.store.scene) self.old self.new) }
     {
         let dir = ListDir::new(self.alloc, path)?;
@@ -102,6 +105,7 @@ impl Session {
         ensures did { IfOk result (λ what. Did path.now (Reads path.now.key) bytes_alone self.old.store.scene
             what self.new.store.scene) }
         ensures looks { OnOk result (has_changed self.new.journal.entries ≡ has_changed self.old.journal.entries) }
+        ensures asked { OnOk result (Asked (LooksIn path.now.bucket) self.old self.new) }
         ensures sent { OnOk result (Sent (IsStill self.old.store.scene) self.old self.new) }
     {
         let file = ReadFile::new(self.alloc, path)?;
@@ -114,6 +118,7 @@ impl Session {
         requires { IsCounted self.old }
         ensures did { IfOk result (λ what. Did path.now (Makes path.now.key) nothing self.old.store.scene
             what self.new.store.scene) }
+        ensures asked { OnOk result (Asked (MakeSends path.now self.old.store.scene) self.old self.new) }
         ensures sent { OnOk result (Sent (AlwaysIn path.now.bucket (make.always path.now.key) self.old.store.scene)
             self.old self.new) }
     {
@@ -127,6 +132,7 @@ impl Session {
         requires { IsCounted self.old }
         ensures did { IfOk result (λ what. Did path.now (Deletes recursive path.now.key) nothing self.old.store.scene
             what self.new.store.scene) }
+        ensures asked { OnOk result (Asked (DeleteSends recursive path.now self.old.store.scene) self.old self.new) }
         ensures sent { OnOk result (Sent (DeletedSome recursive path.now self.old.store.scene) self.old self.new) }
     {
         let deletion = DeletePath::new(self.alloc, path, recursive)?;

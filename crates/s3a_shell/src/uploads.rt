@@ -1,8 +1,9 @@
 ghost use Rattle.std.specs.Prelude.{◌≡◌, ◌++◌, [], None, IfOk, OnOk, string_bytes};
 ghost use Rattle.s3_types.specs.Answer.{apply};
 ghost use Rattle.path_keys.specs.Paths.{below};
-ghost use Rattle.bucket_ops.specs.Uploads.{uploads_from, IsStill};
-ghost use Rattle.s3a_shell.specs.Sendings.{IsCounted, Sent, AppliedOrNot, has_changed};
+ghost use Rattle.bucket_ops.specs.Uploads.{uploads_from, IsStill, IsPageOf};
+ghost use Rattle.s3a_shell.specs.Asking.{lists, OnOne, UploadSends};
+ghost use Rattle.s3a_shell.specs.Sendings.{IsCounted, Sent, Asked, AppliedOrNot, has_changed};
 ghost use Rattle.s3a_shell.specs.Uploading.{bytes_in, upload_line, aborted_line, sizes_in, asked_line, asked_lines};
 ghost use Rattle.s3a_shell.specs.Uploading.{aborts, after_aborts, AfterSome, DidList, DidAbort, AbortedSome};
 
@@ -72,6 +73,7 @@ impl Session {
             (below path.now.key []) None) }
         ensures same { OnOk result (self.new.store.scene ≡ self.old.store.scene) }
         ensures looks { OnOk result (has_changed self.new.journal.entries ≡ has_changed self.old.journal.entries) }
+        ensures asked { OnOk result (Asked (IsPageOf path.now.bucket (below path.now.key [])) self.old self.new) }
         ensures sent { OnOk result (Sent (IsStill self.old.store.scene) self.old self.new) }
     {
         let bucket = path.bucket().clone()?;
@@ -103,6 +105,7 @@ impl Session {
             bucket.now upload.now) }
         ensures same { OnOk result (self.new.store.scene ≡ self.old.store.scene) }
         ensures looks { OnOk result (has_changed self.new.journal.entries ≡ has_changed self.old.journal.entries) }
+        ensures asked { OnOk result (Asked (λ r. r ≡ lists bucket.now upload.now) self.old self.new) }
         ensures sent { OnOk result (Sent (IsStill self.old.store.scene) self.old self.new) }
     {
         let request = Request::list_parts(bucket, &upload.key, upload.upload)?;
@@ -125,6 +128,7 @@ impl Session {
         ensures lines { IfOk result (λ lines. lines ≡ asked_lines self.old.store.scene bucket.now uploads.now) }
         ensures same { OnOk result (self.new.store.scene ≡ self.old.store.scene) }
         ensures looks { OnOk result (has_changed self.new.journal.entries ≡ has_changed self.old.journal.entries) }
+        ensures asked { OnOk result (Asked (OnOne lists bucket.now uploads.now) self.old self.new) }
         ensures sent { OnOk result (Sent (IsStill self.old.store.scene) self.old self.new) }
     {
         let mut lines = String::new(self.alloc);
@@ -139,6 +143,7 @@ impl Session {
         requires { IsCounted self.old }
         ensures did { IfOk result (λ what. DidList path.now self.old.store.scene what self.new.store.scene) }
         ensures looks { OnOk result (has_changed self.new.journal.entries ≡ has_changed self.old.journal.entries) }
+        ensures asked { OnOk result (Asked (UploadSends lists path.now self.old.store.scene) self.old self.new) }
         ensures sent { OnOk result (Sent (IsStill self.old.store.scene) self.old self.new) }
     {
         match self.live_uploads(path)? {
@@ -152,6 +157,7 @@ impl Session {
         requires { IsCounted self.old }
         ensures scene { OnOk result (self.new.store.scene ≡ apply self.old.store.scene
             (Request.AbortUpload bucket.now upload.now.key upload.now.upload)) }
+        ensures asked { OnOk result (Asked (λ r. r ≡ aborts bucket.now upload.now) self.old self.new) }
         ensures sent { OnOk result (Sent (AppliedOrNot (aborts bucket.now upload.now) self.old.store.scene)
             self.old self.new) }
     {
@@ -172,6 +178,7 @@ impl Session {
     fn abort_all(&mut self, bucket: &Bucket, uploads: &[UploadRef]) -> Result<(), AllocError>
         requires { IsCounted self.old }
         ensures scene { OnOk result (self.new.store.scene ≡ after_aborts self.old.store.scene bucket.now uploads.now) }
+        ensures asked { OnOk result (Asked (OnOne aborts bucket.now uploads.now) self.old self.new) }
         ensures sent { OnOk result (Sent (AfterSome bucket.now uploads.now self.old.store.scene) self.old self.new) }
     {
         for upload in uploads {
@@ -184,6 +191,7 @@ impl Session {
     pub(crate) fn abort_uploads(&mut self, path: &S3Path) -> Result<Said, AllocError>
         requires { IsCounted self.old }
         ensures did { IfOk result (λ what. DidAbort path.now self.old.store.scene what self.new.store.scene) }
+        ensures asked { OnOk result (Asked (UploadSends aborts path.now self.old.store.scene) self.old self.new) }
         ensures sent { OnOk result (Sent (AbortedSome path.now self.old.store.scene) self.old self.new) }
     {
         match self.live_uploads(path)? {

@@ -8,6 +8,7 @@ use Rattle.s3a_top.specs.declared.stop.Stop.TheVariants.{ReadFault, NoMemory}
 use Rattle.s3a_top.proofs.Crashing.{command_since}
 use Rattle.s3a_top.proofs.Pieces.{read_taken, taken_part}
 use Rattle.s3a_top.proofs.Halting.{sound_of}
+use Rattle.s3a_top.proofs.Untouched.{untouched_of}
 
 -- ---- what was done
 
@@ -98,6 +99,8 @@ module _ {S : Type 0} (F : Sight S) (command : Command) (left rest : Option (Lis
           load = answered;
           lasts = lasts;
           calls = over.calls;
+          untouched = untouched_of F command over.bytes before over.work work.answer.due over.done.text work.answer.sent.entries mid new
+              over.does over.done.answer over.calls;
         },
         since.1,
       )

@@ -53,6 +53,7 @@ module _ (A B : List ℕ → Type 0) (f : (t : List ℕ) → A t → B t) {S : T
       load = h.load;
       lasts = h.lasts;
       calls = h.calls;
+      untouched = h.untouched;
     }
 
     halted_out : (command : Command) (left rest : Option (List ℕ)) (old new : S) → StoreStopped F command left rest old new due es A → StoreStopped F command left rest old new due es B

@@ -9,10 +9,13 @@ use Rattle.durable_store.specs.declared.held.Held.{Held}
 use Rattle.durable_store.specs.declared.held.Held.TheVariants.{Faulty}
 use Rattle.s3a_words.specs.declared.command.Command.{Command}
 use Rattle.s3a_shell.specs.Commanded.{IsWork, takes_input}
+use Rattle.s3a_shell.specs.Doings.{is_of_shell, only_looks}
+use Rattle.s3a_shell.specs.Sendings.{has_changed}
 use Rattle.s3a_top.specs.Bytes.{IsRead, TakesPart}
 use Rattle.s3a_top.specs.Openings.{IsFound, IsSoundly}
 use Rattle.exit_status.specs.Statuses.{code, memory_text, usage_text, written_text}
 use Rattle.exit_status.specs.declared.statuses.Status.{Status}
+use Rattle.exit_status.specs.declared.statuses.Status.TheVariants.{Refused}
 use Rattle.s3a_top.specs.Statuses.{IsIdle}
 use Rattle.s3a_top.specs.Stops.{status_of, stop_text}
 use Rattle.s3a_top.specs.declared.stop.Stop.{Stop}
@@ -103,3 +106,5 @@ pub record StoreDone {S : Type 0} (F : Sight S) (command : Command) (left rest :
   -- where it found no fault, a crash after the load leaves what is held
   pub lasts : WhereSound before (IsDurable (F.held loaded) (F.may_leave loaded))
   pub calls : CallsBy F work status loaded new
+  -- one that only looks, that was refused, or that sent nothing that may change the store, leaves the shelf as it was loaded
+  pub untouched : is_of_shell command ≡ true → (only_looks command ≡ true) ⊎ ((status ≡ Refused) ⊎ (has_changed es ≡ false)) → new ≡ loaded

@@ -1,6 +1,10 @@
-use Rattle.s3a_shell.proofs.Common.{AreAnswered, AreBelow, AreBy, Does, IsHonest, MayStandAt, None, OnlyIn, Scene, Shell, ap, bucket_in, ended_by, false, has_changed, length, moment, only_looks, opening, subst, sym, true, upload_at, ℕ, ◌∙◌, ◌≡◌, ◌≤◌}
+use Rattle.s3a_shell.proofs.Common.{AllByRecursion, AreAnswered, AreBelow, AreBy, Does, IsHonest, MayStandAt, None, OnlyIn, Scene, Shell}
+use Rattle.s3a_shell.proofs.Common.{ap, bucket_in, ended_by, false, has_changed, length, moment, only_looks, opening, subst, sym, true}
+use Rattle.s3a_shell.proofs.Common.{upload_at, ℕ, ◌∙◌, ◌≡◌, ◌≤◌}
 use Rattle.s3a_shell.specs.declared.obeying.ShellEnd.{ShellEnd}
 use Rattle.s3a_shell.proofs.Ending.{all_moments, all_by, all_answered, all_honest, did_at, only_at, ended_at, undone_at, same_at, content_at}
+use Rattle.s3a_shell.specs.Asking.{MaySend}
+use Rattle.s3a_shell.proofs.Asking.{all_asked}
 use Rattle.s3a_shell.proofs.obeying.shell.Goals as goal
 
 pub returns-in-Ok-clause-did : goal.returns-in-Ok-clause-did
@@ -59,3 +63,10 @@ pub returns-in-Ok-clause-reads : goal.returns-in-Ok-clause-reads
 returns-in-Ok-clause-reads c =
     subst (λ (end : ShellEnd). only_looks c.args.command.now ≡ true → end.changed ≡ false) (sym c.ended.ensures.end)
     (λ e. c.in-Ok.ensures.reads e ∙ ap has_changed c.new-session.ensures.entries)
+
+pub returns-in-Ok-clause-asked : goal.returns-in-Ok-clause-asked
+returns-in-Ok-clause-asked c =
+    subst (λ (end : ShellEnd). AllByRecursion (λ e. MaySend c.args.command.now c.args.bytes (opening c.args.service) e.request)
+    end.journal.entries) (sym c.ended.ensures.end)
+    (all_asked c.args.command.now c.args.bytes c.args.service c.new-session.result c.obey.new.self c.new-session.ensures.entries
+    c.new-session.ensures.scene c.in-Ok.ensures.asked)

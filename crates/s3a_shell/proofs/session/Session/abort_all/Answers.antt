@@ -1,4 +1,6 @@
-use Rattle.s3a_shell.proofs.Common.{UploadRef, [], ap, sym, take, take_more, ◌++◌, ◌∙◌, ◌∷◌}
+use Rattle.s3a_shell.proofs.Common.{UploadRef, [], ap, sym, take, take_more, ◌++◌, ◌+◌, ◌∙◌, ◌∷◌}
+use Rattle.s3a_shell.specs.Uploading.{aborts}
+use Rattle.s3a_shell.proofs.Asking.{in_take, one_more}
 use Rattle.s3a_shell.proofs.Aborting.{more_aborted, sent_more}
 use Rattle.s3a_shell.proofs.session.Session.abort_all.Goals as goal
 
@@ -12,4 +14,9 @@ loop-upload-preserved c =
     let e = c.in_ok-abort.ensures in
     let v = c.loop-upload.invariant in
     let scene = more_aborted z c.loop-upload.self.store.scene c.abort.new.self.store.scene c.args.bucket.now us i x front e.scene v.scene in
-    record { scene = scene; sent = sent_more z c.args.bucket.now us i x _ _ _ front v.scene v.sent e.sent }
+    record {
+      scene = scene;
+      asked = one_more aborts c.args.bucket.now us x _ _ _ (in_take (i + 1) us (take i us) x front) v.asked
+          e.asked;
+      sent = sent_more z c.args.bucket.now us i x _ _ _ front v.scene v.sent e.sent;
+    }

@@ -1,8 +1,11 @@
-use Rattle.s3a_shell.proofs.Common.{AfterSome, Sent, after_aborts, take, ◌≡◌}
+use Rattle.s3a_shell.specs.Asking.{OnOne}
+use Rattle.s3a_shell.specs.Uploading.{aborts}
+use Rattle.s3a_shell.proofs.Common.{AfterSome, Asked, Sent, after_aborts, take, ◌≡◌}
 use Rattle.s3a_shell.proofs.session.Session.abort_all.Given as goal
 
 abbrev pub invariant-loop-upload : goal.invariant-loop-upload
 invariant-loop-upload l = record {
   scene : l.self.store.scene ≡ after_aborts l.fn.self.store.scene l.bucket (take l.upload-index l.uploads);
+  asked : Asked (OnOne aborts l.bucket l.uploads) l.fn.self l.self;
   sent : Sent (AfterSome l.bucket l.uploads l.fn.self.store.scene) l.fn.self l.self;
 }

@@ -1,5 +1,8 @@
 use Rattle.std.proofs.Common.{refl}
 use Rattle.s3a_shell.proofs.Aborting.{did_abort, sent_some}
+use Rattle.s3a_shell.proofs.Asking.{pages_asked, uploads_asked}
+use Rattle.s3a_shell.specs.Uploading.{aborts}
+use Rattle.s3a_shell.proofs.Performing.{on_ok}
 use Rattle.s3a_shell.proofs.session.Session.abort_uploads.Goals as goal
 
 pub returns-in_ok-aborted_line-in-Some-clause-did :
@@ -15,3 +18,15 @@ returns-in_ok-aborted_line-in-Some-clause-sent c =
     let e = c.in_ok-live_uploads.ensures in
     sent_some c.args.path.now c.args.self.now.store.scene c.in_ok-live_uploads.field-0 c.in-Some.found c.as_slice.result.now c.bucket.result.now c.args.self.now c.live_uploads.new.self c.abort_all.new.self
     e.found c.in-Some.is c.as_slice.ensures c.bucket.ensures e.same refl e.sent c.in_ok-abort_all-in-Some.ensures.sent
+
+pub returns-in_ok-aborted_line-in-Some-clause-asked :
+    goal.returns-in_ok-aborted_line-in-Some-clause-asked
+returns-in_ok-aborted_line-in-Some-clause-asked c =
+    let e = c.in_ok-live_uploads.ensures in
+    uploads_asked aborts c.args.path.now c.args.self.now.store.scene c.in_ok-live_uploads.field-0 c.in-Some.found c.as_slice.result.now
+    c.bucket.result.now c.args.self.now c.live_uploads.new.self c.abort_all.new.self
+    e.found c.in-Some.is c.as_slice.ensures c.bucket.ensures e.asked c.in_ok-abort_all-in-Some.ensures.asked
+
+pub returns-in-None-clause-asked : goal.returns-in-None-clause-asked
+returns-in-None-clause-asked c =
+    on_ok c.refusing.result (pages_asked aborts c.args.path.now c.args.self.now.store.scene _ _ c.in_ok-live_uploads.ensures.asked)

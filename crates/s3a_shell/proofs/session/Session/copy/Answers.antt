@@ -2,6 +2,9 @@ use Rattle.s3a_shell.proofs.Common.{Route, route, said_of_copy, subst}
 use Rattle.copy_tree.specs.Public.{CopiesIn, StandsCopied}
 use Rattle.s3a_shell.proofs.Joining.{sent_as}
 use Rattle.s3a_shell.proofs.Performing.{between_if, sent, on_ok}
+use Rattle.s3a_shell.proofs.Asking.{between_asked}
+use Rattle.copy_tree.specs.Public.{CopySends}
+use Rattle.s3a_shell.proofs.Performing.{asked}
 use Rattle.s3a_shell.proofs.session.Session.copy.Goals as goal
 
 pub returns-in-Ok-clause-did : goal.returns-in-Ok-clause-did
@@ -17,3 +20,9 @@ returns-in-Ok-clause-sent c =
     on_ok c.copy_said.result
     (sent_as (StandsCopied c.in_ok-copy.copy z) (StandsCopied (route c.args.from.now c.args.to.now) z) _ _ (λ s h. subst (λ (r : Route). StandsCopied r z s) c.in_ok-copy.ensures h)
     (sent _ _ _ _ _ c.requires c.in-Ok.ensures.performed))
+
+pub returns-in-Ok-clause-asked : goal.returns-in-Ok-clause-asked
+returns-in-Ok-clause-asked c =
+    on_ok c.copy_said.result
+    (between_asked CopySends c.args.from.now c.args.to.now c.in_ok-copy.copy c.args.self.now.store.scene _ _ c.in_ok-copy.ensures
+    (asked _ _ _ _ _ c.in-Ok.ensures.performed) c.in-Ok.ensures.unsent)

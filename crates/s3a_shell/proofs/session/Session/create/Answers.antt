@@ -2,6 +2,9 @@ use Rattle.s3a_shell.proofs.Common.{AlwaysFile, Content, FileOrNot, List, ap, le
 use Rattle.s3a_shell.proofs.Blocks.{some_block, least_block, has_room}
 use Rattle.s3a_shell.proofs.Joining.{sent_as}
 use Rattle.s3a_shell.proofs.Performing.{answered, sent, on_ok, file_if, file_stands}
+use Rattle.s3a_shell.proofs.Asking.{file_asked}
+use Rattle.s3_types.specs.Blocks.{block_of}
+use Rattle.s3a_shell.proofs.Performing.{asked}
 use Rattle.s3a_shell.proofs.session.Session.create.Goals as goal
 
 pub new-requires-clause-some : goal.new-requires-clause-some
@@ -27,3 +30,13 @@ returns-in-Ok-clause-sent c =
     (sent_as (AlwaysFile file z) (FileOrNot c.args.policy c.args.path.now c.args.bytes.now z) _ _
     (λ s h. file_stands c.args.path.now c.args.bytes.now c.in_ok-bytes.bytes c.block_of-block.result c.args.overwrite c.args.policy z s file c.in_ok-bytes.ensures.cases c.in_ok-file.ensures.file least h)
     (sent _ _ _ _ _ c.requires.counted c.in-Ok.ensures.performed))
+
+pub returns-in-Ok-clause-asked : goal.returns-in-Ok-clause-asked
+returns-in-Ok-clause-asked c =
+    let least = c.minimum-minimum.ensures ∙ ap (λ (d : Content). d.minimum) c.service.ensures in
+    on_ok c.nothing_said.result
+    (file_asked c.args.path.now c.args.bytes.now c.in_ok-bytes.bytes c.block_of-block.result c.args.overwrite c.args.policy
+    c.args.self.now.store.scene _ _ c.in_ok-file.file c.in_ok-bytes.ensures.cases
+    c.in_ok-file.ensures.file c.in_ok-file.ensures.starts.1
+    (c.block_of-block.ensures ∙ (λ i. block_of (length (c.as_slice.ensures i)) 0 (least i)))
+    (asked _ _ _ _ _ c.in-Ok.ensures.performed))

@@ -2,6 +2,7 @@ use Rattle.s3a_shell.proofs.Common.{Lists, entry_lines}
 use Rattle.fs_ops.proofs.ListLaws.{first_looks}
 use Rattle.s3a_shell.proofs.Looking.{looked_same}
 use Rattle.s3a_shell.proofs.Performing.{did_at, on_ok, sent_still}
+use Rattle.s3a_shell.proofs.Asking.{looked}
 use Rattle.s3a_shell.proofs.session.Session.ls.Goals as goal
 
 pub returns-clause-did : goal.returns-clause-did
@@ -12,3 +13,8 @@ returns-clause-sent c = on_ok c.list_said.result (sent_still c.args.path.now.buc
 
 pub returns-clause-looks : goal.returns-clause-looks
 returns-clause-looks c = on_ok c.list_said.result (looked_same c.args.path.now.bucket _ c.args.self.now.store.scene c.args.self.now c.perform_at.new.self (first_looks c.in_ok-dir.dir) c.in_ok-answer.ensures.asked)
+
+pub returns-clause-asked : goal.returns-clause-asked
+returns-clause-asked c = on_ok c.list_said.result
+    (looked c.args.path.now.bucket _ c.args.self.now.store.scene c.args.self.now c.perform_at.new.self (first_looks c.in_ok-dir.dir)
+    c.in_ok-answer.ensures.asked)

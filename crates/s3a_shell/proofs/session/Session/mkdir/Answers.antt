@@ -1,6 +1,8 @@
 use Rattle.s3a_shell.proofs.Common.{Makes, nothing}
 use Rattle.fs_ops.specs.code.Make as make
 use Rattle.s3a_shell.proofs.Performing.{did_at, on_ok, sent_of}
+use Rattle.s3a_shell.proofs.Asking.{asked_of}
+use Rattle.fs_ops.specs.Prelude.{look_asks}
 use Rattle.s3a_shell.proofs.session.Session.mkdir.Goals as goal
 
 pub returns-clause-did : goal.returns-clause-did
@@ -8,3 +10,8 @@ returns-clause-did c = did_at c.args.path.now Makes nothing _ _ _ c.in_ok-answer
 
 pub returns-clause-sent : goal.returns-clause-sent
 returns-clause-sent c = on_ok c.nothing_said.result (sent_of c.args.path.now.bucket make.always _ _ _ _ c.in_ok-dirs.ensures c.in_ok-answer.ensures.sent)
+
+pub returns-clause-asked : goal.returns-clause-asked
+returns-clause-asked c = on_ok c.nothing_said.result
+    (asked_of c.args.path.now.bucket look_asks make.sends c.args.self.now.store.scene _ _ _ _ c.in_ok-dirs.ensures
+    c.in_ok-answer.ensures.asked)

@@ -2,6 +2,7 @@ use Rattle.s3a_shell.proofs.Common.{Entry, List, Reply, [], answered_by, ap, is_
 use Rattle.s3a_shell.proofs.Looking.{read_same}
 use Rattle.s3a_shell.proofs.Performing.{on_ok}
 use Rattle.s3a_shell.proofs.Joining.{sent_read, sent_one}
+use Rattle.s3a_shell.proofs.Asking.{asked_one}
 use Rattle.s3a_shell.proofs.session.Session.put_upload.Goals as goal
 
 pub returns-in-Ok-clause-same : goal.returns-in-Ok-clause-same
@@ -21,3 +22,10 @@ pub returns-in-Ok-clause-looks : goal.returns-in-Ok-clause-looks
 returns-in-Ok-clause-looks c =
     on_ok c.put_reply-put.result
     (read_same c.args.self.now c.write_down.new.self c.in_ok-request.request c.in-Ok.reply (ap is_changing c.in_ok-request.ensures) (c.write_down.ensures.entries ∙ ap (λ (l : List Entry). l ++ answered_by c.in_ok-request.request c.in-Ok.reply ∷ []) c.in-Ok.ensures.entries))
+
+pub returns-in-Ok-clause-asked : goal.returns-in-Ok-clause-asked
+returns-in-Ok-clause-asked c =
+    on_ok c.put_reply-put.result
+    (asked_one _ c.args.self.now c.write_down.new.self c.in_ok-request.request c.in-Ok.reply c.in_ok-request.ensures
+    (c.write_down.ensures.entries
+    ∙ ap (λ (l : List Entry). l ++ answered_by c.in_ok-request.request c.in-Ok.reply ∷ []) c.in-Ok.ensures.entries))

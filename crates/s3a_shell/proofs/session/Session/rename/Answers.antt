@@ -2,6 +2,9 @@ use Rattle.s3a_shell.proofs.Common.{Route, route, said_of_move, subst}
 use Rattle.fs_rename.specs.Public.{RenamesIn, StandsWhole}
 use Rattle.s3a_shell.proofs.Joining.{sent_as}
 use Rattle.s3a_shell.proofs.Performing.{between_if, sent, on_ok}
+use Rattle.s3a_shell.proofs.Asking.{between_asked}
+use Rattle.fs_rename.specs.Public.{RenameSends}
+use Rattle.s3a_shell.proofs.Performing.{asked}
 use Rattle.s3a_shell.proofs.session.Session.rename.Goals as goal
 
 pub returns-in-Ok-clause-did : goal.returns-in-Ok-clause-did
@@ -17,3 +20,9 @@ returns-in-Ok-clause-sent c =
     on_ok c.move_said.result
     (sent_as (StandsWhole c.in_ok-rename.rename z) (StandsWhole (route c.args.from.now c.args.to.now) z) _ _ (λ s h. subst (λ (r : Route). StandsWhole r z s) c.in_ok-rename.ensures h)
     (sent _ _ _ _ _ c.requires c.in-Ok.ensures.performed))
+
+pub returns-in-Ok-clause-asked : goal.returns-in-Ok-clause-asked
+returns-in-Ok-clause-asked c =
+    on_ok c.move_said.result
+    (between_asked RenameSends c.args.from.now c.args.to.now c.in_ok-rename.rename c.args.self.now.store.scene _ _ c.in_ok-rename.ensures
+    (asked _ _ _ _ _ c.in-Ok.ensures.performed) c.in-Ok.ensures.unsent)

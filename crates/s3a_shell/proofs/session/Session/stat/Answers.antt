@@ -1,6 +1,7 @@
 use Rattle.s3a_shell.proofs.Common.{Stats, looks_there, status_line}
 use Rattle.s3a_shell.proofs.Looking.{looked_same}
 use Rattle.s3a_shell.proofs.Performing.{did_at, on_ok, sent_still}
+use Rattle.s3a_shell.proofs.Asking.{looked}
 use Rattle.s3a_shell.proofs.session.Session.stat.Goals as goal
 
 pub returns-clause-did : goal.returns-clause-did
@@ -11,3 +12,8 @@ returns-clause-sent c = on_ok c.status_said.result (sent_still c.args.path.now.b
 
 pub returns-clause-looks : goal.returns-clause-looks
 returns-clause-looks c = on_ok c.status_said.result (looked_same c.args.path.now.bucket _ c.args.self.now.store.scene c.args.self.now c.perform_at.new.self (looks_there c.in_ok-stat.stat) c.in_ok-answer.ensures.asked)
+
+pub returns-clause-asked : goal.returns-clause-asked
+returns-clause-asked c = on_ok c.status_said.result
+    (looked c.args.path.now.bucket _ c.args.self.now.store.scene c.args.self.now c.perform_at.new.self (looks_there c.in_ok-stat.stat)
+    c.in_ok-answer.ensures.asked)
