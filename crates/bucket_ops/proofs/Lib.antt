@@ -3,6 +3,7 @@ pub mod PhaseLaws
 pub mod Below
 pub mod Rising
 pub mod Walks
+pub mod Finding
 pub mod Batches
 pub mod Sweeps
 pub mod UploadLaws

@@ -1,8 +1,10 @@
 -- A walk over all keys below a prefix, as a part of an operation on a bucket's objects (Amazon S3 API: ListObjectsV2).
-use Rattle.std.specs.Prelude.{Bool, List, [], false, length, true, ℕ, ◌*◌, ◌++◌, ◌+◌, ◌<◌, ◌≡◌}
-use Rattle.store_frame.specs.Prelude.{NoSuchBucket, Objects, PageEntry, Refusal, Refused, Reply, list_all, listed}
-use Rattle.bucket_ops.specs.Asks.{Ask, Page}
-use Rattle.list_walk.specs.Walks.{More, Walked, Whole, keys_on, last_of}
+use Rattle.std.specs.Prelude.{Bool, List, Some, [], false, length, suc, true, zero, ℕ, ◌*◌, ◌++◌, ◌+◌, ◌<◌, ◌∷◌, ◌≡◌, ◌≤◌}
+use Rattle.std.specs.FinMap as fin
+use Rattle.std.specs.List.Sorted.{IsStrictlySortedBy}
+use Rattle.store_frame.specs.Prelude.{IsIn, NoSuchBucket, Object, Objects, PageEntry, Refusal, Refused, Reply, begins, list_all, listed, text_cmp}
+use Rattle.bucket_ops.specs.Asks.{Ask, Page, reply_in}
+use Rattle.list_walk.specs.Walks.{More, Walked, Whole, keys_on, last_of, walked_entries}
 use Rattle.list_walk.specs.Fitting.{is_key}
 use Rattle.s3_types.specs.declared.reply.Reply.TheVariants.{Page as APage}
 
@@ -46,3 +48,22 @@ walk_left q found m = 1 + length found + 2 * length (listed q false (last_of (ke
 abbrev pub LessWalked : List ℕ → Objects → Walked PageEntry → ℕ → Type 0
 LessWalked q m (More found) n = walk_left q found m < n
 LessWalked q m (Whole found) n = length found < n
+
+-- ---- a walk that is told what is due
+
+-- what a walk has found once it was told so many pages, each the one that is due
+abbrev pub told_pages : ℕ → List ℕ → Objects → Walked PageEntry → Walked PageEntry
+told_pages zero q z w = w
+told_pages (suc n) q z (Whole found) = Whole found
+told_pages (suc n) q z (More found) = told_pages n q z (walked_entries found (reply_in z (walk_asks q found)))
+
+-- a walk finds exactly the keys below its prefix at which objects stand
+pub record FindsAll : Type 0 where
+  -- it ends, with all of them
+  pub ends : (q : List ℕ) (z : Objects) (n : ℕ) → walk_left q [] z ≤ n → told_pages n q z (More []) ≡ Whole (all_below q z)
+  -- each begins with the prefix, and an object stands there
+  pub each : (q k : List ℕ) (z : Objects) → IsIn k (keys_below q z) → (begins q k ≡ true) × ((o : Object) × (fin.get z k ≡ Some o))
+  -- and so each of these is one of them; the empty text is no key
+  pub all : (q : List ℕ) (x : ℕ) (k : List ℕ) (z : Objects) (o : Object) → fin.get z (x ∷ k) ≡ Some o → begins q (x ∷ k) ≡ true → IsIn (x ∷ k) (keys_below q z)
+  -- each once, in the order of their bytes
+  pub rises : (q : List ℕ) (z : Objects) → IsStrictlySortedBy text_cmp (keys_below q z)

@@ -16,6 +16,9 @@
 //! its bytes, at each page (`IsWalking`); a sweep deletes them in batches, the first ones first
 //! (`IsSweeping`); and both end.
 //!
+//! `walks_find_all`: A walk that is told the pages that are due ends with exactly the keys that begin with its prefix and at
+//! which objects stand, each once, in the order of their bytes (`FindsAll`).
+//!
 //! `list_uploads`: Alone, whatever is lost: exactly the live uploads below a prefix, in order, for any number of
 //! pages, or that there is no bucket (`found`). It changes nothing (`same`); each request is for a page below the
 //! prefix and is sent at most `retries + 1` times, and StoreFault comes exactly where one wore out (`performed`).
@@ -23,10 +26,12 @@
 
 mod bucket;
 mod fitting;
+mod laws;
 mod look;
 mod uploads;
 
 pub use bucket::{InBucket, Phases, perform_in};
 pub use fitting::fits;
+pub use laws::walks_find_all;
 pub use look::{Look, seen_in};
 pub use uploads::{UploadsBelow, list_uploads};
