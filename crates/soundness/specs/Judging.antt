@@ -1,0 +1,42 @@
+-- How a judge may look at the moments of a run: at each task by itself, and at one moment after another.
+use Rattle.std.specs.Prelude.{ℕ, List, true, false, None, ◌≡◌, ◌⊎◌, ◌≢◌}
+use Rattle.std.specs.List.{All, Any}
+use Rattle.soundness.specs.Claims.{Claim, Files, Attempts, file_at, writes, is_claimed}
+use Rattle.soundness.specs.Moments.{Shown, Moment, MayShow, Unchanged}
+
+-- The attempt with these files explains what readers see of its task at this moment: at each path that the task writes.
+abbrev pub AttemptExplains : {I : Type 0} → Claim I → Shown I → Attempts I → Moment I → Files I → Type 0
+AttemptExplains w opening task m files = (p : List ℕ) → writes task p ≡ true → MayShow w opening m p (file_at files p)
+
+-- It explains that at each of these moments.
+abbrev pub StillExplains : {I : Type 0} → Claim I → Shown I → List (Moment I) → Attempts I → Files I → Type 0
+StillExplains w opening moments task files = All (λ m. AttemptExplains w opening task m files) moments
+
+-- At each path that no attempt writes, readers may see what they see at this moment.
+abbrev pub OthersFit : {I : Type 0} → Claim I → Shown I → Moment I → Type 0
+OthersFit w opening m = (p : List ℕ) → is_claimed w.tasks p ≡ false → MayShow w opening m p None
+
+-- Each task has an attempt that explains all these moments, and at the paths that no attempt writes all of them fit.
+pub record EachTask {I : Type 0} (w : Claim I) (opening : Shown I) (moments : List (Moment I)) : Type 0 where
+  pub each : All (λ task. Any (StillExplains w opening moments task) task) w.tasks
+  pub others : All (OthersFit w opening) moments
+
+-- As a judge sees these moments: none needs a choice, or each task has an attempt that explains them all.
+abbrev pub Judged : {I : Type 0} → Claim I → Shown I → List (Moment I) → Type 0
+Judged w opening moments = All (Unchanged opening) moments ⊎ EachTask w opening moments
+
+-- Each task has an attempt that explained the moments before and explains this one too, and the other paths fit.
+pub record EachTaskNext {I : Type 0} (w : Claim I) (opening : Shown I) (moments : List (Moment I)) (m : Moment I) : Type 0 where
+  pub each : All (λ task. Any (λ files. StillExplains w opening moments task files × AttemptExplains w opening task m files) task) w.tasks
+  pub others_before : All (OthersFit w opening) moments
+  pub others : OthersFit w opening m
+
+-- As a judge sees one more moment: neither it nor one before needs a choice, or each task has an attempt that explains it too.
+abbrev pub JudgedNext : {I : Type 0} → Claim I → Shown I → List (Moment I) → Moment I → Type 0
+JudgedNext w opening moments m = (All (Unchanged opening) moments × Unchanged opening m) ⊎ EachTaskNext w opening moments m
+
+-- Two moments have the same marker and the same commit, and readers see the same at each path but this one.
+pub record DifferAt {I : Type 0} (p : List ℕ) (m n : Moment I) : Type 0 where
+  pub begun : n.begun ≡ m.begun
+  pub marker : n.marker ≡ m.marker
+  pub shown : (q : List ℕ) → q ≢ p → n.shown q ≡ m.shown q
