@@ -64,7 +64,7 @@ module _ (w : Script) (c : Content) (s : one.Run) (stop : Option ShelfStop) (due
   one_promised : KeepsOne w c journal.entries told
   one_promised =
       let k : one.Keeps (one_run w c journal.entries told.picks told.ends s.stuck) = subst (λ (r : one.Run). one.Keeps r) (sym one_is) leaves.keeps in
-      record { promised = k.promised; whole = k.whole; sent = k.sent; own = k.own; alone = left.alone }
+      record { promised = k.promised; whole = k.whole; sent = k.sent; own = k.own; alone = left.alone; readers_safe = k.readers_safe }
 
   one_verdict : due ≡ verdict w told.ends
   one_verdict = subst (λ (r : one.Run). due ≡ verdict r.script r.ends) (sym one_is) leaves.due_is

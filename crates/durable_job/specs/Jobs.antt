@@ -4,6 +4,7 @@ use Rattle.path_keys.specs.Paths.{Path}
 use Rattle.job_spec.specs.Prelude.{Content, Entry, Script, AreOwn, Promised, Sent, Finished, verdict}
 use Rattle.job_spec.specs.Promise.{all_picks, lacked_memory}
 use Rattle.job_spec.specs.States.{past}
+use Rattle.job_soundness.specs.Safe.{ReadersSafe}
 use Rattle.twin_script.specs.TwinScripts.{Twins, sides_in}
 use Rattle.twin_jobs.specs.Worlds.{Run, played, Keeps}
 use Rattle.twin_jobs.specs.declared.played.JobLeft.{JobLeft}
@@ -54,6 +55,8 @@ pub record KeepsOne (w : Script) (c : Content) (es : List Entry) (told : Told) :
   pub own : AreOwn es
   -- there is no second job
   pub alone : IsOfOne told
+  -- one attempt per task explains all that readers saw of the destination: old files, or old files and whole files of these attempts
+  pub readers_safe : ReadersSafe w c es told.ends
 
 -- what is promised of the jobs, over a store with this content, of all that was sent and is told
 abbrev pub ArePromised : Jobs → Content → List Entry → Told → Type 0

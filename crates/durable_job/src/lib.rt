@@ -4,7 +4,8 @@
 //! # What is proved
 //!
 //! `play`: It plays a script over a store, or two by the order of their turns, and keeps the run on a shelf. What was
-//! played keeps what is promised (`IsPlayed`): of a job alone `Promised` and `Sent`, and all of it is the job's own; of
+//! played keeps what is promised (`IsPlayed`): of a job alone `Promised` and `Sent`, all of it is the job's own, and one
+//! attempt per task explains all that readers saw (`readers_safe`); of
 //! two `Keeps` of `twin_jobs` (`promised`). From a store that can have an image it leads through such stores, up to the
 //! most of its counter (`images`). Where nothing stopped it, it went to its end (`finished`): a job alone is `Finished`,
 //! and of two each event that the order asks for has its end; the shelf was called once for the image of the opening

@@ -9,6 +9,8 @@ use Rattle.job_steps.proofs.Played.{happenings_play}
 use Rattle.job_safety.specs.Laws.{FactsHold}
 use Rattle.job_safety.proofs.Facts.{runs_hold_facts}
 use Rattle.job_safety.proofs.Kept.{runs_are_kept}
+use Rattle.job_soundness.specs.Safe.{ReadersSafe}
+use Rattle.job_soundness.proofs.Safe.{runs_are_safe}
 use Rattle.job_side.specs.Holds.{AreOf, Quiet, IsTurn, is_mine, all_sound, setting_of}
 use Rattle.job_side.specs.Events.{Grown, IsAsBefore, picks_in}
 use Rattle.job_side.specs.Firsts.{IsFirstShared, IsFirstSide}
@@ -87,6 +89,12 @@ module _ {W : Type 0} (wants : W → Option Request) (is_of : Setting → Actor 
         (subst (λ xs. FactsHold b.side.script b.shared.opening play.journal xs) (sym q.holds.ends)
         (runs_hold_facts (setting_of b) b.shared.opening play q.holds.legal q.holds.opens q.holds.happened idle))
 
+    readers_safe : ReadersSafe b.side.script b.shared.opening b.shared.journal.entries b.side.ends.items
+    readers_safe =
+        subst (λ es. ReadersSafe b.side.script b.shared.opening es b.side.ends.items) (sym journal_is)
+        (subst (λ xs. ReadersSafe b.side.script b.shared.opening play.journal xs) (sym q.holds.ends)
+        (runs_are_safe (setting_of b) b.shared.opening play q.holds.legal q.holds.opens q.holds.happened idle))
+
     whole : lacked_memory (past b.side.script b.side.ends.items).commit ≡ false → picks_in picks_of b.side.picks (slice_get b.side.hands.items 0) ≡ all_picks b.side.script b.shared.opening b.shared.journal.entries b.side.ends.items
     whole l =
         told.whole (ap (λ (p : Past). lacked_memory p.commit) past_is ∙ l)
@@ -94,7 +102,7 @@ module _ {W : Type 0} (wants : W → Option Request) (is_of : Setting → Actor 
         ∙ ap (all_picks b.side.script b.shared.opening b.shared.journal.entries) (sym q.holds.ends)
 
     pub keeps : (stuck : Bool) → Keeps (run_of picks_of b stuck)
-    keeps stuck = record { promised = promised; whole = whole; own = own; sent = sent; facts = facts }
+    keeps stuck = record { promised = promised; whole = whole; own = own; sent = sent; facts = facts; readers_safe = readers_safe }
 
     pub finished : length b.side.ends.items ≡ length b.side.script.events → Finished b.side.script b.shared.opening b.shared.journal.entries (picks_in picks_of b.side.picks (slice_get b.side.hands.items 0)) b.side.ends.items
     finished e = record { promised = promised; sent = sent; events = e; picks = whole }

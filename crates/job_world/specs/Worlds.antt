@@ -4,6 +4,7 @@ use Rattle.job_spec.specs.Prelude.{AllByRecursion, AreOwn, Content, Entry, Event
 use Rattle.job_spec.specs.Promise.{all_picks, lacked_memory}
 use Rattle.job_spec.specs.States.{past}
 use Rattle.job_safety.specs.Laws.{FactsHold}
+use Rattle.job_soundness.specs.Safe.{ReadersSafe}
 use Rattle.job_side.specs.Events.{picks_in}
 use Rattle.job_side.specs.declared.body.Body.{Body}
 
@@ -39,6 +40,8 @@ pub record Keeps (r : Run) : Type 0 where
   pub own : AreOwn r.journal
   pub sent : Sent r.script r.opening r.journal
   pub facts : FactsHold r.script r.opening r.journal r.ends
+  -- one attempt per task explains all that readers saw
+  pub readers_safe : ReadersSafe r.script r.opening r.journal r.ends
 
 -- the script's next event has its end, and what was sent in it has its number
 pub record WentOn (r s : Run) : Type 0 where
