@@ -1,5 +1,6 @@
 -- A walk finds exactly the keys below its prefix.
-use Rattle.bucket_ops.proofs.Common.{IsWalked, List, More, Objects, PageEntry, Walked, Whole, [], ap, arith, keys_below, refl, reply_in, suc, walk_asks, walk_left, walked_entries, ℕ, ◌∷◌, ◌≡◌}
+use Rattle.bucket_ops.proofs.Common.{IsWalked, List, More, Objects, PageEntry, Walked, Whole, [], ap, arith, keys_below, refl, reply_in}
+use Rattle.bucket_ops.proofs.Common.{suc, walk_asks, walk_left, walked_entries, ℕ, ◌∷◌, ◌≡◌}
 use Rattle.std.specs.Prelude.{zero, ◌≤◌}
 use Rattle.bucket_ops.specs.Prelude.{LessWalked, all_below}
 use Rattle.bucket_ops.specs.Walking.{FindsAll, told_pages}

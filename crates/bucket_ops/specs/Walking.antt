@@ -2,7 +2,8 @@
 use Rattle.std.specs.Prelude.{Bool, List, Some, [], false, length, suc, true, zero, ℕ, ◌*◌, ◌++◌, ◌+◌, ◌<◌, ◌∷◌, ◌≡◌, ◌≤◌}
 use Rattle.std.specs.FinMap as fin
 use Rattle.std.specs.List.Sorted.{IsStrictlySortedBy}
-use Rattle.store_frame.specs.Prelude.{IsIn, NoSuchBucket, Object, Objects, PageEntry, Refusal, Refused, Reply, begins, list_all, listed, text_cmp}
+use Rattle.store_frame.specs.Prelude.{IsIn, NoSuchBucket, Object, Objects, PageEntry, Refusal, Refused, Reply, begins, list_all, listed}
+use Rattle.store_frame.specs.Prelude.{text_cmp}
 use Rattle.bucket_ops.specs.Asks.{Ask, Page, reply_in}
 use Rattle.list_walk.specs.Walks.{More, Walked, Whole, keys_on, last_of, walked_entries}
 use Rattle.list_walk.specs.Fitting.{is_key}
@@ -64,6 +65,7 @@ pub record FindsAll : Type 0 where
   -- each begins with the prefix, and an object stands there
   pub each : (q k : List ℕ) (z : Objects) → IsIn k (keys_below q z) → (begins q k ≡ true) × ((o : Object) × (fin.get z k ≡ Some o))
   -- and so each of these is one of them; the empty text is no key
-  pub all : (q : List ℕ) (x : ℕ) (k : List ℕ) (z : Objects) (o : Object) → fin.get z (x ∷ k) ≡ Some o → begins q (x ∷ k) ≡ true → IsIn (x ∷ k) (keys_below q z)
+  pub all : (q : List ℕ) (x : ℕ) (k : List ℕ) (z : Objects) (o : Object) → fin.get z (x ∷ k) ≡ Some o → begins q (x ∷ k) ≡ true
+      → IsIn (x ∷ k) (keys_below q z)
   -- each once, in the order of their bytes
   pub rises : (q : List ℕ) (z : Objects) → IsStrictlySortedBy text_cmp (keys_below q z)

@@ -1,5 +1,10 @@
 -- What a log stands for while a change is appended to it.
-use Rattle.folder_log.proofs.Common.{Elapses, File, Holding, HoldsFresh, HoldsGrown, HoldsOneOf, IsAtRest, IsBeforeOrAfter, IsClosed, IsDurable, IsLeftOf, IsPrepared, IsRead, IsSettled, IsSure, Leaves, LeavesOnly, List, None, Only, Option, Settles, ShowsNow, Some, Stored, TakesAppends, [], ap, append-nil, append_assoc, arith, as_holding, cases_eq, file_length, fresh, grown, head, headed, holding_of, inl, inr, is_some, length, length-append, log, long, magic, most_file, opened, record_of, refl, stored, stored_of, subst, sym, told, true≢false, ℕ, ⊎_elim, ◌++◌, ◌+◌, ◌<◌, ◌^◌, ◌∙◌, ◌∷◌, ◌≡◌, ◌≢◌, ◌≤◌, ◌⊎◌}
+use Rattle.folder_log.proofs.Common.{Elapses, File, Holding, HoldsFresh, HoldsGrown, HoldsOneOf, IsAtRest, IsBeforeOrAfter, IsClosed}
+use Rattle.folder_log.proofs.Common.{IsDurable, IsLeftOf, IsPrepared, IsRead, IsSettled, IsSure, Leaves, LeavesOnly, List, None, Only}
+use Rattle.folder_log.proofs.Common.{Option, Settles, ShowsNow, Some, Stored, TakesAppends, [], ap, append-nil, append_assoc, arith}
+use Rattle.folder_log.proofs.Common.{as_holding, cases_eq, file_length, fresh, grown, head, headed, holding_of, inl, inr, is_some, length}
+use Rattle.folder_log.proofs.Common.{length-append, log, long, magic, most_file, opened, record_of, refl, stored, stored_of, subst, sym}
+use Rattle.folder_log.proofs.Common.{told, true≢false, ℕ, ⊎_elim, ◌++◌, ◌+◌, ◌<◌, ◌^◌, ◌∙◌, ◌∷◌, ◌≡◌, ◌≢◌, ◌≤◌, ◌⊎◌}
 use Rattle.s3_types.specs.Prelude.{AllByRecursion}
 use Rattle.std.proofs.lemmas.Grind.{flat_map-append}
 use Rattle.s3_types.specs.declared.request.Request.{Request}
@@ -225,10 +230,12 @@ pub read_small : (seen : Option File) (read : File) → IsRead seen read → fil
 read_small seen read h = grind arith
 
 -- a load that leaves what a read gives begins no appends
-pub begins_none : (seen now : Option File) (leaves left : File → Type 0) (gate : Option ℕ) → IsSure seen leaves gate → now ≡ seen → TakesAppends now left gate → TakesAppends seen leaves gate
+pub begins_none : (seen now : Option File) (leaves left : File → Type 0) (gate : Option ℕ) → IsSure seen leaves gate → now ≡ seen
+    → TakesAppends now left gate → TakesAppends seen leaves gate
 begins_none seen now leaves left None sure same takes = absurd takes
 begins_none None now leaves left (Some place) sure same takes = tt
-begins_none (Some None) now leaves left (Some place) sure same takes = absurd (subst (λ (o : Option File). IsSettled o left place) same takes)
+begins_none (Some None) now leaves left (Some place) sure same takes = absurd
+    (subst (λ (o : Option File). IsSettled o left place) same takes)
 begins_none (Some (Some bytes)) now leaves left (Some place) sure same takes =
     let settled : IsSettled (Some (Some bytes)) left place = subst (λ (o : Option File). IsSettled o left place) same takes in
     (settled.0, λ c here. sure place (Some bytes) c refl refl here)

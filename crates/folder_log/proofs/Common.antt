@@ -2,7 +2,8 @@
 pub use Rattle.folder_log.specs.Calls.{IsImage, IsTornBy, Recorded, after, after_all, at_rest, filled, is_within, last_of, left_by, state_in, state_of, wrote}
 pub use Rattle.folder_log.specs.Disk.{Elapses, FewMore, File, Follows, IsRead, IsTorn, IsWithin, Only, Settles, ShowsNow, Torn, Writes, file_after, file_length, more, overwritten}
 pub use Rattle.folder_log.specs.Images.{after_last, after_torn, shown, span, torn_last, torn_same, within_true, write_follows}
-pub use Rattle.folder_log.specs.Kept.{IsAtRest, IsClosed, IsLeftOf, IsPrepared, IsSettled, IsSure, Leaves, TakesAppends, as_holding, holding_of, stored, stored_of}
+pub use Rattle.folder_log.specs.Kept.{IsAtRest, IsClosed, IsLeftOf, IsPrepared, IsSettled, IsSure, Leaves, TakesAppends, as_holding}
+pub use Rattle.folder_log.specs.Kept.{holding_of, stored, stored_of}
 pub use Rattle.folder_log.specs.Parts.{disk_of}
 pub use Rattle.folder_log.specs.declared.state.DiskCall.{DiskCall}
 pub use Rattle.folder_log.specs.declared.state.DiskCall.TheVariants.{Swap, Sync, Write}

@@ -31,7 +31,8 @@ logged_length : (whole : ℕ) (r : Read (List ℕ)) (held : Held)
 logged_length whole (Err fault) held is = cc
 logged_length whole (Ok base) held is = by (changes_at (length base.1) whole base.1) is
   where
-    by : (cs : Result (List Request) LogFault) → (cs >>= λ changes. Ok (record { base = base.0; changes = changes })) ≡ Ok held → length base.0 ≡ length held.base
+    by : (cs : Result (List Request) LogFault) → (cs >>= λ changes. Ok (record { base = base.0; changes = changes })) ≡ Ok held
+        → length base.0 ≡ length held.base
     by (Err fault) is = cc
     by (Ok changes) is = ap base_in is
 
@@ -50,18 +51,22 @@ has_base_length (Some None) = λ held is. cc
 has_base_length (Some (Some bytes)) = λ held is. read_length bytes held (read_is (held_in bytes) held is)
 
 -- a log at rest holds its base and its changes
-at_rest_held : (gate : ℕ) (bytes : List ℕ) (rest : IsAtRest gate bytes) → held_in bytes ≡ Ok (record { base = rest.base; changes = rest.changes })
+at_rest_held : (gate : ℕ) (bytes : List ℕ) (rest : IsAtRest gate bytes)
+    → held_in bytes ≡ Ok (record { base = rest.base; changes = rest.changes })
 at_rest_held gate bytes rest =
-    file_again bytes (record { base = rest.base; changes = rest.changes }) rest.fits (inr (record { gate = 0; behind = []; not_open = omega arith; spelled = rest.spelled; legal = rest.legal }))
+    file_again bytes (record { base = rest.base; changes = rest.changes }) rest.fits
+    (inr (record { gate = 0; behind = []; not_open = omega arith; spelled = rest.spelled; legal = rest.legal }))
 
 at_rest_within : (gate : ℕ) (bytes : List ℕ) → IsAtRest gate bytes → IsWithinLog (stored (Some (Some bytes)))
 at_rest_within gate bytes rest held is =
     let here : Held = record { base = rest.base; changes = rest.changes } in
     let same : here ≡ held = one_held here held (sym (ap as_holding (at_rest_held gate bytes rest)) ∙ is) in
-    let file : length bytes ≡ length (log held.base held.changes) = ap length rest.spelled ∙ ap (λ (h : Held). length (log h.base h.changes)) same in
+    let file : length bytes ≡ length (log held.base held.changes) = ap length rest.spelled ∙ ap
+    (λ (h : Held). length (log h.base h.changes)) same in
     omega arith
 
-pub is_within_log : (seen : Option File) (leaves : File → Type 0) (gate : Option ℕ) → TakesAppends seen leaves gate → IsWithinLog (stored seen)
+pub is_within_log : (seen : Option File) (leaves : File → Type 0) (gate : Option ℕ) → TakesAppends seen leaves gate
+    → IsWithinLog (stored seen)
 is_within_log seen leaves None takes = absurd takes
 is_within_log None leaves (Some gate) takes = tt
 is_within_log (Some None) leaves (Some gate) takes = absurd takes

@@ -1,6 +1,6 @@
 -- What a script's claim says of its files is what the job's picks want, and what the conflict mode keeps.
-use Rattle.std.proofs.Common.{◌≡◌, ℕ, zero, suc, ◌<◌, ◌==◌, ◌&&◌, ◌||◌, nat_eq, Bool, true, false, cond, List, [], ◌∷◌, ◌++◌, map,
-    Option, Some, None, refl, sym, ap, subst, ◌∙◌, arith, inl, inr}
+use Rattle.std.proofs.Common.{◌≡◌, ℕ, zero, suc, ◌<◌, ◌==◌, ◌&&◌, ◌||◌, nat_eq, Bool, true, false, cond, List, [], ◌∷◌, ◌++◌, map, Option}
+use Rattle.std.proofs.Common.{Some, None, refl, sym, ap, subst, ◌∙◌, arith, inl, inr}
 use Rattle.std.specs.Prelude.{is_some}
 use Rattle.std.specs.List.{AllZip, Contains, list_any, list_all, starts_with}
 use Rattle.std.specs.Str.{bytes_eq}
@@ -11,19 +11,19 @@ use Rattle.s3_types.proofs.Begins.{begins_is}
 use Rattle.s3_types.specs.Prelude.{begins, filter, option_map, text_eq}
 use Rattle.s3_types.specs.declared.request.Committer.{Committer}
 use Rattle.s3_types.specs.declared.request.Mode.{Mode}
-use Rattle.job_spec.proofs.Common.{and_parts, false_true, in_append, in_back, in_front, in_map, map_in, none_or_some, none_some,
-    same_or_not, some_is, text_is, true_or_false}
+use Rattle.job_spec.proofs.Common.{and_parts, false_true, in_append, in_back, in_front, in_map, map_in, none_or_some, none_some}
+use Rattle.job_spec.proofs.Common.{same_or_not, some_is, text_is, true_or_false}
 use Rattle.job_model.specs.Prelude.{File, Script, lookup, same_name}
 use Rattle.job_model.specs.Attempts.{Declared, declares}
 use Rattle.job_model.specs.Placed.{placed}
-use Rattle.job_protocol.specs.Conflicts.{dir_from, dir_of, dirs_of, displaced as displaced_by, is_below_any, keeps_of, partitions, stays,
-    with_dir}
+use Rattle.job_protocol.specs.Conflicts.{dir_from, dir_of, dirs_of, displaced as displaced_by, is_below_any, keeps_of, partitions, stays}
+use Rattle.job_protocol.specs.Conflicts.{with_dir}
 use Rattle.job_protocol.specs.Outputs.{Picks, files_picked, is_picked, picked_below, wanted, wanted_at, wanted_below, wanted_paths}
 use Rattle.job_facts.specs.Prelude.{IsIn}
 use Rattle.job_facts.proofs.Wanted.{in_wanted, wanted_in}
 use Rattle.conflict.proofs.Rising.{from_ordered, in_ordered}
-use Rattle.soundness.specs.Claims.{Attempts, Chooses, Files, always_reaches, chosen_at, directory, file_at, is_below, is_kept,
-    is_replaced, kept_by, or_else, reaches, replaced_by, with_byte, writes_into}
+use Rattle.soundness.specs.Claims.{Attempts, Chooses, Files, always_reaches, chosen_at, directory, file_at, is_below, is_kept, is_replaced}
+use Rattle.soundness.specs.Claims.{kept_by, or_else, reaches, replaced_by, with_byte, writes_into}
 use Rattle.job_soundness.specs.Claim.{attempts_of, chosen_below, claim_of, keeps_by, tasks_below}
 
 -- ---- what the chosen attempts write
@@ -31,7 +31,7 @@ use Rattle.job_soundness.specs.Claim.{attempts_of, chosen_below, claim_of, keeps
 lookup_append : (q : List ℕ) (fs gs : List File) → lookup (text_eq q) (fs ++ gs) ≡ or_else (lookup (text_eq q) fs) (lookup (text_eq q) gs)
 lookup_append q [] gs = refl
 lookup_append q (f ∷ fs) gs = elim (text_eq q f.0) as (λ b. cond b (Some f.1) (lookup (text_eq q) (fs ++ gs)) ≡ or_else (cond b
-      (Some f.1) (lookup (text_eq q) fs)) (lookup (text_eq q) gs)) [ true ↦ refl | false ↦ lookup_append q fs gs ]
+    (Some f.1) (lookup (text_eq q) fs)) (lookup (text_eq q) gs)) [ true ↦ refl | false ↦ lookup_append q fs gs ]
 
 or_else_assoc : (a b c : Option (List ℕ)) → or_else a (or_else b c) ≡ or_else (or_else a b) c
 or_else_assoc None b c = refl
@@ -42,10 +42,10 @@ or_else_none None = refl
 or_else_none (Some x) = refl
 
 chosen_more : (choice : List (Files (List ℕ))) (fs : Files (List ℕ)) (q : List ℕ)
-      → chosen_at (choice ++ fs ∷ []) q ≡ or_else (chosen_at choice q) (file_at fs q)
+    → chosen_at (choice ++ fs ∷ []) q ≡ or_else (chosen_at choice q) (file_at fs q)
 chosen_more [] fs q = or_else_none (file_at fs q)
 chosen_more (gs ∷ choice) fs q = ap (or_else (file_at gs q)) (chosen_more choice fs q)
-      ∙ or_else_assoc (file_at gs q) (chosen_at choice q) (file_at fs q)
+    ∙ or_else_assoc (file_at gs q) (chosen_at choice q) (file_at fs q)
 
 module _ (w : Script) (picks : Picks) where
   chosen_is : (n : ℕ) (q : List ℕ) → chosen_at (chosen_below w picks n) q ≡ lookup (text_eq q) (wanted_below w picks n)
@@ -66,7 +66,7 @@ contains_in (y ∷ xs) x (inl e) = (0, omega arith, sym e)
 contains_in (y ∷ xs) x (inr i) = let c = contains_in xs x i in (suc c.0, omega (arith, c.1), c.2)
 
 zip_more : {A B : Type 0} (R : A → B → Type 0) (xs : List A) (ys : List B) (x : A) (y : B) → AllZip R xs ys → R x y
-      → AllZip R (xs ++ x ∷ []) (ys ++ y ∷ [])
+    → AllZip R (xs ++ x ∷ []) (ys ++ y ∷ [])
 zip_more R [] [] x y h r = (r, tt)
 zip_more R [] (b ∷ ys) x y h r = absurd h
 zip_more R (a ∷ xs) [] x y h r = absurd h
@@ -74,14 +74,17 @@ zip_more R (a ∷ xs) (b ∷ ys) x y h r = (h.0, zip_more R xs ys x y h.1 r)
 
 -- one more attempt takes none away
 kept_in : (w : Script) (fs : List File) (d : Declared) (all : List Declared) (b : Bool)
-      → IsIn (placed w.unique w.job fs) (map (λ (d : Declared). placed w.unique w.job d.1) all)
-      → IsIn (placed w.unique w.job fs) (map (λ (d : Declared). placed w.unique w.job d.1) (cond b (d ∷ all) all))
+    → IsIn (placed w.unique w.job fs) (map (λ (d : Declared). placed w.unique w.job d.1) all)
+    → IsIn (placed w.unique w.job fs) (map (λ (d : Declared). placed w.unique w.job d.1) (cond b (d ∷ all) all))
 kept_in w fs d all true i = inr i
 kept_in w fs d all false i = i
 
 -- the files of a declared attempt
-declared_files : (w : Script) (t a : ℕ) (all : List Declared) (fs : List File) → lookup (same_name (record { task = t; attempt =
-      a })) all ≡ Some fs
+declared_files : (w : Script) (t a : ℕ) (all : List Declared) (fs : List File) → lookup (same_name (record {
+  task = t;
+  attempt =
+      a;
+})) all ≡ Some fs
     → IsIn (placed w.unique w.job fs) (map (λ (d : Declared). placed w.unique w.job d.1) (filter (λ (d : Declared). nat_eq d.0.task t) all))
 declared_files w t a [] fs h = absurd (none_some refl h)
 declared_files w t a (d ∷ all) fs h = elim (true_or_false (same_name (record { task = t; attempt = a }) d.0)) [
@@ -92,7 +95,7 @@ declared_files w t a (d ∷ all) fs h = elim (true_or_false (same_name (record {
       let turned : nat_eq d.0.task t ≡ true = grind (arith, nat_tests) in
       rw turned (inl (ap (placed w.unique w.job) (sym is)))
   | inr e ↦ kept_in w fs d (filter (λ (d : Declared). nat_eq d.0.task t) all) (nat_eq d.0.task t) (declared_files w t a all fs (ap
-        (λ b. cond b (Some d.1) (lookup (same_name (record { task = t; attempt = a })) all)) (sym e) ∙ h))
+      (λ b. cond b (Some d.1) (lookup (same_name (record { task = t; attempt = a })) all)) (sym e) ∙ h))
 ]
 
 -- each pick is of a declared attempt
@@ -103,8 +106,11 @@ module _ (w : Script) (picks : Picks) (declared : AreDeclared w picks) where
   pub picked_in : (t : ℕ) → is_some (picks t) ≡ true → IsIn (files_picked w t (picks t)) (attempts_of w t)
   picked_in t h = elim (none_or_some (picks t)) [
     | inl none ↦ absurd (false_true (ap is_some none) h)
-    | inr a ↦ subst (λ o. IsIn (files_picked w t o) (attempts_of w t)) (sym a.1) (elim (none_or_some (lookup (same_name (record { task =
-          t; attempt = a.0 })) w.attempts)) [
+    | inr a ↦ subst (λ o. IsIn (files_picked w t o) (attempts_of w t)) (sym a.1) (elim (none_or_some (lookup (same_name (record {
+      task =
+          t;
+      attempt = a.0;
+    })) w.attempts)) [
       | inl none ↦ absurd (false_true (ap is_some none) (declared t a.0 a.1))
       | inr fs ↦
           subst (λ l. IsIn l (attempts_of w t))
@@ -193,14 +199,14 @@ dir_in : (d p : List ℕ) (ps : List (List ℕ)) → IsIn p ps → dir_of p ≡ 
 dir_in d p [] i e = absurd i
 dir_in d p (q ∷ ps) (inl is) e = subst (λ o. IsIn d (with_dir o (dirs_of ps))) (sym e ∙ ap dir_of is) (inl refl)
 dir_in d p (q ∷ ps) (inr i) e = (elim (dir_of q) as (λ o. IsIn d (dirs_of ps)
-      → IsIn d (with_dir o (dirs_of ps))) [ Some x ↦ λ h. inr h | None ↦ λ h. h ]) (dir_in d p ps i e)
+    → IsIn d (with_dir o (dirs_of ps))) [ Some x ↦ λ h. inr h | None ↦ λ h. h ]) (dir_in d p ps i e)
 
 dir_from_in : (d : List ℕ) (ps : List (List ℕ)) → IsIn d (dirs_of ps) → (p : List ℕ) × IsIn p ps × (dir_of p ≡ Some d)
 dir_from_in d [] i = absurd i
 dir_from_in d (q ∷ ps) i = by (dir_of q) refl i (dir_from_in d ps)
   where
     by : (o : Option (List ℕ)) → dir_of q ≡ o → IsIn d (with_dir o (dirs_of ps)) → (IsIn d (dirs_of ps)
-          → (p : List ℕ) × IsIn p ps × (dir_of p ≡ Some d)) → (p : List ℕ) × IsIn p (q ∷ ps) × (dir_of p ≡ Some d)
+        → (p : List ℕ) × IsIn p ps × (dir_of p ≡ Some d)) → (p : List ℕ) × IsIn p (q ∷ ps) × (dir_of p ≡ Some d)
     by (Some x) e (inl is) rest = (q, inl refl, e ∙ ap (λ y. Some y) (sym is))
     by (Some x) e (inr i) rest = let o = rest i in (o.0, inr o.1, o.2)
     by None e i rest = let o = rest i in (o.0, inr o.1, o.2)
@@ -224,7 +230,7 @@ module _ (w : Script) where
 
 -- the picked attempt's files reach what each attempt of its task reaches
 always_some : (q : List ℕ) (task : Attempts (List ℕ)) (fs : Files (List ℕ)) → always_reaches q task ≡ true → IsIn fs task
-      → (f : File) × IsIn f fs × (is_below (directory f.0) q ≡ true)
+    → (f : File) × IsIn f fs × (is_below (directory f.0) q ≡ true)
 always_some q [] fs h i = absurd i
 always_some q (gs ∷ others) fs h i =
     let o = any_some (λ (f : File). is_below (directory f.0) q && list_all (writes_into (directory f.0)) others) gs h in
@@ -233,7 +239,7 @@ always_some q (gs ∷ others) fs h i =
       | inl e ↦ (o.0, subst (IsIn o.0) (sym e) o.1, both.0)
       | inr k ↦
           let into = any_some (λ (f : File). bytes_eq (directory o.0.0) (directory f.0)) fs (all_at (writes_into
-                (directory o.0.0)) others fs k both.1) in
+          (directory o.0.0)) others fs k both.1) in
           (into.0, into.1, ap (λ d. is_below d q) (sym (text_is (directory o.0.0) (directory into.0.0) into.2)) ∙ both.0)
     ]
 
@@ -244,11 +250,11 @@ picked_at picks (suc n) t h l =
     elim (same_or_not t n) [ inl e ↦ ap (λ m. is_some (picks m)) e ∙ both.1 | inr ne ↦ picked_at picks n t both.0 (omega (arith, ne)) ]
 
 kept_table : (c : Committer) (m : Mode) (dirs : List (List ℕ)) (q : List ℕ) (reached : Bool) → (reached ≡ false
-      → is_below_any dirs q ≡ false) → kept_by (keeps_by c m) reached ≡ true → stays (displaced_by c m) dirs q ≡ true
+    → is_below_any dirs q ≡ false) → kept_by (keeps_by c m) reached ≡ true → stays (displaced_by c m) dirs q ≡ true
 kept_table c m dirs q reached h e = grind arith
 
 replaced_table : (c : Committer) (m : Mode) (dirs : List (List ℕ)) (q : List ℕ) (reached : Bool) → (reached ≡ true
-      → is_below_any dirs q ≡ true) → replaced_by (keeps_by c m) reached ≡ true → stays (displaced_by c m) dirs q ≡ false
+    → is_below_any dirs q ≡ true) → replaced_by (keeps_by c m) reached ≡ true → stays (displaced_by c m) dirs q ≡ false
 replaced_table c m dirs q reached h e = grind arith
 
 module _ (w : Script) (picks : Picks) (declared : AreDeclared w picks) (q : List ℕ) where
@@ -260,7 +266,7 @@ module _ (w : Script) (picks : Picks) (declared : AreDeclared w picks) (q : List
 
   partition_of : (f : File) (d : List ℕ) → IsIn f (wanted w picks) → dir_of f.0 ≡ Some d → IsIn d dirs
   partition_of f d i e = in_ordered d (dirs_of (wanted_paths w picks)) (dir_in d f.0 (wanted_paths w picks) (in_ordered f.0 (map path
-        (wanted w picks)) (map_in path f (wanted w picks) i)) e)
+      (wanted w picks)) (map_in path f (wanted w picks) i)) e)
 
   of_partition : (d : List ℕ) → IsIn d dirs → (f : File) × IsIn f (wanted w picks) × (dir_of f.0 ≡ Some d)
   of_partition d i =
@@ -276,16 +282,16 @@ module _ (w : Script) (picks : Picks) (declared : AreDeclared w picks) (q : List
         let f = of_partition d.0 d.1 in
         let p = in_wanted w picks w.tasks f.0 f.1 in
         let below : is_below (directory f.0.0) q ≡ true = ap (λ v. is_below v q) (directory_is f.0.0 ∙ ap ended f.2)
-              ∙ below_back d.0 q d.2 in
+        ∙ below_back d.0 q d.2 in
         let there : IsIn f.0 (files_picked w p.task (picks p.task)) =
-              subst (λ o. IsIn f.0 (files_picked w p.task o)) (sym p.picked) p.mine in
+        subst (λ o. IsIn f.0 (files_picked w p.task o)) (sym p.picked) p.mine in
         let reached : reaches q (files_picked w p.task (picks p.task)) ≡ true =
-              any_at (λ (f : File). is_below (directory f.0) q) (files_picked w p.task (picks p.task)) f.0 there below in
+        any_at (λ (f : File). is_below (directory f.0) q) (files_picked w p.task (picks p.task)) f.0 there below in
         let task : list_any (reaches q) (attempts_of w p.task) ≡ true =
-              any_at (reaches q) (attempts_of w p.task) (files_picked w p.task (picks p.task)) (picked_in w picks declared p.task
-              (ap is_some p.picked)) reached in
+        any_at (reaches q) (attempts_of w p.task) (files_picked w p.task (picks p.task)) (picked_in w picks declared p.task
+        (ap is_some p.picked)) reached in
         absurd (false_true h (any_at (list_any (reaches q)) (tasks_below w w.tasks) (attempts_of w p.task)
-              (task_in w w.tasks p.task p.below) task))
+        (task_in w w.tasks p.task p.below) task))
   ]
 
   sure_below : is_picked w picks ≡ true → list_any (always_reaches q) (tasks_below w w.tasks) ≡ true → is_below_any dirs q ≡ true
@@ -294,7 +300,7 @@ module _ (w : Script) (picks : Picks) (declared : AreDeclared w picks) (q : List
       let t = in_tasks w w.tasks task.0 task.1 in
       let there : is_some (picks t.0) ≡ true = picked_at picks w.tasks t.0 picked t.1 in
       let f = always_some q (attempts_of w t.0) (files_picked w t.0 (picks t.0)) (ap (always_reaches q) (sym t.2)
-            ∙ task.2) (picked_in w picks declared t.0 there) in
+      ∙ task.2) (picked_in w picks declared t.0 there) in
       let d = below_is (dir_of f.0.0) q (ap (λ v. is_below v q) (sym (directory_is f.0.0)) ∙ f.2) in
       any_at (λ d. begins (d ++ 47 ∷ []) q) dirs d.0 (partition_of f.0 d.0 (wanted_in w picks w.tasks t.0 f.0 t.1 f.1) d.1) d.2
 

@@ -4,9 +4,10 @@ use Rattle.std.proofs.lemmas.Bool.Decides.{nat_tests}
 use Rattle.job_spec.proofs.Common.{false_true, in_append, none_some}
 use Rattle.job_spec.specs.Prelude.{Past, dead, end_op, ended, idle, is_busy, is_own, open_event, put, restarted}
 use Rattle.job_model.specs.Attempts.{Declared, declares, is_known}
-use Rattle.job_steps.specs.Prelude.{Actor, ActorEnd, ActorState, Attempt, Closes, Content, Do, Driver, Enabled, Entry, Event, Finishes,
-    IsEvent, IsIn, IsLegal, Kill, Opens, Play, Reachable, Refuses, Restart, Script, Seen, Sends, Setting, Start, Strays, Times,
-    Transition, happen, happens, nothing_happened, nothing_seen, see, see_all, strange_entry}
+use Rattle.job_steps.specs.Prelude.{Actor, ActorEnd, ActorState, Attempt, Closes, Content, Do, Driver, Enabled, Entry, Event, Finishes}
+use Rattle.job_steps.specs.Prelude.{IsEvent, IsIn, IsLegal, Kill, Opens, Play, Reachable, Refuses, Restart, Script, Seen, Sends, Setting}
+use Rattle.job_steps.specs.Prelude.{Start, Strays, Times, Transition, happen, happens, nothing_happened, nothing_seen, see, see_all}
+use Rattle.job_steps.specs.Prelude.{strange_entry}
 use Rattle.job_steps.proofs.Actors.{one_put}
 use Rattle.job_steps.proofs.PastMore.{busy_so, ended_idle, event_at}
 use Rattle.job_steps.proofs.Told.{told_all}
@@ -20,9 +21,9 @@ KnownBusy all p = (a : Actor) → is_busy (p.state a).life ≡ true → is_known
 module _ (all : List Declared) (p : Past) (old : KnownBusy all p) where
   -- who is given a state is of the job where that is busy
   put_known : (a : Actor) (s : ActorState) → (is_busy s.life ≡ true → is_known all a ≡ true) → (b : Actor)
-        → is_busy (put p.state a s b).life ≡ true → is_known all b ≡ true
+      → is_busy (put p.state a s b).life ≡ true → is_known all b ≡ true
   put_known a s here b = one_put (λ (v : ActorState). is_busy v.life ≡ true
-        → is_known all b ≡ true) p.state a s b (λ e busy. ap (is_known all) e ∙ here busy) (λ ne. old b)
+      → is_known all b ≡ true) p.state a s b (λ e busy. ap (is_known all) e ∙ here busy) (λ ne. old b)
 
   open_known : (w : Script) (ev : Event) → IsEvent all ev → KnownBusy all (open_event w p ev)
   open_known w (Do a op) h = put_known a _ (λ b. h.0)
@@ -33,7 +34,7 @@ module _ (all : List Declared) (p : Past) (old : KnownBusy all p) where
 
   end_known : (y : ActorEnd) → KnownBusy all (end_op p y)
   end_known y = put_known y.actor (ended y.end (p.state y.actor).stage) (λ b. absurd (false_true (ended_idle y.end
-        (p.state y.actor).stage) b))
+      (p.state y.actor).stage) b))
 
 -- so is who sent an entry of the job
 abbrev KnownSent : List Declared → List Entry → Type 0
@@ -44,29 +45,41 @@ record Known (g : Setting) (x : Play) : Type 0 where
   pub sent : KnownSent g.script.attempts x.journal
 
 sent_more : (all : List Declared) (es : List Entry) (e : Entry) → KnownSent all es → (is_own e.actor ≡ true
-      → is_known all e.actor ≡ true) → KnownSent all (es ++ e ∷ [])
+    → is_known all e.actor ≡ true) → KnownSent all (es ++ e ∷ [])
 sent_more all es e old new f i own = elim (in_append f es (e ∷ []) i) [
   | inl k ↦ old f k own
-  | inr k ↦ elim k [ inl is ↦ ap (λ (y : Entry). is_known all y.actor) is ∙ new (ap (λ (y : Entry). is_own y.actor) (sym is)
-        ∙ own) | inr none ↦ absurd none ]
+  | inr k ↦ elim k [
+    | inl is ↦ ap (λ (y : Entry). is_known all y.actor) is ∙ new (ap (λ (y : Entry). is_own y.actor) (sym is)
+        ∙ own)
+    | inr none ↦ absurd none
+  ]
 ]
 
 module _ (g : Setting) (opening : Content) (legal : IsLegal g.script) where
   known_more : (x : Play) (h : Transition) → Reachable g opening x → Enabled g opening x h → Known g x → Known g (happen g x h)
-  known_more x (Refuses f) run ok old = record { busy = subst (KnownBusy g.script.attempts)
-        ((told_all g opening x run).closed ok.1.idle).0 old.busy; sent = old.sent }
-  known_more x (Opens ev) run ok old = record {
-    busy = open_known g.script.attempts x.past (subst (KnownBusy g.script.attempts)
-          ((told_all g opening x run).closed ok.idle).0 old.busy) g.script ev (event_at g.script.attempts g.script.events
-          (length x.ends) ev legal.events ok.next);
+  known_more x (Refuses f) run ok old = record {
+    busy = subst (KnownBusy g.script.attempts)
+        ((told_all g opening x run).closed ok.1.idle).0 old.busy;
     sent = old.sent;
   }
-  known_more x (Sends e) run ok old = record { busy = old.busy; sent =
-        sent_more g.script.attempts x.journal e old.sent (λ own. old.busy e.actor (busy_so _ ok.busy)) }
+  known_more x (Opens ev) run ok old = record {
+    busy = open_known g.script.attempts x.past (subst (KnownBusy g.script.attempts)
+        ((told_all g opening x run).closed ok.idle).0 old.busy) g.script ev (event_at g.script.attempts g.script.events
+        (length x.ends) ev legal.events ok.next);
+    sent = old.sent;
+  }
+  known_more x (Sends e) run ok old = record {
+    busy = old.busy;
+    sent =
+        sent_more g.script.attempts x.journal e old.sent (λ own. old.busy e.actor (busy_so _ ok.busy));
+  }
   known_more x (Finishes y) run ok old = record { busy = end_known g.script.attempts x.live old.busy y; sent = old.sent }
   known_more x (Closes end) run ok old = record { busy = old.busy; sent = old.sent }
-  known_more x (Strays r o) run ok old = record { busy = old.busy; sent =
-        sent_more g.script.attempts x.journal (strange_entry (length x.ends) r o) old.sent (λ own. absurd (false_true refl own)) }
+  known_more x (Strays r o) run ok old = record {
+    busy = old.busy;
+    sent =
+        sent_more g.script.attempts x.journal (strange_entry (length x.ends) r o) old.sent (λ own. absurd (false_true refl own));
+  }
 
   known_all : (x : Play) → Reachable g opening x → Known g x
   known_all x nothing_happened = record { busy = λ a busy. absurd (false_true refl busy); sent = λ e i. absurd i }
@@ -99,7 +112,10 @@ module _ (w : Script) (k : Times) where
   chosen_all s (e ∷ es) known old = chosen_all (see w k s e) es (λ f i. known f (inr i)) (chosen_more s e (known e (inl refl)) old)
 
 pub declared : (g : Setting) (k : Times) (opening : Content) → IsLegal g.script → (x : Play) → Reachable g opening x
-      → AreDeclared g.script (see_all g.script k (nothing_seen opening) x.journal).picks
+    → AreDeclared g.script (see_all g.script k (nothing_seen opening) x.journal).picks
 declared g k opening legal x run =
-    (chosen_all g.script k (nothing_seen opening) x.journal (known_all g opening legal x run).sent (record { last =
-          λ t a h. absurd (none_some refl h); picks = λ t a h. absurd (none_some refl h) })).picks
+    (chosen_all g.script k (nothing_seen opening) x.journal (known_all g opening legal x run).sent (record {
+      last =
+          λ t a h. absurd (none_some refl h);
+      picks = λ t a h. absurd (none_some refl h);
+    })).picks

@@ -6,17 +6,18 @@ use Rattle.job_spec.specs.Prelude.{AreOwn}
 use Rattle.job_protocol.proofs.Begun.{after_check_so, clean_of_so, commit_of_so}
 use Rattle.job_protocol.proofs.Faults.{if_bucket_so}
 use Rattle.job_protocol.specs.Rechecks.{check_after}
-use Rattle.job_protocol.specs.Setup.{Checking, Clearing, Heading, Setup, SetupOver, Sweeping, checked, cleared, dest_prefix, headed,
-    setup_after, setup_asks, setup_hears, sweeping}
+use Rattle.job_protocol.specs.Setup.{Checking, Clearing, Heading, Setup, SetupOver, Sweeping, checked, cleared, dest_prefix, headed}
+use Rattle.job_protocol.specs.Setup.{setup_after, setup_asks, setup_hears, sweeping}
 use Rattle.job_model.specs.declared.ends.SetupEnd.TheVariants as setups
 use Rattle.list_walk.specs.Walks.{Deleting, Listing, Sweep, all_go, page_after, sweep_asks, sweep_hears}
 use Rattle.magic_paths.specs.Layout.{magic_prefix, success_key}
 use Rattle.magic_paths.specs.Places.{SuccessPlace}
-use Rattle.job_facts.specs.Prelude.{Answered, Commit, CommitOver, Commits, Committer, Completing, Content, DeleteObject, Driver, Entry,
-    Fetching, HasBucket, HeadObject, IsHonestOutcome, IsLegal, Marking, Operation, Outcome, Pending, Replacing, Reply, ReplyLost,
-    Request, Retried, Reverting, Scene, Script, Seen, SetsUp, Setting, TheCheck, TheClean, TheCommit, TheSetup, TheSparing, Times, Told,
-    abort, all_commits, answer, apply, asks, at_key, commit_asks, completion, deletion, driver_entry, effect, entry, is_effective,
-    is_marking, nth, only_reads, see, seen, set_request, step, tells, with_objects, who}
+use Rattle.job_facts.specs.Prelude.{Answered, Commit, CommitOver, Commits, Committer, Completing, Content, DeleteObject, Driver, Entry}
+use Rattle.job_facts.specs.Prelude.{Fetching, HasBucket, HeadObject, IsHonestOutcome, IsLegal, Marking, Operation, Outcome, Pending}
+use Rattle.job_facts.specs.Prelude.{Replacing, Reply, ReplyLost, Request, Retried, Reverting, Scene, Script, Seen, SetsUp, Setting}
+use Rattle.job_facts.specs.Prelude.{TheCheck, TheClean, TheCommit, TheSetup, TheSparing, Times, Told, abort, all_commits, answer, apply}
+use Rattle.job_facts.specs.Prelude.{asks, at_key, commit_asks, completion, deletion, driver_entry, effect, entry, is_effective, is_marking}
+use Rattle.job_facts.specs.Prelude.{nth, only_reads, see, seen, set_request, step, tells, with_objects, who}
 use Rattle.job_facts.specs.Driver.{FitsSweep}
 use Rattle.job_facts.specs.Filed.{IsCommit}
 use Rattle.job_facts.proofs.Aborting.{taken_in}
@@ -31,8 +32,8 @@ use Rattle.job_facts.proofs.SettingUp.{no_success}
 use Rattle.job_facts.proofs.Shapes.{key_after, store_is}
 use Rattle.job_facts.proofs.Sharing.{check_reads, reads_leave, sparing_hides}
 use Rattle.job_facts.proofs.Shows.{HidesAll}
-use Rattle.job_traces.specs.Runs.{BeginClean, BeginCommit, BeginSetup, Beginning, IsOpening, MayBegin, Runs, Stand, begin, is_just_set,
-    is_set, nothing_learnt}
+use Rattle.job_traces.specs.Runs.{BeginClean, BeginCommit, BeginSetup, Beginning, IsOpening, MayBegin, Runs, Stand, begin, is_just_set}
+use Rattle.job_traces.specs.Runs.{is_set, nothing_learnt}
 use Rattle.job_traces.proofs.Entries.{front, in_commit, late_now, own_taken, sees}
 use Rattle.job_traces.proofs.EveryRun.{good, own_front, own_last, shown}
 use Rattle.job_traces.proofs.Folds.{each_run}
@@ -93,37 +94,37 @@ module _ (w : Script) where
     deleted_mark there =
         let left = with_objects there.0 (fin.remove there.0.objects mark) in
         ap (λ c. at_key w c mark) (store_is w s there.0 there.1 (DeleteObject w.dest.bucket mark))
-              ∙ key_after w s there.0 there.1 left s.content.next mark ∙ text_gone there.0.objects mark mark refl
+        ∙ key_after w s there.0 there.1 left s.content.next mark ∙ text_gone there.0.objects mark mark refl
 
     sweep_hides : (t : Sweep) → FitsSweep w t → HidesAll w (sweep_asks w.dest.bucket (magic_prefix w.dest.key w.job) t)
     sweep_hides (Listing keys) h b q i = absurd i
     sweep_hides (Deleting k ks) h b q i = h q (taken_in 1000 (k ∷ ks) q i)
 
     heard : (op : Setup) → SetsUp w s.content op → AfterSetup op s → Each (λ q. (x : Reply) → x ≡ answer s q
-          → AfterSetup (setup_hears w op x) (apply s q)) (setup_asks w op)
+        → AfterSetup (setup_hears w op x) (apply s q)) (setup_asks w op)
     heard Heading u h = λ x e. let q = HeadObject w.dest.bucket w.dest.key in
-          if_bucket_so (λ v. AfterSetup v (apply s q)) x (headed w x) tt (after_headed (apply s q) x)
+        if_bucket_so (λ v. AfterSetup v (apply s q)) x (headed w x) tt (after_headed (apply s q) x)
     heard (Checking keys) u h = λ x e. let q = page_after w.dest.bucket (dest_prefix w) keys in
-          if_bucket_so (λ v. AfterSetup v (apply s q)) x (checked w keys x) tt (after_checked (apply s q) keys x)
+        if_bucket_so (λ v. AfterSetup v (apply s q)) x (checked w keys x) tt (after_checked (apply s q) keys x)
     heard Clearing u h = λ x e. let q = DeleteObject w.dest.bucket mark in
-          if_bucket_so (λ v. AfterSetup v (apply s q)) x (cleared w.committer) tt (after_cleared (apply s q) (deleted_mark u) w.committer)
+        if_bucket_so (λ v. AfterSetup v (apply s q)) x (cleared w.committer) tt (after_cleared (apply s q) (deleted_mark u) w.committer)
     heard (Sweeping t) u h = λ x e.
         let q = sweep_asks w.dest.bucket (magic_prefix w.dest.key w.job) t in
         if_bucket_so (λ v. AfterSetup v (apply s q)) x (sweeping (sweep_hears all_go t x)) tt (after_sweeping (apply s q)
-              (hidden_mark u.0 q (sweep_hides t u.1) ReplyLost h) (sweep_hears all_go t x))
+        (hidden_mark u.0 q (sweep_hides t u.1) ReplyLost h) (sweep_hears all_go t x))
     heard (SetupOver end) u h = tt
 
     still : (op : Setup) → SetsUp w s.content op → AfterSetup op s → (o : Outcome)
-          → Each (λ q. AfterSetup op (effect s q o)) (setup_asks w op)
+        → Each (λ q. AfterSetup op (effect s q o)) (setup_asks w op)
     still (Sweeping t) u h o = hidden_mark u.0 (sweep_asks w.dest.bucket (magic_prefix w.dest.key w.job) t) (sweep_hides t u.1) o h
     still (SetupOver end) u h o = tt
     still _ u h o = tt
 
     setup_clears : (retries : ℕ) (t : Retried Setup) → SetsUp w s.content t.operation → AfterSetup t.operation s → (r : Request)
-          → setup_asks w t.operation ≡ Some r → (o : Outcome) → IsHonestOutcome o (answer s r)
+        → setup_asks w t.operation ≡ Some r → (o : Outcome) → IsHonestOutcome o (answer s r)
         → AfterSetup (step retries (setup_after w) t o).operation (effect s r o)
     setup_clears retries t u h r e o honest = step_asked (λ q v op. AfterSetup op (effect s q v)) retries (setup_after w) t
-          (answer s) r e o honest (heard t.operation u h) (λ none. still t.operation u h o) tt
+        (answer s) r e o honest (heard t.operation u h) (λ none. still t.operation u h o) tt
 
 module _ (g : Setting) (k : Times) (opening : Content) (j : IsLegal g.script) (is : IsOpening g opening) where
   abbrev v : Script
@@ -143,11 +144,11 @@ module _ (g : Setting) (k : Times) (opening : Content) (j : IsLegal g.script) (i
 
     -- by what it leaves where the job has not put it
     leaves_by : (NoMark v x.seen.scene → NoMark v (effect x.seen.scene r o)) → (x.seen.put_mark ≡ false → NoMark v x.seen.scene)
-          → u.put_mark ≡ false → NoMark v u.scene
+        → u.put_mark ≡ false → NoMark v u.scene
     leaves_by go old put = subst (NoMark v) (sym scene_is) (go (old (unput put)))
 
     module _ (c : Commit) (all : Commits v g.minimum x.seen x.told c) (shows : CommitShows g opening x.seen x.told.ended x.commit c)
-          (asked : commit_asks v c ≡ Some r) where
+        (asked : commit_asks v c ≡ Some r) where
       abbrev s : Scene
       s = x.seen.scene
 
@@ -163,18 +164,21 @@ module _ (g : Setting) (k : Times) (opening : Content) (j : IsLegal g.script) (i
       commit_leaves : (d : Commit) → d ≡ c → u.put_mark ≡ false → NoMark v s → NoMark v (effect s r o)
       commit_leaves (Fetching sets m) is put none =
           subst (λ q. NoMark v (effect s q o)) (some_is (ap (commit_asks v) is
-                ∙ asked)) (read_mark v j s (set_request v.committer v (length sets)) (set_reads v.committer (length sets)) o none)
+          ∙ asked)) (read_mark v j s (set_request v.committer v (length sets)) (set_reads v.committer (length sets)) o none)
       commit_leaves (Replacing sets p ps t m) is put none =
           let empty = (subst (λ d. CommitShows g opening x.seen x.told.ended x.commit d) (sym is) shows).empty in
           subst (λ q. NoMark v (effect s q o)) (some_is (ap (commit_asks v) is
-                ∙ asked)) (elim (taken_after g j opening s all.hold.there p t empty.under o key) [ inl same ↦ same
-                ∙ none | inr gone ↦ gone.0 ])
+          ∙ asked)) (elim (taken_after g j opening s all.hold.there p t empty.under o key) [
+            | inl same ↦ same
+                ∙ none
+            | inr gone ↦ gone.0
+          ])
       commit_leaves (Completing sets t ts finished) is put none =
           let here = subst (Commits v g.minimum x.seen x.told) (sym is) all in
           let p = nth (all_commits sets) t.number in
           let y = (of_sets j all.hold sets here.fits p (nth_of (all_commits sets) t.number (here.tabled.within t (inl refl)))).1.commit in
           subst (λ q. NoMark v (effect s q o)) (some_is (ap (commit_asks v) is
-                ∙ asked)) (effect_so (NoMark v) s (completion p) o none (other_key j all.hold all.gone p y key (no_file p y) ∙ none))
+          ∙ asked)) (effect_so (NoMark v) s (completion p) o none (other_key j all.hold all.gone p y key (no_file p y) ∙ none))
       commit_leaves (Marking sets m) is put none = by o refl
         where
           marking : is_marking v r ≡ true
@@ -191,19 +195,19 @@ module _ (g : Setting) (k : Times) (opening : Content) (j : IsLegal g.script) (i
           let y = here.decides q (inl refl) in
           subst (λ z. NoMark v (effect s z o)) (some_is (ap (commit_asks v) is ∙ asked)) (elim y.2 [
             | inl e ↦ subst (λ z. NoMark v (effect s z o)) (sym e) (effect_so (NoMark v) s (abort y.0) o none
-                  (abort_keys j all.hold all.gone y.0 y.1 key ∙ none))
+                (abort_keys j all.hold all.gone y.0 y.1 key ∙ none))
             | inr e ↦ subst (λ z. NoMark v (effect s z o)) (sym e) (effect_so (NoMark v) s (deletion y.0) o none (elim
-                  (same_or_other key y.0.destination) [
-              | inl same ↦ ap (at_key v (apply s (deletion y.0)).content) same ∙ deletion_key j all.hold all.gone y.0 y.1
-              | inr ne ↦ deletion_other j all.hold all.gone y.0 y.1 key ne ∙ none
-            ]))
+                (same_or_other key y.0.destination) [
+                  | inl same ↦ ap (at_key v (apply s (deletion y.0)).content) same ∙ deletion_key j all.hold all.gone y.0 y.1
+                  | inr ne ↦ deletion_other j all.hold all.gone y.0 y.1 key ne ∙ none
+                ]))
           ])
       commit_leaves (CommitOver end) is put none = absurd (none_some refl (ap (commit_asks v) is ∙ asked))
 
   -- ---- an entry of the driver
 
   driver_clears : (es : List Entry) (x : Stand) (op : Operation) (n : ℕ) (r : Request) (o : Outcome) → Runs g k opening es x
-        → AreOwn es → x.driver ≡ Some op → asks g (who Driver) nothing_learnt op ≡ Some r → IsHonestOutcome o (answer x.seen.scene r)
+      → AreOwn es → x.driver ≡ Some op → asks g (who Driver) nothing_learnt op ≡ Some r → IsHonestOutcome o (answer x.seen.scene r)
       → Clears v (Some op) x.seen → Clears v (Some (tells g (who Driver) op o)) (see v k x.seen (driver_entry n r o))
   driver_clears es x (TheSetup t) n r o run own d asked honest old = elim (good g k opening j is es x run) [
     | inr l ↦ let at = subst (λ q. At g opening q x.seen x.told) d l.driver in absurd (none_some (ap (setup_asks v) at.0) asked)
@@ -213,7 +217,7 @@ module _ (g : Setting) (k : Times) (opening : Content) (j : IsLegal g.script) (i
           let same : y.0 ≡ t = setup_is (some_is (sym y.1 ∙ d)) in
           let up = subst (λ (q : Retried Setup). SetsUp v x.seen.scene.content q.operation) same y.2 in
           subst (λ q. AfterSetup v (step v.retries (setup_after v) t o).operation q) (sym (scene_is x n r o))
-                (setup_clears v j x.seen.scene v.retries t up old r asked o honest)
+          (setup_clears v j x.seen.scene v.retries t up old r asked o honest)
     ]
   ]
     where
@@ -223,14 +227,21 @@ module _ (g : Setting) (k : Times) (opening : Content) (j : IsLegal g.script) (i
       let b = in_commit g k opening j is es x run c d in
       let i = b.2 in
       let shows = subst (λ q. Shows g opening q x.seen x.told x.commit) d (shown g k opening j is es x run own) in
-      let all : Commits v g.minimum x.seen x.told c = record { hold = b.0; gone = b.1; fits = i.fits; tabled = i.tabled; turns =
-            i.turns; decides = i.decides } in
+      let all : Commits v g.minimum x.seen x.told c = record {
+        hold = b.0;
+        gone = b.1;
+        fits = i.fits;
+        tabled = i.tabled;
+        turns =
+            i.turns;
+        decides = i.decides;
+      } in
       leaves_by x n r o (commit_leaves x n r o c all shows asked c refl put) old put
   driver_clears es x (TheClean t) n r o run own d asked honest old =
       let l = late_now g k opening j is es x run (ap is_set d) in
       let at = subst (λ q. At g opening q x.seen x.told) d l.driver in
       leaves_by x n r o (hidden_mark v j x.seen.scene l.hold.there r
-            (clean_hides v g.minimum k x.seen x.told n j l.hold t.operation at r asked) o) old
+      (clean_hides v g.minimum k x.seen x.told n j l.hold t.operation at r asked) o) old
   driver_clears es x (TheCheck t) n r o run own d asked honest old =
       let go = leaves_by x n r o (read_mark v j x.seen.scene r (check_reads g j t.operation r asked) o) old in
       after_check_so g (λ q. Clears v (Some q) (see v k x.seen (driver_entry n r o))) go (λ q. go) (step v.retries (check_after v) t o)
@@ -251,12 +262,12 @@ module _ (g : Setting) (k : Times) (opening : Content) (j : IsLegal g.script) (i
   begins_clear : (x : Stand) (b : Beginning) → MayBegin g x b → Clears v x.driver x.seen → Clears v (begin g x b).driver x.seen
   begins_clear x BeginSetup may h = tt
   begins_clear x (BeginCommit reports) may h = let none = just_clears v x.driver x.seen may h in
-        commit_of_so g (λ q. Clears v (Some q) x.seen) (λ missing p. none) (λ t p. none) reports
+      commit_of_so g (λ q. Clears v (Some q) x.seen) (λ missing p. none) (λ t p. none) reports
   begins_clear x BeginClean may h = let none = set_clears v x.driver x.seen may h in clean_of_so g (λ q. Clears v (Some q) x.seen) none none
   begins_clear x _ may h = h
 
   same_clears : (d : Option Operation) (s t : Seen) → at_key v t.scene.content (success_key v.dest.key) ≡ at_key v s.scene.content
-        (success_key v.dest.key) → t.put_mark ≡ s.put_mark → Clears v d s → Clears v d t
+      (success_key v.dest.key) → t.put_mark ≡ s.put_mark → Clears v d s → Clears v d t
   same_clears None s t e p h = tt
   same_clears (Some (TheSetup q)) s t e p h = same_after q.operation h
     where
@@ -270,14 +281,14 @@ module _ (g : Setting) (k : Times) (opening : Content) (j : IsLegal g.script) (i
   clears =
       each_run g k opening (λ es x. AreOwn es → Clears v x.driver x.seen) (λ own. tt) (λ es x b run may h own. begins_clear x b may (h own))
       (λ es x op n r o run d asked timely few honest h own. driver_clears es x op n r o run (own_front es _ own) d asked honest (subst
-            (λ q. Clears v q x.seen) d (h (own_front es _ own))))
+      (λ q. Clears v q x.seen) d (h (own_front es _ own))))
       (λ es x a op n r o run set at asked honest h own.
       let l = late_now g k opening j is es x run set in
       let f = l.fine a op at in
       let mine = operation_own g j x.told a f.0 op f.1 r asked in
       let quiet = attempt_quiet v k x.seen a n r l.hold.there (λ b q i. mine.keys q i) o in
       same_clears x.driver x.seen (see v k x.seen (entry a n r o)) (quiet.keys (success_key v.dest.key)
-            (key_magic v.dest.key v.job SuccessPlace (some_dest j) tt)) quiet.mark (h (own_front es _ own)))
+      (key_magic v.dest.key v.job SuccessPlace (some_dest j) tt)) quiet.mark (h (own_front es _ own)))
       (λ es x n r o run f h own. absurd (false_true refl (own_last es _ own)))
 
   -- ---- once the commit has begun
@@ -288,7 +299,7 @@ module _ (g : Setting) (k : Times) (opening : Content) (j : IsLegal g.script) (i
   at_clears (Some _) s m at h put = h put
 
   begun_clears : (es : List Entry) (x : Stand) → Runs g k opening es x → AreOwn es → x.seen.begun ≡ true → x.seen.put_mark ≡ false
-        → NoMark v x.seen.scene
+      → NoMark v x.seen.scene
   begun_clears es x run own begun put = elim (good g k opening j is es x run) [
     | inl e ↦ absurd (false_true e.unbegun begun)
     | inr l ↦ at_clears x.driver x.seen x.told l.driver (clears es x run own) put
@@ -296,9 +307,9 @@ module _ (g : Setting) (k : Times) (opening : Content) (j : IsLegal g.script) (i
 
   -- at each moment of a run of the job's actors alone
   pub no_old : (es : List Entry) (x : Stand) → Runs g k opening es x → AreOwn es → (m : ℕ) → (seen v k opening es m).begun ≡ true
-        → (seen v k opening es m).put_mark ≡ false → NoMark v (seen v k opening es m).scene
+      → (seen v k opening es m).put_mark ≡ false → NoMark v (seen v k opening es m).scene
   no_old es x run own m begun put =
       let f = front g k opening j is es x run m in
       let same = sees g k opening j is (take m es) f.0 f.1 in
       subst (λ (s : Seen). NoMark v s.scene) same (begun_clears (take m es) f.0 f.1 (own_taken es m own) (ap (λ
-            (s : Seen). s.begun) same ∙ begun) (ap (λ (s : Seen). s.put_mark) same ∙ put))
+      (s : Seen). s.begun) same ∙ begun) (ap (λ (s : Seen). s.put_mark) same ∙ put))

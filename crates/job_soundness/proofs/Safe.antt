@@ -1,14 +1,14 @@
 -- Every run of a job is sound for readers.
-use Rattle.std.proofs.Common.{◌≡◌, ℕ, zero, suc, ◌≤◌, ◌&&◌, not, Bool, true, false, cond, List, [], length, Option, Some, None, refl,
-    sym, ap, subst, ◌∙◌, arith, inl, inr}
+use Rattle.std.proofs.Common.{◌≡◌, ℕ, zero, suc, ◌≤◌, ◌&&◌, not, Bool, true, false, cond, List, [], length, Option, Some, None, refl, sym}
+use Rattle.std.proofs.Common.{ap, subst, ◌∙◌, arith, inl, inr}
 use Rattle.std.specs.Prelude.{is_some}
 use Rattle.std.specs.List.{All}
 use Rattle.std.proofs.lemmas.List.Elements.{All-push}
 use Rattle.job_spec.proofs.Common.{and_parts, false_true, none_some, true_or_false}
 use Rattle.job_spec.specs.Headline.{or_else}
 use Rattle.job_spec.specs.Prelude.{AreOwn, Kept, Whole as WholeJob, times}
-use Rattle.job_steps.specs.Prelude.{Content, Entry, IsLegal, IsOpening, Play, Reachable, Script, Seen, Setting, Times, nothing_seen,
-    see_all, seen}
+use Rattle.job_steps.specs.Prelude.{Content, Entry, IsLegal, IsOpening, Play, Reachable, Script, Seen, Setting, Times, nothing_seen}
+use Rattle.job_steps.specs.Prelude.{see_all, seen}
 use Rattle.job_steps.specs.Running.{IsRun}
 use Rattle.job_steps.proofs.Running.{is_run}
 use Rattle.job_safety.proofs.Ending.{ahead_none}
@@ -33,11 +33,11 @@ use Rattle.job_soundness.proofs.Visible.{file_visible, shown_is}
 
 -- what holds of each moment holds of the moments
 each_moment : (w : Script) (k : Times) (opening : Content) (es : List Entry) (P : Moment (List ℕ) → Type 0) (n : ℕ) → ((m : ℕ) → m ≤ n
-      → P (moment_of w (seen w k opening es m))) → All P (moments_to w k opening es n)
+    → P (moment_of w (seen w k opening es m))) → All P (moments_to w k opening es n)
 each_moment w k opening es P zero h = All-push P [] (moment_of w (seen w k opening es 0)) (λ i d l. absurd (omega (arith, l))) (h 0
-      (omega arith))
+    (omega arith))
 each_moment w k opening es P (suc n) h = All-push P (moments_to w k opening es n) (moment_of w (seen w k opening es (suc n)))
-      (each_moment w k opening es P n (λ m l. h m (omega arith))) (h (suc n) (omega arith))
+    (each_moment w k opening es P n (λ m l. h m (omega arith))) (h (suc n) (omega arith))
 
 -- ---- markers
 
@@ -84,7 +84,7 @@ module _ (w : Script) (opening : Content) (s : Seen) (kept : Kept w opening s) w
 
   -- with the picks that are decided at the end
   module _ (j : IsLegal w) (picks : Picks) (are : AreDeclared w picks) (decided : is_decided w picks ≡ true)
-        (settled : is_decided w s.picks ≡ true → picks ≡ s.picks)
+      (settled : is_decided w s.picks ≡ true → picks ≡ s.picks)
       (no_old : s.begun ≡ true → s.put_mark ≡ false → at_key w s.scene.content (success_key w.dest.key) ≡ None) where
     abbrev chosen : List ℕ → Option (List ℕ)
     chosen = wanted_at w picks
@@ -110,34 +110,34 @@ module _ (w : Script) (opening : Content) (s : Seen) (kept : Kept w opening s) w
               stays = λ x h keep none.
                   (let v = visible_some opening p x h in
                   visible_is s.scene.content p v.0 ∙ old.kept e p x v.1 (ap (λ q. keeps_of w q p) (sym same)
-                        ∙ kept_is w picks are p keep) (ap (λ q. wanted_at w q p) (sym same) ∙ none));
+                  ∙ kept_is w picks are p keep) (ap (λ q. wanted_at w q p) (sym same) ∙ none));
             }
       ]
 
       whole : WholeJob w (view w.dest opening) s.picks s.scene.content → picks ≡ s.picks
-            → Whole (is_kept (claim_of w) p) (is_replaced (claim_of w) p) (first p) (chosen p) (now p)
+          → Whole (is_kept (claim_of w) p) (is_replaced (claim_of w) p) (first p) (chosen p) (now p)
       whole h same = record {
         written = λ x f.
             (let file = wanted_of w picks p x f in
             let v : is_visible p ≡ true = ap is_visible file.path ∙ file_visible j _ file.file file.from.mine in
             visible_is s.scene.content p v ∙ h.files p ∙ ap (λ o. or_else o (cond (keeps_of w s.picks p) (view w.dest opening p) None))
-                  (ap (λ q. wanted_at w q p) (sym same) ∙ f));
+            (ap (λ q. wanted_at w q p) (sym same) ∙ f));
         only = λ none x f.
             (let v = visible_some s.scene.content p x f in
             visible_is opening p v.0 ∙ from_kept (keeps_of w s.picks p) x (sym (shows none) ∙ v.1));
         stays = λ none x f keep.
             (let v = visible_some opening p x f in
             visible_is s.scene.content p v.0 ∙ shows none ∙ ap (λ b. cond b (view w.dest opening p) None) (ap (λ q. keeps_of w q p)
-                  (sym same) ∙ kept_is w picks are p keep) ∙ v.1);
+            (sym same) ∙ kept_is w picks are p keep) ∙ v.1);
         goes = λ none x f replaced.
             (let v = visible_some opening p x f in
             visible_is s.scene.content p v.0 ∙ shows none ∙ ap (λ b. cond b (view w.dest opening p) None) (ap (λ q. keeps_of w q p)
-                  (sym same) ∙ replaced_is w picks are p picked replaced));
+            (sym same) ∙ replaced_is w picks are p picked replaced));
       }
         where
           shows : chosen p ≡ None → view w.dest s.scene.content p ≡ cond (keeps_of w s.picks p) (view w.dest opening p) None
           shows none = h.files p ∙ ap (λ o. or_else o (cond (keeps_of w s.picks p) (view w.dest opening p) None)) (ap
-                (λ q. wanted_at w q p) (sym same) ∙ none)
+              (λ q. wanted_at w q p) (sym same) ∙ none)
 
           from_kept : (b : Bool) (x : List ℕ) → cond b (view w.dest opening p) None ≡ Some x → view w.dest opening p ≡ Some x
           from_kept true x e = e
@@ -162,7 +162,7 @@ module _ (w : Script) (opening : Content) (s : Seen) (kept : Kept w opening s) w
 -- ---- a run
 
 module _ (g : Setting) (opening : Content) (x : Play) (j : IsLegal g.script) (is : IsOpening g opening) (run : Reachable g opening x)
-      (idle : x.now ≡ None) (own : AreOwn x.journal) where
+    (idle : x.now ≡ None) (own : AreOwn x.journal) where
   abbrev v : Script
   v = g.script
 
@@ -184,32 +184,32 @@ module _ (g : Setting) (opening : Content) (x : Play) (j : IsLegal g.script) (is
   -- what is seen at the end
   end_is : r.stand.seen ≡ at (length x.journal)
   end_is = sees g k opening j is x.journal r.stand r.runs ∙ ap (see_all v k (nothing_seen opening)) (sym (take_all x.journal
-        (length x.journal) (omega arith)))
+      (length x.journal) (omega arith)))
 
   stays : (m : ℕ) → m ≤ length x.journal → is_decided v (at m).picks ≡ true → last ≡ (at m).picks
   stays m within decided = ap (λ (s : Seen). s.picks) (sym end_is) ∙ settled g k opening j is x.journal r.stand r.runs m within decided
 
   are : AreDeclared v last
   are = subst (λ (l : List Entry). AreDeclared v (see_all v k (nothing_seen opening) l).picks) (sym (take_all x.journal
-        (length x.journal) (omega arith))) (declared g k opening j x run)
+      (length x.journal) (omega arith))) (declared g k opening j x run)
 
   pub explain : is_decided v last ≡ true → PicksExplain v opening x.journal x.ends
   explain decided = record {
     chooses = chooses v last are (and_parts (is_picked v last) (not (is_clash v last)) decided).0;
     explain = each_moment v k opening x.journal (Explains (claim_of v) (shown v.dest opening) (chosen_below v last v.tasks))
-          (length x.journal)
+        (length x.journal)
         (λ m within. explains v opening (at m) (kept m within) j last are decided (stays m within)
-              (no_old g k opening j is x.journal r.stand r.runs own m));
+        (no_old g k opening j is x.journal r.stand r.runs own m));
   }
 
   pub sound : Sound (claim_of v) (shown v.dest opening) (moments_to v k opening x.journal (length x.journal))
   sound = elim (true_or_false (is_decided v last)) [
     | inl decided ↦ let c = explain decided in inr (chosen_below v last v.tasks, c.chooses, c.explain)
     | inr none ↦ inl (each_moment v k opening x.journal (Unchanged (shown v.dest opening)) (length x.journal)
-          (λ m within. unchanged v opening (at m) (kept m within) (elim (true_or_false (is_decided v (at m).picks)) [
-      | inr e ↦ e
-      | inl e ↦ absurd (false_true none (ap (is_decided v) (stays m within e) ∙ e))
-    ])))
+        (λ m within. unchanged v opening (at m) (kept m within) (elim (true_or_false (is_decided v (at m).picks)) [
+          | inr e ↦ e
+          | inl e ↦ absurd (false_true none (ap (is_decided v) (stays m within e) ∙ e))
+        ])))
   ]
 
 pub runs_are_safe : RunsAreSafe

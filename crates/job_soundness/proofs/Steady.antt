@@ -1,12 +1,13 @@
 -- Once the job's commit has chosen an attempt of each task, and no two of them write one path, its choice does not change.
-use Rattle.std.proofs.Common.{◌≡◌, ◌⊎◌, ℕ, ◌+◌, ◌≤◌, ◌&&◌, ◌||◌, not, true, false, List, [], ◌∷◌, ◌++◌, length, take, Some, refl, sym,
-    ap, subst, ◌∙◌, arith, inl, inr, length-append}
+use Rattle.std.proofs.Common.{◌≡◌, ◌⊎◌, ℕ, ◌+◌, ◌≤◌, ◌&&◌, ◌||◌, not, true, false, List, [], ◌∷◌, ◌++◌, length, take, Some, refl, sym, ap}
+use Rattle.std.proofs.Common.{subst, ◌∙◌, arith, inl, inr, length-append}
 use Rattle.std.proofs.Math.Bool.{and-false}
 use Rattle.std.proofs.lemmas.List.{take-append-le}
 use Rattle.job_spec.proofs.Common.{cases_lt, false_true, none_some}
-use Rattle.job_facts.specs.Prelude.{Commit, Content, Driver, Entry, Fetching, IsLegal, Operation, Outcome, Request, Retried, Script,
-    Seen, Setting, Setup, TheCheck, TheClean, TheCommit, TheSetup, TheSparing, Times, Who, asks, commit_asks, driver_entry, entry,
-    is_begun, is_decided, is_picking, is_reading, known, nothing_seen, see, see_all, seen, strange_entry, who}
+use Rattle.job_facts.specs.Prelude.{Commit, Content, Driver, Entry, Fetching, IsLegal, Operation, Outcome, Request, Retried, Script, Seen}
+use Rattle.job_facts.specs.Prelude.{Setting, Setup, TheCheck, TheClean, TheCommit, TheSetup, TheSparing, Times, Who, asks, commit_asks}
+use Rattle.job_facts.specs.Prelude.{driver_entry, entry, is_begun, is_decided, is_picking, is_reading, known, nothing_seen, see, see_all}
+use Rattle.job_facts.specs.Prelude.{seen, strange_entry, who}
 use Rattle.job_facts.proofs.Owning.{operation_own}
 use Rattle.job_facts.proofs.Sharing.{check_plain}
 use Rattle.job_traces.specs.Runs.{IsOpening, IsTimely, Runs, Stand, attempt_sends, driver_sends, is_set, nothing_learnt, strays}
@@ -28,27 +29,27 @@ module _ (g : Setting) (k : Times) (opening : Content) (j : IsLegal g.script) (i
   w = g.script
 
   commit_steady : (x : Stand) (n : ℕ) (r : Request) (o : Outcome) (c : Commit)
-        → Committing g opening x.told x.seen.picks x.seen.put_mark c → commit_asks w c ≡ Some r
-        → Steady w x.seen (see w k x.seen (driver_entry n r o))
+      → Committing g opening x.told x.seen.picks x.seen.put_mark c → commit_asks w c ≡ Some r
+      → Steady w x.seen (see w k x.seen (driver_entry n r o))
   commit_steady x n r o (Fetching sets m) i e = inr (undecided w x.seen.picks sets i.alone.decides i.unread)
   commit_steady x n r o c i e = inl (unread_picks w k x.seen n r (commit_unread w g.minimum x.told c refl i.alone.decides r e) o)
 
   -- nobody but the driver's own operations is at its place
   no_other : (x : Stand) (op : Operation) → Early g opening x ⊎ Late g opening x → x.driver ≡ Some op
-        → At g opening (Some op) x.seen x.told ⊎ Early g opening x
+      → At g opening (Some op) x.seen x.told ⊎ Early g opening x
   no_other x op (inl e) d = inr e
   no_other x op (inr l) d = inl (subst (λ v. At g opening v x.seen x.told) d l.driver)
 
   driver_steady : (es : List Entry) (x : Stand) (op : Operation) (n : ℕ) (r : Request) (o : Outcome) → Runs g k opening es x
-        → x.driver ≡ Some op → asks g (who Driver) nothing_learnt op ≡ Some r → IsTimely k n op
-        → Steady w x.seen (see w k x.seen (driver_entry n r o))
+      → x.driver ≡ Some op → asks g (who Driver) nothing_learnt op ≡ Some r → IsTimely k n op
+      → Steady w x.seen (see w k x.seen (driver_entry n r o))
   driver_steady es x (TheSetup t) n r o run d asked timely = inl (unread_picks w k x.seen n r (setup_plain w t.operation r asked).reads o)
   driver_steady es x (TheCommit c) n r o run d asked timely = commit_steady x n r o c (committing g k opening j is es x run c d) asked
   driver_steady es x (TheClean t) n r o run d asked timely = inl (unread_picks w k x.seen n r (clean_plain w t.operation r asked).1 o)
   driver_steady es x (TheCheck t) n r o run d asked timely = inl (unread_picks w k x.seen n r (check_plain w t.operation r asked).reads o)
   driver_steady es x (TheSparing t) n r o run d asked timely =
       let off : is_picking k x.seen.begun n ≡ false = ap (λ b. (x.seen.begun || is_begun k.commit n) && not b) timely
-            ∙ and-false (x.seen.begun || is_begun k.commit n) in
+      ∙ and-false (x.seen.begun || is_begun k.commit n) in
       inl (picks_still w k x.seen n r (λ t. ap (λ b. b && is_reading w t r) off) o)
   driver_steady es x op n r o run d asked timely = elim (no_other x op (good g k opening j is es x run) d) [
     | inl at ↦ absurd at
@@ -59,7 +60,7 @@ module _ (g : Setting) (k : Times) (opening : Content) (j : IsLegal g.script) (i
       other e = cc
 
   attempt_steady : (es : List Entry) (x : Stand) (a : Who) (op : Operation) (n : ℕ) (r : Request) (o : Outcome) → Runs g k opening es x
-        → is_set x.driver ≡ true → x.attempts a ≡ Some op
+      → is_set x.driver ≡ true → x.attempts a ≡ Some op
       → asks g a (known x.told a) op ≡ Some r → Steady w x.seen (see w k x.seen (entry a n r o))
   attempt_steady es x a op n r o run set at asked =
       let l = late_now g k opening j is es x run set in
@@ -73,16 +74,16 @@ module _ (g : Setting) (k : Times) (opening : Content) (j : IsLegal g.script) (i
   Settled es x = (m : ℕ) → m ≤ length es → is_decided w (seen w k opening es m).picks ≡ true → x.seen.picks ≡ (seen w k opening es m).picks
 
   more : (es : List Entry) (x z : Stand) (e : Entry) → Runs g k opening (es ++ e ∷ []) z → Steady w x.seen z.seen → Settled es x
-        → Settled (es ++ e ∷ []) z
+      → Settled (es ++ e ∷ []) z
   more es x z e run steady old m within decided = elim (cases_lt (length es) m) [
     | inl high ↦
         let long : length (es ++ e ∷ []) ≡ length es + 1 = length-append es (e ∷ []) in
         let all : take m (es ++ e ∷ []) ≡ es ++ e ∷ [] = take_all (es ++ e ∷ []) m (omega (arith, long, high)) in
         ap (λ (s : Seen). s.picks) (sees g k opening j is (es ++ e ∷ []) z run)
-              ∙ ap (λ l. (see_all w k (nothing_seen opening) l).picks) (sym all)
+        ∙ ap (λ l. (see_all w k (nothing_seen opening) l).picks) (sym all)
     | inr low ↦
         let same : (seen w k opening (es ++ e ∷ []) m).picks ≡ (seen w k opening es m).picks =
-              ap (λ l. (see_all w k (nothing_seen opening) l).picks) (take-append-le m es (e ∷ []) low) in
+        ap (λ l. (see_all w k (nothing_seen opening) l).picks) (take-append-le m es (e ∷ []) low) in
         let then = old m low (sym (ap (is_decided w) same) ∙ decided) in
         elim steady [
           | inl still ↦ still ∙ then ∙ sym same
@@ -93,9 +94,9 @@ module _ (g : Setting) (k : Times) (opening : Content) (j : IsLegal g.script) (i
   pub settled : (es : List Entry) (x : Stand) → Runs g k opening es x → Settled es x
   settled =
       each_run g k opening Settled (λ m within decided. ap (λ l. (see_all w k (nothing_seen opening) l).picks) (sym (take_all [] m
-            (omega arith)))) (λ es x b run may h. h)
+      (omega arith)))) (λ es x b run may h. h)
       (λ es x op n r o run d asked timely few honest h. more es x _ (driver_entry n r o)
-            (driver_sends es x op n r o run d asked timely few honest) (driver_steady es x op n r o run d asked timely) h)
+      (driver_sends es x op n r o run d asked timely few honest) (driver_steady es x op n r o run d asked timely) h)
       (λ es x a op n r o run set at asked honest h. more es x _ (entry a n r o) (attempt_sends es x a op n r o run set at asked honest)
-            (attempt_steady es x a op n r o run set at asked) h)
+      (attempt_steady es x a op n r o run set at asked) h)
       (λ es x n r o run f h. more es x _ (strange_entry n r o) (strays es x n r o run f) (inl refl) h)

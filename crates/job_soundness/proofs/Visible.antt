@@ -1,12 +1,12 @@
 -- Readers see what `view` shows at visible paths, and a job's files are at such paths.
-use Rattle.std.proofs.Common.{◌≡◌, ℕ, ◌==◌, ◌&&◌, ◌||◌, not, nat_eq, Bool, true, false, cond, List, [], ◌∷◌, ◌++◌, None, refl, sym, ap,
-    ◌∙◌, arith, inl, inr, if◌then◌else◌}
+use Rattle.std.proofs.Common.{◌≡◌, ℕ, ◌==◌, ◌&&◌, ◌||◌, not, nat_eq, Bool, true, false, cond, List, [], ◌∷◌, ◌++◌, None, refl, sym, ap, ◌∙◌}
+use Rattle.std.proofs.Common.{arith, inl, inr, if◌then◌else◌}
 use Rattle.std.proofs.lemmas.Bool.Decides.{nat_tests}
 use Rattle.std.proofs.lemmas.Bool.{false≢true}
 use Rattle.basics.specs.Parts.{parts_from, parts_of}
 use Rattle.job_spec.proofs.Common.{and_parts, not-true, or_parts, true_or_false, false_true}
-use Rattle.job_model.specs.Prelude.{list_any, begins_hidden, is_hidden, with_id, with_id_last, path_of, File, Script, IsLegal, IsGiven,
-    Path, Content}
+use Rattle.job_model.specs.Prelude.{list_any, begins_hidden, is_hidden, with_id, with_id_last, path_of, File, Script, IsLegal, IsGiven}
+use Rattle.job_model.specs.Prelude.{Path, Content}
 use Rattle.job_protocol.specs.Outputs.{files}
 use Rattle.job_protocol.specs.View.{is_folder, is_file_path, view}
 use Rattle.job_model.proofs.Unique.{id_bytes, unique_parts}
@@ -76,24 +76,24 @@ and_false true c h = h
 and_false false c h = refl
 
 first_shown : (x : ℕ) (part p : List ℕ) → list_any begins_hidden (parts_from 47 (part ++ x ∷ []) p) ≡ false
-      → (is_nil part && hides x) ≡ false
+    → (is_nil part && hides x) ≡ false
 first_shown x [] p h = hides_is x (first_part x [] p h)
 first_shown x (y ∷ part) p h = refl
 
 scanned : (part : List ℕ) (x : ℕ) (p : List ℕ) → is_folder (x ∷ p) ≡ false
-      → list_any begins_hidden (parts_from 47 part (x ∷ p)) ≡ false → is_visible_from (is_nil part) (x ∷ p) ≡ true
+    → list_any begins_hidden (parts_from 47 part (x ∷ p)) ≡ false → is_visible_from (is_nil part) (x ∷ p) ≡ true
 unfolding parts_from
 scanned part x [] folder h = rw (first_shown x part [] (rw folder at h), folder) refl
 scanned part x (y ∷ p) folder h = elim (true_or_false (x == 47)) [
   | inl e ↦
       let rest : list_any begins_hidden (parts_from 47 [] (y ∷ p)) ≡ false =
-            (or_parts (begins_hidden part) (list_any begins_hidden (parts_from 47 [] (y ∷ p))) (rw e at h)).1 in
+      (or_parts (begins_hidden part) (list_any begins_hidden (parts_from 47 [] (y ∷ p))) (rw e at h)).1 in
       ap (λ b. not b && is_visible_from (x == 47) (y ∷ p)) (and_false (is_nil part) (hides x) (slash_shows x e))
-            ∙ ap (λ b. is_visible_from b (y ∷ p)) e ∙ scanned [] y p folder rest
+      ∙ ap (λ b. is_visible_from b (y ∷ p)) e ∙ scanned [] y p folder rest
   | inr e ↦
       let rest : list_any begins_hidden (parts_from 47 (part ++ x ∷ []) (y ∷ p)) ≡ false = rw e at h in
       ap (λ b. not b && is_visible_from (x == 47) (y ∷ p)) (first_shown x part (y ∷ p) rest) ∙ ap (λ b. is_visible_from b (y ∷ p)) (e
-            ∙ sym (not_nil part x)) ∙ scanned (part ++ x ∷ []) y p folder rest
+      ∙ sym (not_nil part x)) ∙ scanned (part ++ x ∷ []) y p folder rest
 ]
 
 path_visible : (p : List ℕ) → is_folder p ≡ false → is_hidden p ≡ false → is_visible p ≡ true
@@ -105,13 +105,13 @@ path_visible (x ∷ p) f h = scanned [] x p f h
 shown_id : (id e : List ℕ) → begins_hidden e ≡ false → begins_hidden (with_id id e) ≡ false
 shown_id id [] h = refl
 shown_id id (x ∷ e) h = elim (x == 46) as (λ b. begins_hidden (if b then 45 ∷
-      (id ++ x ∷ e) else x ∷ with_id id e) ≡ false) [ true ↦ refl | false ↦ h ]
+    (id ++ x ∷ e) else x ∷ with_id id e) ≡ false) [ true ↦ refl | false ↦ h ]
 
 shown_last : (id : List ℕ) (es : List (List ℕ)) → list_any begins_hidden es ≡ false → list_any begins_hidden (with_id_last id es) ≡ false
 shown_last id [] h = refl
 shown_last id (e ∷ []) h = rw (shown_id id e (or_parts (begins_hidden e) false h).0) refl
 shown_last id (e ∷ f ∷ es) h = let b = or_parts (begins_hidden e) (list_any begins_hidden (f ∷ es)) h in
-      rw (b.0, shown_last id (f ∷ es) b.1) refl
+    rw (b.0, shown_last id (f ∷ es) b.1) refl
 
 module _ {w : Script} (j : IsLegal w) where
   shown_path : (u : Bool) (p : List ℕ) → IsGiven p → is_hidden (path_of u w.job p) ≡ false

@@ -1,7 +1,7 @@
 -- Of a moment that differs from the one before at one path alone, that path tells.
-use Rattle.soundness.proofs.Common.{Attempts, Unchanged, Claim, OthersFit, DifferAt, AttemptExplains, Files, Fits, List, MayShow, Moment,
-    None, Option, Shown, Whole, WhereChanged, bytes_eq, bytes_eq-Decides, false, file_at, inl, inr, is_kept, is_claimed, is_replaced,
-    subst, sym, true, writes, ℕ, ◌∙◌, ◌≡◌, ◌≢◌, ◌⊎◌}
+use Rattle.soundness.proofs.Common.{Attempts, Unchanged, Claim, OthersFit, DifferAt, AttemptExplains, Files, Fits, List, MayShow, Moment}
+use Rattle.soundness.proofs.Common.{None, Option, Shown, Whole, WhereChanged, bytes_eq, bytes_eq-Decides, false, file_at, inl, inr, is_kept}
+use Rattle.soundness.proofs.Common.{is_claimed, is_replaced, subst, sym, true, writes, ℕ, ◌∙◌, ◌≡◌, ◌≢◌, ◌⊎◌}
 use Rattle.soundness.proofs.Owned.{either}
 
 pub at_path : (q p : List ℕ) → (q ≡ p) ⊎ (q ≢ p)
@@ -19,7 +19,7 @@ module _ {I : Type 0} (w : Claim I) (opening : Shown I) (p : List ℕ) (m n : Mo
   }
 
   pub does_on : (task : Attempts I) (files : Files I) → AttemptExplains w opening task m files → (writes task p ≡ true
-        → MayShow w opening n p (file_at files p)) → AttemptExplains w opening task n files
+      → MayShow w opening n p (file_at files p)) → AttemptExplains w opening task n files
   does_on task files old here q o = elim (at_path q p) [
     | inl e ↦ subst (λ z. MayShow w opening n z (file_at files z)) (sym e) (here (subst (λ z. writes task z ≡ true) e o))
     | inr ne ↦ elsewhere q (file_at files q) ne (old q o)
@@ -32,7 +32,7 @@ module _ {I : Type 0} (w : Claim I) (opening : Shown I) (p : List ℕ) (m n : Mo
   ]
 
 pub calm_on : {I : Type 0} (opening : Shown I) (p : List ℕ) (m n : Moment I) → DifferAt p m n → Unchanged opening m
-      → n.shown p ≡ opening p → Unchanged opening n
+    → n.shown p ≡ opening p → Unchanged opening n
 calm_on opening p m n d calm here = record {
   shows = λ q. elim (at_path q p) [ inl e ↦ subst (λ z. n.shown z ≡ opening z) (sym e) here | inr ne ↦ d.shown q ne ∙ calm.shows q ];
   unmarked = λ e. calm.unmarked (sym d.marker ∙ e);

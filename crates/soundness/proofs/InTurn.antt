@@ -1,6 +1,6 @@
 -- A judge may look at one moment at a time.
-use Rattle.soundness.proofs.Common.{All, All-pop, All-push, Any, Attempts, Unchanged, Claim, OthersFit, AttemptExplains, InTurn,
-    StillExplains, Judged, JudgedNext, List, Moment, Shown, Some, [], get_or, inl, inr, refl, ◌++◌, ◌∷◌}
+use Rattle.soundness.proofs.Common.{All, All-pop, All-push, Any, Attempts, Unchanged, Claim, OthersFit, AttemptExplains, InTurn}
+use Rattle.soundness.proofs.Common.{StillExplains, Judged, JudgedNext, List, Moment, Shown, Some, [], get_or, inl, inr, refl, ◌++◌, ◌∷◌}
 use Rattle.soundness.proofs.ByTask.{by_task}
 
 pub both_of : {X : Type 0} (P : X → Type 0) (xs : List X) (x : X) → All P (xs ++ x ∷ []) → All P xs × P x
@@ -15,17 +15,20 @@ module _ {I : Type 0} (w : Claim I) (opening : Shown I) (moments : List (Moment 
       clear = both_of (OthersFit w opening) moments m c.others
 
       left : (task : Attempts I) → Any (StillExplains w opening (moments ++ m ∷ []) task) task
-            → Any (λ files. StillExplains w opening moments task files × AttemptExplains w opening task m files) task
+          → Any (λ files. StillExplains w opening moments task files × AttemptExplains w opening task m files) task
       left task a = (a.0, a.1, a.2, a.3, both_of (λ n. AttemptExplains w opening task n a.1) moments m a.4)
 
   back : JudgedNext w opening moments m → Judged w opening (moments ++ m ∷ [])
   back (inl calm) = inl (All-push (Unchanged opening) moments m calm.0 calm.1)
-  back (inr c) = inr (record { each = λ k d l. left (get_or w.tasks k d) (c.each k d l); others =
-        All-push (OthersFit w opening) moments m c.others_before c.others })
+  back (inr c) = inr (record {
+    each = λ k d l. left (get_or w.tasks k d) (c.each k d l);
+    others =
+        All-push (OthersFit w opening) moments m c.others_before c.others;
+  })
     where
       left : (task : Attempts I) → Any
-            (λ files. StillExplains w opening moments task files × AttemptExplains w opening task m files) task
-            → Any (StillExplains w opening (moments ++ m ∷ []) task) task
+          (λ files. StillExplains w opening moments task files × AttemptExplains w opening task m files) task
+          → Any (StillExplains w opening (moments ++ m ∷ []) task) task
       left task a = (a.0, a.1, a.2, a.3, All-push (λ n. AttemptExplains w opening task n a.1) moments m a.4.0 a.4.1)
 
 pub in_turn : (I : Type 0) → InTurn I

@@ -81,7 +81,7 @@ writes_into d files = list_any (λ file. bytes_eq d (directory file.0)) files
 abbrev pub always_reaches : {I : Type 0} → List ℕ → Attempts I → Bool
 always_reaches p [] = false
 always_reaches p (files ∷ others) = list_any (λ file. is_below (directory file.0) p && list_all (writes_into
-      (directory file.0)) others) files
+    (directory file.0)) others) files
 
 -- Whether a job that keeps so much keeps a path, by whether some attempt reaches it.
 abbrev pub kept_by : Keeps → Bool → Bool

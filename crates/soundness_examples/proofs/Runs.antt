@@ -1,6 +1,6 @@
 -- Runs that are sound and runs that are not, by what readers see at the paths that are written out.
-use Rattle.std.proofs.Common.{◌≡◌, ◌⊎◌, ℕ, zero, suc, ◌<◌, Bool, true, false, List, [], ◌∷◌, ◌++◌, Option, Some, None, refl, sym, subst,
-      ◌∙◌, arith, inl, inr, codes, get_or}
+use Rattle.std.proofs.Common.{◌≡◌, ◌⊎◌, ℕ, zero, suc, ◌<◌, Bool, true, false, List, [], ◌∷◌, ◌++◌, Option, Some, None, refl, sym, subst}
+use Rattle.std.proofs.Common.{◌∙◌, arith, inl, inr, codes, get_or}
 use Rattle.std.specs.Prelude.{◌≢◌}
 use Rattle.std.specs.List.{All, AllByRecursion}
 use Rattle.std.specs.Str.{bytes_eq}
@@ -21,7 +21,7 @@ none_some e = cc
 
 -- a choice of the one task is one of its two attempts
 either : (keeps : Keeps) (P : List (Files ℕ) → Type 0) → P (written 3 ∷ []) → P (written 4 ∷ []) → (choice : List (Files ℕ))
-      → Chooses (two_attempts keeps).tasks choice → P choice
+    → Chooses (two_attempts keeps).tasks choice → P choice
 either keeps P three four [] c = absurd c
 either keeps P three four (files ∷ []) c = by c.0.0 c.0.1 c.0.2
   where
@@ -37,7 +37,7 @@ unsound : (keeps : Keeps) (moments : List (Moment ℕ)) → (All (Unchanged (fil
     → (All (Explains (two_attempts keeps) (file_at opening) (written 4 ∷ [])) (run moments) → ⊥) → IsSound (two_attempts keeps) moments → ⊥
 unsound keeps moments unchanged three four (inl calm) = unchanged calm
 unsound keeps moments unchanged three four (inr c) = either keeps (λ choice. All (Explains (two_attempts keeps)
-      (file_at opening) choice) (run moments) → ⊥) three four c.0 c.1 c.2
+    (file_at opening) choice) (run moments) → ⊥) three four c.0 c.1 c.2
 
 some_moment : Moment ℕ
 some_moment = moment false Absent []
@@ -74,29 +74,29 @@ new = codes "a/new"
 pub unsound_runs : UnsoundRuns
 unsound_runs = record {
   early = unsound Everything (moment false Absent (opening ++ written 3)
-        ∷ []) (λ all. none_some (sym ((all 1 some_moment (omega arith)).shows new)))
+      ∷ []) (λ all. none_some (sym ((all 1 some_moment (omega arith)).shows new)))
       (λ all. none_some (sym (((all 1 some_moment (omega arith)) new).before refl))) (λ all. none_some (sym (((all 1 some_moment
-            (omega arith)) new).before refl)));
+      (omega arith)) new).before refl)));
   missing = missing_in;
   foreign = unsound Everything (moment true Absent ((codes "c", 5) ∷ opening)
-        ∷ []) (λ all. none_some (sym ((all 1 some_moment (omega arith)).shows (codes "c"))))
+      ∷ []) (λ all. none_some (sym ((all 1 some_moment (omega arith)).shows (codes "c"))))
       (λ all. no_sum ((((all 1 some_moment (omega arith)) (codes "c")).between refl).only 5 refl)) (λ all. no_sum ((((all 1 some_moment
-            (omega arith)) (codes "c")).between refl).only 5 refl));
+      (omega arith)) (codes "c")).between refl).only 5 refl));
   lost = unsound Everything (moment true Absent ((codes "b/old", 2) ∷ []) ∷ moment true New (opening ++ written 3)
-        ∷ []) (λ all. none_some ((all 1 some_moment (omega arith)).shows old))
+      ∷ []) (λ all. none_some ((all 1 some_moment (omega arith)).shows old))
       (λ all. none_some ((((all 1 some_moment (omega arith)) old).between refl).stays 1 refl refl refl)) (λ all. none_some
-            ((((all 1 some_moment (omega arith)) old).between refl).stays 1 refl refl refl));
+      ((((all 1 some_moment (omega arith)) old).between refl).stays 1 refl refl refl));
   torn = unsound Everything (moment true Absent (opening ++ written 3) ∷ moment true Absent (opening ++ written 4)
-        ∷ []) (λ all. none_some (sym ((all 1 some_moment (omega arith)).shows new)))
+      ∷ []) (λ all. none_some (sym ((all 1 some_moment (omega arith)).shows new)))
       (λ all. other_number 3 4 (λ e. omega (arith, e)) ((((all 2 some_moment (omega arith)) new).between refl).only 4 refl))
       (λ all. other_number 4 3 (λ e. omega (arith, e)) ((((all 1 some_moment (omega arith)) new).between refl).only 3 refl));
   stale = unsound Everything (moment true Old (opening ++ written 3)
-        ∷ []) (λ all. none_some (sym ((all 1 some_moment (omega arith)).shows new)))
+      ∷ []) (λ all. none_some (sym ((all 1 some_moment (omega arith)).shows new)))
       (λ all. none_some (sym (((all 1 some_moment (omega arith)) new).stale refl))) (λ all. none_some (sym (((all 1 some_moment
-            (omega arith)) new).stale refl)));
+      (omega arith)) new).stale refl)));
   half = unsound Everything (moment true New opening ∷ []) (λ all. (all 1 some_moment (omega arith)).unmarked refl)
       (λ all. none_some ((((all 1 some_moment (omega arith)) new).whole refl).written 3 refl)) (λ all. none_some ((((all 1 some_moment
-            (omega arith)) new).whole refl).written 4 refl));
+      (omega arith)) new).whole refl).written 4 refl));
   left = unsound Nothing (moment true New ((codes "b/old", 2) ∷ written 3) ∷ []) (λ all. (all 1 some_moment (omega arith)).unmarked refl)
       (λ all. none_some (sym ((((all 1 some_moment (omega arith)) other).whole refl).goes refl 2 refl refl)))
       (λ all. none_some (sym ((((all 1 some_moment (omega arith)) other).whole refl).goes refl 2 refl refl)));
@@ -130,7 +130,7 @@ file_stays begun marker is_kept o = record {
 
 -- until a new marker exists each opening file may stay
 as_before : (begun : Bool) (marker : Marker) → marker ≢ New → (is_kept is_replaced : Bool) (o f : Option ℕ)
-      → Allows begun marker is_kept is_replaced o f o
+    → Allows begun marker is_kept is_replaced o f o
 as_before begun marker unmarked is_kept is_replaced o f = record {
   before = λ h. refl;
   between = λ h. record { only = λ x e. inl e; stays = λ x e k n. e };
@@ -140,13 +140,18 @@ as_before begun marker unmarked is_kept is_replaced o f = record {
 
 -- a chosen file, once the commit has begun
 file_written : (marker : Marker) → marker ≢ Old → (is_kept is_replaced : Bool) (o : Option ℕ) (y : ℕ)
-      → Allows true marker is_kept is_replaced o (Some y) (Some y)
+    → Allows true marker is_kept is_replaced o (Some y) (Some y)
 file_written marker fresh is_kept is_replaced o y = record {
   before = λ h. absurd cc;
   between = λ h. record { only = λ x e. inr e; stays = λ x e k n. absurd (none_some (sym n)) };
   stale = λ h. absurd (fresh h);
-  whole = λ h. record { written = λ x e. e; only = λ n x e. absurd (none_some (sym n)); stays = λ n x e k. absurd (none_some
-        (sym n)); goes = λ n x e k. absurd (none_some (sym n)) };
+  whole = λ h. record {
+    written = λ x e. e;
+    only = λ n x e. absurd (none_some (sym n));
+    stays = λ n x e k. absurd (none_some
+        (sym n));
+    goes = λ n x e k. absurd (none_some (sym n));
+  };
 }
 
 -- an opening file that is not kept may go, once the commit has begun
@@ -155,8 +160,13 @@ file_gone marker fresh is_replaced o = record {
   before = λ h. absurd cc;
   between = λ h. record { only = λ x e. absurd (none_some e); stays = λ x e k n. absurd cc };
   stale = λ h. absurd (fresh h);
-  whole = λ h. record { written = λ x e. absurd (none_some e); only = λ n x e. absurd
-        (none_some e); stays = λ n x e k. absurd cc; goes = λ n x e k. refl };
+  whole = λ h. record {
+    written = λ x e. absurd (none_some e);
+    only = λ n x e. absurd
+        (none_some e);
+    stays = λ n x e k. absurd cc;
+    goes = λ n x e k. refl;
+  };
 }
 
 -- a moment is explained where it is at the three paths that are written out, and readers see nothing elsewhere
@@ -165,7 +175,7 @@ test_of true = inl refl
 test_of false = inr refl
 
 at_paths : (P : List ℕ → Type 0) → P old → P other → P new → ((p : List ℕ) → bytes_eq p old ≡ false → bytes_eq p other ≡ false
-      → bytes_eq p new ≡ false → P p) → (p : List ℕ) → P p
+    → bytes_eq p new ≡ false → P p) → (p : List ℕ) → P p
 at_paths P a b c none p = elim (test_of (bytes_eq p old)) [
   | inl e ↦ subst P (sym ((bytes_eq-Decides p old).0 e)) a
   | inr x ↦ elim (test_of (bytes_eq p other)) [
@@ -179,10 +189,10 @@ module _ (keeps : Keeps) (n : ℕ) (begun : Bool) (marker : Marker) (files : Fil
   May p = MayShow (two_attempts keeps) (file_at opening) (moment begun marker files) p (chosen_at (written n ∷ []) p)
 
   explained : May old → May other → May new → ((p : List ℕ) → bytes_eq p old ≡ false → bytes_eq p other ≡ false
-        → bytes_eq p new ≡ false → file_at files p ≡ None)
+      → bytes_eq p new ≡ false → file_at files p ≡ None)
       → Explains (two_attempts keeps) (file_at opening) (written n ∷ []) (moment begun marker files)
   explained a b c none = at_paths May a b c (λ p x y z. nothing_there (file_at opening p) (chosen_at (written n
-        ∷ []) p) (file_at files p) (rw (x, y) refl) (rw z refl) (none p x y z))
+      ∷ []) p) (file_at files p) (rw (x, y) refl) (rw z refl) (none p x y z))
 
 not_new : Absent ≢ New
 not_new e = cc
@@ -210,41 +220,45 @@ abbrev Each : Keeps → ℕ → List (Moment ℕ) → Type 0
 Each keeps n moments = AllByRecursion (Explains (two_attempts keeps) (file_at opening) (written n ∷ [])) moments
 
 sound_by : (keeps : Keeps) (n : ℕ) (moments : List (Moment ℕ)) → Chooses (two_attempts keeps).tasks (written n ∷ [])
-      → Each keeps n moments → IsSound (two_attempts keeps) moments
-sound_by keeps n moments chooses each = inr (written n ∷ [], chooses, All-from_recursion (Explains (two_attempts keeps)
-      (file_at opening) (written n ∷ [])) (run moments) (first keeps n, each))
+    → Each keeps n moments → IsSound (two_attempts keeps) moments
+sound_by keeps n moments chooses each = inr (
+  written n ∷ [],
+  chooses,
+  All-from_recursion (Explains (two_attempts keeps)
+      (file_at opening) (written n ∷ [])) (run moments) (first keeps n, each),
+)
 
 pub sound_runs : SoundRuns
 sound_runs = record {
   everything = sound_by Everything 3 (moment true Absent opening ∷ moment true Absent (opening ++ written 3)
-        ∷ moment true New (opening ++ written 3) ∷ []) (the_first Everything) (
-    (λ p. as_before true Absent not_new _ _ (file_at opening p) (chosen_at (written 3 ∷ []) p)),
-    (
-      explained Everything 3 true Absent (opening ++ written 3) (file_stays true Absent true (Some 1)) (file_stays true Absent true
-            (Some 2)) (file_written Absent absent_no_old true false None 3) (λ p x y z. rw (x, y, z) refl),
-      (
-        explained Everything 3 true New (opening ++ written 3) (file_stays true New true (Some 1)) (file_stays true New true (Some 2))
-              (file_written New new_no_old true false None 3) (λ p x y z. rw (x, y, z) refl),
-        tt,
-      ),
-    ),
-  );
+      ∷ moment true New (opening ++ written 3) ∷ []) (the_first Everything) (
+        (λ p. as_before true Absent not_new _ _ (file_at opening p) (chosen_at (written 3 ∷ []) p)),
+        (
+          explained Everything 3 true Absent (opening ++ written 3) (file_stays true Absent true (Some 1)) (file_stays true Absent true
+              (Some 2)) (file_written Absent absent_no_old true false None 3) (λ p x y z. rw (x, y, z) refl),
+          (
+            explained Everything 3 true New (opening ++ written 3) (file_stays true New true (Some 1)) (file_stays true New true (Some 2))
+                (file_written New new_no_old true false None 3) (λ p x y z. rw (x, y, z) refl),
+            tt,
+          ),
+        ),
+      );
   partitions = sound_by Partitions 4 (moment true Absent ((codes "b/old", 2) ∷ written 4) ∷ moment true New ((codes "b/old", 2)
-        ∷ written 4) ∷ []) (the_second Partitions) (
-    explained Partitions 4 true Absent ((codes "b/old", 2) ∷ written 4) (file_gone Absent absent_no_old true (Some 1))
-          (file_stays true Absent true (Some 2)) (file_written Absent absent_no_old false true None 4) (λ p x y z. rw (y, z) refl),
-    (
-      explained Partitions 4 true New ((codes "b/old", 2) ∷ written 4) (file_gone New new_no_old true (Some 1))
-            (file_stays true New true (Some 2)) (file_written New new_no_old false true None 4) (λ p x y z. rw (y, z) refl),
-      tt,
-    ),
-  );
+      ∷ written 4) ∷ []) (the_second Partitions) (
+        explained Partitions 4 true Absent ((codes "b/old", 2) ∷ written 4) (file_gone Absent absent_no_old true (Some 1))
+            (file_stays true Absent true (Some 2)) (file_written Absent absent_no_old false true None 4) (λ p x y z. rw (y, z) refl),
+        (
+          explained Partitions 4 true New ((codes "b/old", 2) ∷ written 4) (file_gone New new_no_old true (Some 1))
+              (file_stays true New true (Some 2)) (file_written New new_no_old false true None 4) (λ p x y z. rw (y, z) refl),
+          tt,
+        ),
+      );
   nothing = sound_by Nothing 3 (moment true Absent [] ∷ moment true New (written 3) ∷ []) (the_first Nothing) (
     explained Nothing 3 true Absent [] (file_gone Absent absent_no_old true (Some 1)) (file_gone Absent absent_no_old true (Some 2))
-          (as_before true Absent not_new false true None (Some 3)) (λ p x y z. refl),
+        (as_before true Absent not_new false true None (Some 3)) (λ p x y z. refl),
     (
       explained Nothing 3 true New (written 3) (file_gone New new_no_old true (Some 1)) (file_gone New new_no_old true (Some 2))
-            (file_written New new_no_old false true None 3) (λ p x y z. rw z refl),
+          (file_written New new_no_old false true None 3) (λ p x y z. rw z refl),
       tt,
     ),
   );
@@ -252,7 +266,7 @@ sound_runs = record {
     (λ p. as_before true Old not_new_old _ _ (file_at opening p) (chosen_at (written 3 ∷ []) p)),
     (
       explained Everything 3 true Absent (opening ++ written 3) (file_stays true Absent true (Some 1)) (file_stays true Absent true
-            (Some 2)) (file_written Absent absent_no_old true false None 3) (λ p x y z. rw (x, y, z) refl),
+          (Some 2)) (file_written Absent absent_no_old true false None 3) (λ p x y z. rw (x, y, z) refl),
       tt,
     ),
   );

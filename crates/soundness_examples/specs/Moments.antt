@@ -41,10 +41,10 @@ IsSound claim moments = Sound claim (file_at opening) (run moments)
 pub record SoundRuns : Type 0 where
   -- All opening files stay.
   pub everything : IsSound (two_attempts Everything) (moment true Absent opening ∷ moment true Absent (opening ++ written 3)
-        ∷ moment true New (opening ++ written 3) ∷ [])
+      ∷ moment true New (opening ++ written 3) ∷ [])
   -- `a/old` goes, since each attempt writes into `a`, and `b/old` stays.
   pub partitions : IsSound (two_attempts Partitions) (moment true Absent ((codes "b/old", 2) ∷ written 4)
-        ∷ moment true New ((codes "b/old", 2) ∷ written 4) ∷ [])
+      ∷ moment true New ((codes "b/old", 2) ∷ written 4) ∷ [])
   -- No opening file stays.
   pub nothing : IsSound (two_attempts Nothing) (moment true Absent [] ∷ moment true New (written 3) ∷ [])
   -- Readers see the opening files alone while an old marker exists, and the job ends without one.
@@ -62,10 +62,10 @@ pub record UnsoundRuns : Type 0 where
   pub foreign : IsSound (two_attempts Everything) (moment true Absent ((codes "c", 5) ∷ opening) ∷ []) → ⊥
   -- An opening file that the job keeps is gone, though at the end it is back.
   pub lost : IsSound (two_attempts Everything) (moment true Absent ((codes "b/old", 2) ∷ []) ∷ moment true New (opening ++ written 3)
-        ∷ []) → ⊥
+      ∷ []) → ⊥
   -- Readers see the file of one attempt, and later that of the other: no one choice explains both moments.
   pub torn : IsSound (two_attempts Everything) (moment true Absent (opening ++ written 3) ∷ moment true Absent (opening ++ written 4)
-        ∷ []) → ⊥
+      ∷ []) → ⊥
   -- An old marker exists while readers see a new file.
   pub stale : IsSound (two_attempts Everything) (moment true Old (opening ++ written 3) ∷ []) → ⊥
   -- A new marker exists, and the job's file is not there.

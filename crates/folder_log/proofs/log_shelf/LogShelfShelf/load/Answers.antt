@@ -6,7 +6,8 @@ use Rattle.folder_log.proofs.log_shelf.LogShelfShelf.load.Goals as goal
 
 pub loaded-requires : goal.loaded-requires
 loaded-requires g c =
-    rw c.in-Ok-Some.field-0-is (read_small (g.D.LogDisk.seen c.sync.new.self) (Some c.in-Ok-Some.file) (rw c.in-Ok-Some.field-0-is at c.in-Ok-Some.ensures.bytes))
+    rw c.in-Ok-Some.field-0-is (read_small (g.D.LogDisk.seen c.sync.new.self) (Some c.in-Ok-Some.file)
+    (rw c.in-Ok-Some.field-0-is at c.in-Ok-Some.ensures.bytes))
 
 pub returns-in-Ok-Some-clause-begins_none : goal.returns-in-Ok-Some-clause-begins_none
 returns-in-Ok-Some-clause-begins_none g c = begins_none _ _ _ _ _ c.args.self.now.sure (c.read.ensures.seen ∙ c.sync.ensures.seen)
