@@ -1,10 +1,16 @@
-use Rattle.s3a_shell.specs.Doings.{FileOrNot}
+use Rattle.std.specs.Prelude.{◌≡◌, ◌≤◌, ℕ, Bool, List, false, length, nat_lt, OnOk}
+use Rattle.s3a_shell.specs.Doings.{FileOrNot, most_input}
+use Rattle.s3a_shell.specs.Sendings.{Asked}
 use Rattle.s3a_shell.proofs.Joining.{sent_none}
 use Rattle.s3a_shell.proofs.Performing.{on_ok, none_stands}
 use Rattle.s3a_shell.proofs.Asking.{asked_none}
-use Rattle.s3a_shell.specs.Asking.{PutSends}
-use Rattle.std.proofs.Common.{refl}
+use Rattle.s3a_shell.specs.Asking.{PutSends, PutSendsUnless}
+use Rattle.std.proofs.Common.{refl, arith, subst, sym}
 use Rattle.s3a_shell.proofs.session.Session.put.Goals as goal
+
+-- an input of no more bytes than the most is not refused
+is_small : (bytes lent : List ℕ) → lent ≡ bytes → length lent ≤ most_input → false ≡ nat_lt most_input (length bytes)
+is_small bytes lent same few = grind arith
 
 pub returns-then-as_slice-gt-MOST_INPUT-clause-sent :
     goal.returns-then-as_slice-gt-MOST_INPUT-clause-sent
@@ -18,3 +24,10 @@ returns-then-as_slice-gt-MOST_INPUT-clause-asked c =
     on_ok c.refusing.result (asked_none
     (PutSends c.args.path.now c.args.bytes.now c.args.overwrite c.args.policy c.args.self.now.store.scene) c.args.self.now
     c.args.self.now refl)
+
+pub returns-clause-asked : goal.returns-clause-asked
+returns-clause-asked c =
+    let sends = λ (b : Bool). PutSendsUnless b c.args.path.now c.args.bytes.now c.args.overwrite c.args.policy c.args.self.now.store.scene
+    in
+    subst (λ (b : Bool). OnOk c.create.result (Asked (sends b) c.args.self.now c.create.new.self))
+    (is_small c.args.bytes.now c.as_slice.result.now c.as_slice.ensures c.if-as_slice-gt-MOST_INPUT.false) c.create.ensures.asked
