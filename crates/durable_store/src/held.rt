@@ -1,6 +1,7 @@
 ghost use Rattle.std.specs.Prelude.{◌≡◌, ◌≢◌, ◌<◌, ◌-◌, ◌^◌, Some, IfOk, OnOk, IsErrOf};
 ghost use Rattle.shelf.specs.Logged.{Stored, IsDurable, CrashesLeave};
 ghost use Rattle.shelf.specs.Logged.Holding.{Stands};
+ghost use Rattle.shelf.specs.Logged.Call.{Load};
 ghost use Rattle.store_image.specs.Fault.{number_of, place_in};
 ghost use Rattle.store_image.specs.Reading.{content_in};
 ghost use Rattle.s3_types.specs.Store.{Content};
@@ -97,8 +98,8 @@ pub fn load<F: Shelf>(alloc: Global, shelf: &mut F) -> Result<Held, ShelfStop>
     ensures any_moment { CrashesLeave F.sight shelf.old shelf.new (F.sight.may_leave shelf.old) }
     ensures durable { IfOk result (λ held.
         WhereSound held (IsDurable (F.sight.held shelf.new) (F.sight.may_leave shelf.new))) }
-    ensures answered { (IsErrOf result ShelfStop.Failed → ⊥) → F.sight.answers shelf.old shelf.new }
-    ensures broken { IsErrOf result ShelfStop.Failed → F.sight.fails shelf.old shelf.new }
+    ensures answered { (IsErrOf result ShelfStop.Failed → ⊥) → F.sight.answers Load shelf.old shelf.new }
+    ensures broken { IsErrOf result ShelfStop.Failed → F.sight.fails Load shelf.old shelf.new }
     ensures counted { Counts result (F.faults shelf.old) (F.faults shelf.new) }
 {
     match shelf.load() {

@@ -7,10 +7,10 @@
 //! an `append` leaves the changes before it, with the new one or without (`any_moment`), and once it
 //! answered Ok with the new one (`durable`); one that failed leaves them as before or grown by it
 //! (`one_of`). `replace` leaves the old file or the new base, and `load` nothing else than before. Over
-//! every disk each of its calls is counted, and one that did not fail made two calls of the disk, as a
-//! load does, one, as a replace, or four, as an append, or none where an append found no memory before
-//! the first (`answered`); after one that failed it takes no appends (`broken`), nor before a `replace`
-//! (`unused`). Which of its calls fail its disk says.
+//! every disk each of its calls is counted. One that did not fail made its own number of calls of the disk:
+//! a load two, a replace one, an append four, and an append that was out of memory none (`answered`,
+//! `starved`). One that failed made at most as many, and after it the shelf takes no appends (`broken`), nor
+//! does it before a `replace` (`unused`). Which of its calls fail its disk says.
 //!
 //! `MemDisk`: Such a disk in memory. It tells what a crash at any moment might have left, and which of
 //! its calls fail. `crash` gives the file that one leaves by what becomes of the ranges that were not

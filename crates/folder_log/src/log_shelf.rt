@@ -139,8 +139,8 @@ impl<D: LogDisk + Drop> Shelf for LogShelf<D> {
 
     ghost sight = { record {
       held = λ s. stored (D.seen s.disk);
-      answers = λ s t. Answers D.calls s t;
-      fails = λ s t. Fails D.calls s t;
+      answers = λ call s t. Answers D.calls call s t;
+      fails = λ call s t. Fails D.calls call s t;
       may_leave = λ s h. Leaves (D.may_leave s.disk) h;
       moment = λ s. D.moment s.disk;
       left_since = λ s t h. Leaves (D.left_since s.disk t) h;

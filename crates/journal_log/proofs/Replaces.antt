@@ -1,5 +1,7 @@
 -- What a call of `replace` leaves of a shelf.
-use Rattle.journal_log.proofs.Common.{Content, CrashesLeave, Failed, Holds, HoldsFresh, IsDurable, IsErrOf, IsTimed, List, NotReplaced, Option, Replaced, Result, Rose, ShelfStop, Sight, Stored, [], arith, fresh, image, inl, refl, subst, ℕ, ◌-◌, ◌<◌, ◌^◌, ◌≡◌, ◌⊎◌}
+use Rattle.journal_log.proofs.Common.{Content, CrashesLeave, Failed, Holds, HoldsFresh, IsDurable, IsErrOf, IsTimed, List, NotReplaced}
+use Rattle.journal_log.proofs.Common.{Option, Replace, Replaced, Result, Rose, ShelfStop, Sight, Stored, [], arith, fresh, image, inl, refl}
+use Rattle.journal_log.proofs.Common.{subst, ℕ, ◌-◌, ◌<◌, ◌^◌, ◌≡◌, ◌⊎◌}
 use Rattle.journal_log.proofs.Leaving.{started}
 use Rattle.journal_log.specs.Images.{Counts}
 
@@ -11,7 +13,8 @@ module _ {S : Type 0} (F : Sight S) (old new : S) (c : Content) where
   leaves_image : (bytes : List ℕ) → bytes ≡ image c → CrashesLeave F old new (λ h. F.may_leave old h ⊎ (h ≡ fresh bytes)) → CrashesLeave F old new (λ h. F.may_leave old h ⊎ (h ≡ fresh (image c)))
   leaves_image bytes is leaves = subst (λ (b : List ℕ). CrashesLeave F old new (λ h. F.may_leave old h ⊎ (h ≡ fresh b))) is leaves
 
-  pub replaced : (bytes : List ℕ) → bytes ≡ image c → HoldsFresh (F.held old) (F.held new) bytes → IsDurable (F.held new) (F.may_leave new) → CrashesLeave F old new (λ h. F.may_leave old h ⊎ (h ≡ fresh bytes)) → F.answers old new → Replaced F c old new
+  pub replaced : (bytes : List ℕ) → bytes ≡ image c → HoldsFresh (F.held old) (F.held new) bytes → IsDurable (F.held new) (F.may_leave new)
+      → CrashesLeave F old new (λ h. F.may_leave old h ⊎ (h ≡ fresh bytes)) → F.answers Replace old new → Replaced F c old new
   replaced bytes is holds durable leaves answered = record { holds = holds_fresh (F.held old) (F.held new) c bytes holds is; durable = durable; leaves = leaves_image bytes is leaves; answered = answered }
 
 -- nothing was called

@@ -1,5 +1,9 @@
 -- How a run of appends goes on by one entry.
-use Rattle.journal_log.proofs.Common.{Appended, AreAnswered, CrashesLeave, Entry, Failed, HoldsGrown, HoldsGrownBy, HoldsOneOf, HoldsSome, IfErr, IsBetween, IsDurable, IsErrOf, IsTimed, List, NoMemory, OnOk, Request, Result, ShelfStop, Sight, Stopped, Stops, [], ap, append_assoc, arith, changes, drop, get_or, inl, inr, length, length-drop, refl, subst, sym, take, take-append-drop, take_all, take_more, told, ℕ, ◌++◌, ◌+◌, ◌-◌, ◌<◌, ◌∙◌, ◌∷◌, ◌≡◌}
+use Rattle.journal_log.proofs.Common.{Append, AppendOutOfMemory, Appended, AreAnswered, CrashesLeave, Entry, Failed, HoldsGrown}
+use Rattle.journal_log.proofs.Common.{HoldsGrownBy, HoldsOneOf, HoldsSome, IfErr, IsBetween, IsDurable, IsErrOf, IsTimed, List, NoMemory}
+use Rattle.journal_log.proofs.Common.{OnOk, Request, Result, ShelfStop, Sight, Stopped, Stops, [], ap, append_assoc, arith, changes, drop}
+use Rattle.journal_log.proofs.Common.{get_or, inl, inr, length, length-drop, refl, subst, sym, take, take-append-drop, take_all, take_more}
+use Rattle.journal_log.proofs.Common.{told, ℕ, ◌++◌, ◌+◌, ◌-◌, ◌<◌, ◌∙◌, ◌∷◌, ◌≡◌}
 use Rattle.journal_log.proofs.Journals.{changes_append, changes_none}
 use Rattle.journal_log.proofs.Standing.{holds_none, holds_one, holds_then}
 use Rattle.journal_log.proofs.Leaving.{at_first, so_far, started, widened, goes_on}
@@ -39,7 +43,8 @@ module _ {S : Type 0} (F : Sight S) where
   nothing s durable = record { grown = holds_none (F.held s); durable = durable; answered = refl }
 
   -- one change
-  pub once : (old new : S) (r : Request) → HoldsGrown (F.held old) (F.held new) r → IsDurable (F.held new) (F.may_leave new) → F.answers old new → Appended F (r ∷ []) old new
+  pub once : (old new : S) (r : Request) → HoldsGrown (F.held old) (F.held new) r → IsDurable (F.held new) (F.may_leave new)
+      → F.answers Append old new → Appended F (r ∷ []) old new
   once old new r grown durable answered = record { grown = holds_one (F.held old) (F.held new) r grown; durable = durable; answered = (new, answered, refl) }
 
   pub both : (old mid new : S) (rs qs : List Request) → Appended F rs old mid → Appended F qs mid new → Appended F (rs ++ qs) old new
@@ -69,12 +74,15 @@ module _ {S : Type 0} (F : Sight S) where
       regrouped = simp append_assoc
 
   -- what one call of `append` says
-  pub appended_by : {A : Type 0} (result : Result A ShelfStop) (old new : S) (r : Request) → OnOk result (HoldsGrown (F.held old) (F.held new) r) → OnOk result (IsDurable (F.held new) (F.may_leave new)) → ((IsErrOf result Failed → ⊥) → F.answers old new)
+  pub appended_by : {A : Type 0} (result : Result A ShelfStop) (old new : S) (r : Request)
+      → OnOk result (HoldsGrown (F.held old) (F.held new) r) → OnOk result (IsDurable (F.held new) (F.may_leave new))
+      → OnOk result (F.answers Append old new)
       → OnOk result (Appended F (r ∷ []) old new)
   appended_by result old new r h g e = grind arith
 
   pub stopped_by : {A : Type 0} (result : Result A ShelfStop) (old new : S) (r : Request) → (IsErrOf result NoMemory → F.held new ≡ F.held old) → (IsErrOf result Failed → HoldsOneOf (F.held old) (F.held new) r)
-      → ((IsErrOf result Failed → ⊥) → F.answers old new) → (IsErrOf result Failed → F.fails old new) → IfErr result (λ e. Stopped F e (r ∷ []) old new)
+      → (IsErrOf result NoMemory → F.answers AppendOutOfMemory old new) → (IsErrOf result Failed → F.fails Append old new)
+      → IfErr result (λ e. Stopped F e (r ∷ []) old new)
   stopped_by result old new r h g e f = grind (arith, stopped_once)
 
   -- ---- a loop over entries

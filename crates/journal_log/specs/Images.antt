@@ -2,6 +2,7 @@
 use Rattle.std.specs.Prelude.{◌≡◌, ◌⊎◌, ℕ, ◌<◌, [], Result, Err}
 use Rattle.store_frame.specs.Prelude.{Content}
 use Rattle.shelf.specs.Logged.{fresh, IsDurable, Sight, CrashesLeave}
+use Rattle.shelf.specs.Logged.Call.{Replace}
 use Rattle.shelf.specs.declared.kept.ShelfStop.{ShelfStop}
 use Rattle.shelf.specs.declared.kept.ShelfStop.TheVariants.{Failed}
 use Rattle.store_image.specs.Image.{image}
@@ -12,12 +13,12 @@ pub record Replaced {S : Type 0} (F : Sight S) (c : Content) (old new : S) : Typ
   pub holds : Holds (F.held new) c []
   pub durable : IsDurable (F.held new) (F.may_leave new)
   pub leaves : CrashesLeave F old new (λ h. F.may_leave old h ⊎ (h ≡ fresh (image c)))
-  pub answered : F.answers old new
+  pub answered : F.answers Replace old new
 
 -- it was not: the shelf holds what it held, and was called once at most, and that failed
 pub record NotReplaced {S : Type 0} (F : Sight S) (c : Content) (old new : S) : Type 0 where
   pub same : F.held new ≡ F.held old
-  pub calls : (old ≡ new) ⊎ F.fails old new
+  pub calls : (old ≡ new) ⊎ F.fails Replace old new
   pub leaves : CrashesLeave F old new (λ h. F.may_leave old h ⊎ (h ≡ fresh (image c)))
 
 -- a shelf's count of faults rose where it failed, and else stands

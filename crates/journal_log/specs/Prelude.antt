@@ -15,6 +15,7 @@ pub use Rattle.s3_types.specs.declared.journal.Outcome.TheVariants.{ReplyLost, R
 pub use Rattle.s3_types.specs.declared.request.NamedPart.{NamedPart}
 pub use Rattle.shelf.specs.Devices.{Appends, Rose}
 pub use Rattle.shelf.specs.Logged.{CrashesLeave, Holding, HoldsGrown, IsDurable, IsSmall, IsTimed, Sight, Stored, fresh, most_base, most_file}
+pub use Rattle.shelf.specs.Logged.Call.{Append, AppendOutOfMemory, Load, Replace}
 pub use Rattle.shelf.specs.declared.kept.ShelfStop.{ShelfStop}
 pub use Rattle.shelf.specs.declared.kept.ShelfStop.TheVariants.{Failed, NoMemory}
 pub use Rattle.std.specs.Fmt.{decimal}

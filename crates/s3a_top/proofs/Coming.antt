@@ -1,5 +1,8 @@
 -- What comes of words, by what came of their command.
-use Rattle.s3a_top.proofs.Common.{Bool, Comes, Command, Counted, CrashesLeave, Err, Goes, IsAnswered, IsStopped, IsTimed, IsWritten, JobGoes, JobHalted, JobPlayed, JobSince, JobStopped, List, MayHaveLeft, None, Ok, Option, Result, Sight, Some, Stop, StoreDone, StoreGoes, StoreHalted, StoreStopped, Work, code, false, inl, inr, plays, refl, subst, sym, true, written_text, ℕ, ◌≡◌, ◌⊎◌}
+use Rattle.s3a_top.proofs.Common.{Bool, Comes, Command, Counted, CrashesLeave, Err, Goes, IsAnswered, IsStopped, IsTimed, IsWritten}
+use Rattle.s3a_top.proofs.Common.{JobGoes, JobHalted, JobPlayed, JobSince, JobStopped, List, Load, MayHaveLeft, None, Ok, Option, Result}
+use Rattle.s3a_top.proofs.Common.{Sight, Some, Stop, StoreDone, StoreGoes, StoreHalted, StoreStopped, Work, code, false, inl, inr, plays}
+use Rattle.s3a_top.proofs.Common.{refl, subst, sym, true, written_text, ℕ, ◌≡◌, ◌⊎◌}
 use Rattle.s3a_top.specs.declared.stop.Stop.TheVariants.{Usage, NoMemory}
 use Rattle.s3a_top.proofs.Crashing.{unmoved}
 use Rattle.s3a_top.proofs.Playing.{played_from}
@@ -18,7 +21,8 @@ not_said (Some d) c is is_not = absurd (cc)
 
 module _ {S : Type 0} (F : Sight S) (command : Command) (left rest : Option (List ℕ)) where
   -- since its shelf was loaded, and before
-  pub job_from : (result : Result Work Stop) → IsTimed F → (old mid new : S) → F.held mid ≡ F.held old → F.answers old mid → CrashesLeave F old mid (F.may_leave old) → JobSince F command left rest mid new result → JobGoes F command left rest old new result
+  pub job_from : (result : Result Work Stop) → IsTimed F → (old mid new : S) → F.held mid ≡ F.held old → F.answers Load old mid
+      → CrashesLeave F old mid (F.may_leave old) → JobSince F command left rest mid new result → JobGoes F command left rest old new result
   job_from (Ok work) timed old mid new same answered load over = played_from F timed command left rest old mid new work same answered load over
   job_from (Err stop) timed old mid new same answered load broke = job_halted F command left rest timed old mid new stop same answered load broke
 

@@ -12,7 +12,10 @@ pub use Rattle.exit_status.specs.Statuses.{code, memory_text, usage_text, writte
 pub use Rattle.exit_status.specs.declared.statuses.Status.{Status}
 pub use Rattle.job_spec.specs.Prelude.{CommitEnd, Decided, EndedSo, EventEnd, MOST_MINIMUM, NotBegun, OpEnd, Script, SetupEnd, Unended, end_verdict, past, verdict, verdict_or}
 pub use Rattle.journal_log.proofs.Leaving.{started, survives, then_on, told_all, told_more, widened}
-pub use Rattle.journal_log.specs.Prelude.{Appends, BucketContent, Content, CrashesLeave, Entry, Failed, HasEarlier, Holding, Holds, HoldsPart, IsContent, IsDurable, IsKept, IsLast, IsMoment, IsTimed, MakeBucket, NoMemory, NotReplaced, ShelfStop, Sight, Stored, WhereTold, apply_store, fresh, image, is_bucket, new_bucket, new_content}
+pub use Rattle.journal_log.specs.Prelude.{Appends, BucketContent, Content, CrashesLeave, Entry, Failed, HasEarlier, Holding, Holds}
+pub use Rattle.journal_log.specs.Prelude.{HoldsPart, IsContent, IsDurable, IsKept, IsLast, IsMoment, IsTimed, Load, MakeBucket, NoMemory}
+pub use Rattle.journal_log.specs.Prelude.{NotReplaced, ShelfStop, Sight, Stored, WhereTold, apply_store, fresh, image, is_bucket}
+pub use Rattle.journal_log.specs.Prelude.{new_bucket, new_content}
 pub use Rattle.basics.proofs.Common.{and_parts, append-nil, drop_all, drop_at, leb-true, length-take, length-take-le, nat_tests, take-append-drop, take_all, take_at}
 pub use Rattle.s3a_shell.specs.Commanded.{IsWork, plays, takes_input}
 pub use Rattle.s3a_top.specs.Bytes.{IsRead, IsTaken, TakesPart, WritesSome}

@@ -1,5 +1,9 @@
 -- What is told where the work stopped before anything was done.
-use Rattle.s3a_top.proofs.Common.{AreJobsOf, Command, Content, CrashesLeave, Entry, Err, Faulty, HasCause, HasReason, Held, IsDue, IsErrOf, IsFaulty, IsFound, IsIdle, IsMade, IsSoundly, IsTimed, IsToldOf, JobBroke, JobHalted, JobStopped, Jobs, List, MayHaveLeft, NoCommand, None, NotReplaced, Opens, Option, ShelfStop, Sight, Some, Status, Stop, StoreHalted, StoreStopped, Stored, Tells, Told, ap, code, inl, inr, is_sound, memory_text, of_shelf, reads_jobs, refl, status_of, stop_text, subst, sym, true, usage_text, ℕ, ◌∙◌, ◌≡◌, ◌⊎◌}
+use Rattle.s3a_top.proofs.Common.{AreJobsOf, Command, Content, CrashesLeave, Entry, Err, Faulty, HasCause, HasReason, Held, IsDue, IsErrOf}
+use Rattle.s3a_top.proofs.Common.{IsFaulty, IsFound, IsIdle, IsMade, IsSoundly, IsTimed, IsToldOf, JobBroke, JobHalted, JobStopped, Jobs}
+use Rattle.s3a_top.proofs.Common.{List, Load, MayHaveLeft, NoCommand, None, NotReplaced, Opens, Option, ShelfStop, Sight, Some, Status}
+use Rattle.s3a_top.proofs.Common.{Stop, StoreHalted, StoreStopped, Stored, Tells, Told, ap, code, inl, inr, is_sound, memory_text, of_shelf}
+use Rattle.s3a_top.proofs.Common.{reads_jobs, refl, status_of, stop_text, subst, sym, true, usage_text, ℕ, ◌∙◌, ◌≡◌, ◌⊎◌}
 use Rattle.shelf.specs.declared.kept.ShelfStop.TheVariants as shelves
 use Rattle.exit_status.specs.declared.statuses.Status.TheVariants as statuses
 use Rattle.s3a_top.specs.declared.stop.Stop.TheVariants.{Usage, ReadFault, ShelfFault, Script as BadScript, Twins as BadTwins, Image, NoMemory}
@@ -25,7 +29,9 @@ held_sound _ n = tt
 
 module _ {S : Type 0} (F : Sight S) (command : Command) (left rest : Option (List ℕ)) where
   -- the shelf was not loaded
-  pub load_halted : (old new : S) (fault : ShelfStop) → rest ≡ left → F.held new ≡ F.held old → CrashesLeave F old new (F.may_leave old) → ((IsErrOf {T = Held} {E = ShelfStop} (Err fault) shelves.Failed → ⊥) → F.answers old new) → (IsErrOf {T = Held} {E = ShelfStop} (Err fault) shelves.Failed → F.fails old new)
+  pub load_halted : (old new : S) (fault : ShelfStop) → rest ≡ left → F.held new ≡ F.held old → CrashesLeave F old new (F.may_leave old)
+      → ((IsErrOf {T = Held} {E = ShelfStop} (Err fault) shelves.Failed → ⊥) → F.answers Load old new)
+      → (IsErrOf {T = Held} {E = ShelfStop} (Err fault) shelves.Failed → F.fails Load old new)
       → JobHalted F command left rest old new (of_shelf fault)
   load_halted old new shelves.Failed unread same leaves answered broken = record { cause = inl unread; same = same; calls = inr (inl (broken refl, unread)); leaves = loaded_alone F old new command (F.held old) left rest leaves }
   load_halted old new shelves.NoMemory unread same leaves answered broken = record { cause = inl unread; same = same; calls = inr (inr (new, (answered (λ e. cc), inl refl))); leaves = loaded_alone F old new command (F.held old) left rest leaves }
@@ -39,7 +45,8 @@ module _ {S : Type 0} (F : Sight S) (command : Command) (left rest : Option (Lis
   not_begun old new stop jobs c cause reads opens not = record { cause = cause; same = not.same; calls = not.calls; leaves = image_left F old new command (F.held old) left rest jobs c reads opens not.leaves }
 
   -- it stopped since
-  pub job_halted : IsTimed F → (old mid new : S) (stop : Stop) → F.held mid ≡ F.held old → F.answers old mid → CrashesLeave F old mid (F.may_leave old) → JobBroke F command left rest mid new stop → JobHalted F command left rest old new stop
+  pub job_halted : IsTimed F → (old mid new : S) (stop : Stop) → F.held mid ≡ F.held old → F.answers Load old mid
+      → CrashesLeave F old mid (F.may_leave old) → JobBroke F command left rest mid new stop → JobHalted F command left rest old new stop
   job_halted timed old mid new stop same answered load broke = record {
     cause = subst (λ (o : Option Stored). HasCause stop command o left rest) same broke.cause;
     same = broke.same ∙ same;

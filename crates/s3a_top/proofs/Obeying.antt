@@ -1,5 +1,9 @@
 -- What comes of a command but a job.
-use Rattle.s3a_top.proofs.Common.{Answer, Bool, CallsBy, Command, CrashesLeave, Entry, Err, Faulty, HasImages, HasReason, HasReasonIn, Held, IsAnswer, IsDurable, IsDurableNow, IsErrOf, IsFound, IsHeld, IsInput, IsQuiet, IsSound, IsTimed, IsWork, IsWorked, IsWritten, List, MightLeave, Nothing, Ok, Option, Result, ShelfStop, Sight, Status, Stop, Store, StoreGoes, StoreHalted, StoreOver, StoreSince, Stored, WhereSound, Work, WorkDone, false, inl, inr, is_sound, of_shelf, reads_input, refl, subst, sym, takes_input, true, ℕ, ◌≡◌}
+use Rattle.s3a_top.proofs.Common.{Answer, Bool, CallsBy, Command, CrashesLeave, Entry, Err, Faulty, HasImages, HasReason, HasReasonIn, Held}
+use Rattle.s3a_top.proofs.Common.{IsAnswer, IsDurable, IsDurableNow, IsErrOf, IsFound, IsHeld, IsInput, IsQuiet, IsSound, IsTimed, IsWork}
+use Rattle.s3a_top.proofs.Common.{IsWorked, IsWritten, List, Load, MightLeave, Nothing, Ok, Option, Result, ShelfStop, Sight, Status, Stop}
+use Rattle.s3a_top.proofs.Common.{Store, StoreGoes, StoreHalted, StoreOver, StoreSince, Stored, WhereSound, Work, WorkDone, false, inl, inr}
+use Rattle.s3a_top.proofs.Common.{is_sound, of_shelf, reads_input, refl, subst, sym, takes_input, true, ℕ, ◌≡◌}
 use Rattle.durable_store.specs.Works.{Work as Doing, IsSaid, IsPlain}
 use Rattle.exit_status.specs.declared.statuses.Status.TheVariants as statuses
 use Rattle.durable_store.specs.Outcomes.IsAnswer.{said, saved}
@@ -75,12 +79,16 @@ wanting_reason command (Faulty number place) left rest bytes h = inl h.1
 
 module _ {S : Type 0} (F : Sight S) (command : Command) (left rest : Option (List ℕ)) where
   -- the shelf was not loaded
-  pub load_stopped : (old new : S) (fault : ShelfStop) → rest ≡ left → F.held new ≡ F.held old → CrashesLeave F old new (F.may_leave old) → ((IsErrOf {T = Held} {E = ShelfStop} (Err fault) shelves.Failed → ⊥) → F.answers old new) → (IsErrOf {T = Held} {E = ShelfStop} (Err fault) shelves.Failed → F.fails old new)
+  pub load_stopped : (old new : S) (fault : ShelfStop) → rest ≡ left → F.held new ≡ F.held old → CrashesLeave F old new (F.may_leave old)
+      → ((IsErrOf {T = Held} {E = ShelfStop} (Err fault) shelves.Failed → ⊥) → F.answers Load old new)
+      → (IsErrOf {T = Held} {E = ShelfStop} (Err fault) shelves.Failed → F.fails Load old new)
       → StoreHalted F command left rest old new (of_shelf fault)
   load_stopped old new shelves.Failed unread same leaves answered broken = record { reason = unread; same = same; calls = inr (inl (broken refl)); leaves = leaves }
   load_stopped old new shelves.NoMemory unread same leaves answered broken = record { reason = inl unread; same = same; calls = inr (inr (answered (λ e. cc))); leaves = leaves }
 
-  pub store_from : (result : Result Work Stop) → IsTimed F → (before : Held) (old mid new : S) → IsFound (F.held old) before → IsSound before → F.held mid ≡ F.held old → F.answers old mid → CrashesLeave F old mid (F.may_leave old) → WhereSound before (IsDurable (F.held mid) (F.may_leave mid))
+  pub store_from : (result : Result Work Stop) → IsTimed F → (before : Held) (old mid new : S) → IsFound (F.held old) before
+      → IsSound before → F.held mid ≡ F.held old → F.answers Load old mid → CrashesLeave F old mid (F.may_leave old)
+      → WhereSound before (IsDurable (F.held mid) (F.may_leave mid))
       → StoreSince F command before left rest mid new result → StoreGoes F command left rest old new result
   store_from (Ok work) timed before old mid new found sound same answered load lasts since =
       let over = since.0 in (

@@ -1,5 +1,9 @@
 -- What is promised of jobs that were played.
-use Rattle.s3a_top.proofs.Common.{AreFinished, AreJobsOf, Command, Content, CrashesLeave, Entry, Failed, HasEarlier, Holding, Holds, HoldsPart, IsContent, IsKept, IsLast, IsMoment, IsReported, IsTimed, IsTold, IsWritten, JobCut, JobEnded, JobOver, JobPlayed, JobRan, Jobs, List, NoMemory, None, Opens, Option, ShelfStop, Sight, Some, Stored, Told, WhereTold, Work, [], ap, append_assoc, arith, code, inl, inr, job_text, length, memory_text, refl, subst, survives, sym, verdict_of, written_text, ℕ, ⊎_elim, ◌++◌, ◌∙◌, ◌∷◌, ◌≡◌, ◌⊎◌}
+use Rattle.s3a_top.proofs.Common.{AreFinished, AreJobsOf, Command, Content, CrashesLeave, Entry, Failed, HasEarlier, Holding, Holds}
+use Rattle.s3a_top.proofs.Common.{HoldsPart, IsContent, IsKept, IsLast, IsMoment, IsReported, IsTimed, IsTold, IsWritten, JobCut, JobEnded}
+use Rattle.s3a_top.proofs.Common.{JobOver, JobPlayed, JobRan, Jobs, List, Load, NoMemory, None, Opens, Option, ShelfStop, Sight, Some}
+use Rattle.s3a_top.proofs.Common.{Stored, Told, WhereTold, Work, [], ap, append_assoc, arith, code, inl, inr, job_text, length, memory_text}
+use Rattle.s3a_top.proofs.Common.{refl, subst, survives, sym, verdict_of, written_text, ℕ, ⊎_elim, ◌++◌, ◌∙◌, ◌∷◌, ◌≡◌, ◌⊎◌}
 use Rattle.journal_log.specs.Changes.{changes}
 use Rattle.journal_log.specs.Kept.{IsToEnd}
 use Rattle.journal_log.proofs.Journals.{changes_append}
@@ -45,7 +49,9 @@ module _ {S : Type 0} (F : Sight S) where
 
 -- ---- since the shelf was loaded, and before
 
-pub played_from : {S : Type 0} (F : Sight S) → IsTimed F → (command : Command) (left rest : Option (List ℕ)) (old loaded new : S) (work : Work) → F.held loaded ≡ F.held old → F.answers old loaded → CrashesLeave F old loaded (F.may_leave old) → JobOver F command left rest loaded new work
+pub played_from : {S : Type 0} (F : Sight S) → IsTimed F
+    → (command : Command) (left rest : Option (List ℕ)) (old loaded new : S) (work : Work) → F.held loaded ≡ F.held old
+    → F.answers Load old loaded → CrashesLeave F old loaded (F.may_leave old) → JobOver F command left rest loaded new work
     → JobPlayed F command left rest old new (code work.answer.due) work.answer.sent.entries work.told (IsWritten work.answer)
 played_from F timed command left rest old loaded new work same answered load over =
     let due = code work.answer.due in

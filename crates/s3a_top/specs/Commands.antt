@@ -1,7 +1,7 @@
 -- What comes of the other commands, and of words that are none.
 use Rattle.s3a_words.specs.declared.command.Command.TheVariants.{Job, Twins}
 use Rattle.std.specs.Prelude.{Bool, List, None, Option, Some, [], false, true, ℕ, ◌≡◌, ◌⊎◌}
-use Rattle.journal_log.specs.Prelude.{CrashesLeave, Entry, IsDurable, Sight, Stored}
+use Rattle.journal_log.specs.Prelude.{CrashesLeave, Entry, IsDurable, Load, Sight, Stored}
 use Rattle.durable_job.specs.declared.jobs.Told.{Told}
 use Rattle.durable_store.specs.Works.{Work}
 use Rattle.durable_store.specs.Outcomes.{CallsBy, HasImages, IsAnswer, IsDurableNow, IsHeld, IsSound, MightLeave, WhereSound}
@@ -66,7 +66,7 @@ pub record StoreStopped {S : Type 0} (F : Sight S) (command : Command) (left res
   pub entries : es ≡ []
   pub same : F.held new ≡ F.held old
   -- it was called once at most, to be loaded
-  pub calls : (old ≡ new) ⊎ (F.fails old new ⊎ F.answers old new)
+  pub calls : (old ≡ new) ⊎ (F.fails Load old new ⊎ F.answers Load old new)
   pub leaves : CrashesLeave F old new (F.may_leave old)
 
 -- ---- it was done
@@ -102,7 +102,7 @@ pub record StoreDone {S : Type 0} (F : Sight S) (command : Command) (left rest :
   pub done : WorkDone F work old new status es Says
   -- the shelf was loaded, and then called as the work wants
   pub loaded : S
-  pub load : F.answers old loaded
+  pub load : F.answers Load old loaded
   -- where it found no fault, a crash after the load leaves what is held
   pub lasts : WhereSound before (IsDurable (F.held loaded) (F.may_leave loaded))
   pub calls : CallsBy F work status loaded new

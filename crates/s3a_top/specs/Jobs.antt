@@ -1,7 +1,8 @@
 -- What comes of a job, or of two at one destination: it was played, or it stopped before its first event.
 use Rattle.std.specs.Prelude.{◌≡◌, ◌≢◌, ◌⊎◌, ℕ, true, List, length, Option, Some, None, Result, Err}
 use Rattle.job_spec.specs.Prelude.{Content, Entry, Script}
-use Rattle.journal_log.specs.Prelude.{Holding, Stored, fresh, IsDurable, Sight, CrashesLeave, image, IsContent, KeepsImages, Holds, HoldsPart, IsKept, AreCalled, AreStopped}
+use Rattle.journal_log.specs.Prelude.{Holding, Stored, fresh, IsDurable, Sight, CrashesLeave, image, IsContent, KeepsImages, Holds}
+use Rattle.journal_log.specs.Prelude.{HoldsPart, IsKept, AreCalled, AreStopped, Load, Replace}
 use Rattle.job_spec.specs.ReportText.{report_text}
 use Rattle.job_script.specs.Script.{script_of}
 use Rattle.job_script.specs.declared.fault.ScriptFault.TheVariants as faults
@@ -52,7 +53,8 @@ HasCause NoMemory command told left rest = (rest ≡ left) ⊎ (IsSoundly told �
 
 -- the shelf was called to load at most, and once more to take an image, which failed; a load that failed was before the input
 abbrev pub AreFew : {S : Type 0} → Sight S → (left rest : Option (List ℕ)) → S → S → Type 0
-AreFew {S} F left rest old new = ((old ≡ new) × (rest ≡ left)) ⊎ ((F.fails old new × (rest ≡ left)) ⊎ ((mid : S) × (F.answers old mid × ((mid ≡ new) ⊎ F.fails mid new))))
+AreFew {S} F left rest old new = ((old ≡ new) × (rest ≡ left))
+    ⊎ ((F.fails Load old new × (rest ≡ left)) ⊎ ((mid : S) × (F.answers Load old mid × ((mid ≡ new) ⊎ F.fails Replace mid new))))
 
 -- what a crash before a job's first event might have left: what one at the beginning may leave, or the image of the job's opening store
 abbrev pub MayHaveLeft : (at_first : Holding → Type 0) → Command → Option Stored → (left rest : Option (List ℕ)) → Holding → Type 0
@@ -131,7 +133,7 @@ pub record JobPlayed {S : Type 0} (F : Sight S) (command : Command) (left rest :
   pub opens : Opens (F.held old) jobs opening
   -- the shelf once it was loaded
   pub loaded : S
-  pub load : F.answers old loaded
+  pub load : F.answers Load old loaded
   pub ran : JobRan F command jobs opening loaded new due es told Says
   -- what the shelf keeps of it, and what crashes leave
   pub kept : IsKept due (F.held new) opening es

@@ -1,6 +1,6 @@
 -- What comes of a job since its shelf was loaded.
 use Rattle.std.specs.Prelude.{Err, List, None, Ok, Option, Result, Some, length, ℕ, ◌≡◌, ◌⊎◌}
-use Rattle.journal_log.specs.Prelude.{Content, CrashesLeave, Failed, IsMoment, NoMemory, ShelfStop, Sight, WhereTold, fresh, image}
+use Rattle.journal_log.specs.Prelude.{Content, CrashesLeave, Failed, IsMoment, NoMemory, Replace, ShelfStop, Sight, WhereTold, fresh, image}
 use Rattle.durable_job.specs.declared.jobs.Jobs.{Jobs}
 use Rattle.durable_job.specs.declared.playing.Kept.{Kept}
 use Rattle.exit_status.specs.Statuses.{code, memory_text, shelf_text}
@@ -60,7 +60,7 @@ pub record JobOver {S : Type 0} (F : Sight S) (command : Command) (left rest : O
 pub record JobBroke {S : Type 0} (F : Sight S) (command : Command) (left rest : Option (List ℕ)) (old new : S) (stop : Stop) : Type 0 where
   pub cause : HasCause stop command (F.held old) left rest
   pub same : F.held new ≡ F.held old
-  pub calls : (old ≡ new) ⊎ F.fails old new
+  pub calls : (old ≡ new) ⊎ F.fails Replace old new
   pub leaves : CrashesLeave F old new (MayHaveLeft (F.may_leave old) command (F.held old) left rest)
 
 -- what comes of a job behind the load

@@ -1,6 +1,6 @@
 -- What the work of the words gives before its text is written.
 use Rattle.std.specs.Prelude.{Err, IfOk, List, None, Ok, Option, Result, Some, false, true, ℕ, ◌-◌, ◌<◌, ◌^◌, ◌≡◌, ◌⊎◌}
-use Rattle.journal_log.specs.Prelude.{CrashesLeave, Entry, Sight}
+use Rattle.journal_log.specs.Prelude.{CrashesLeave, Entry, Load, Sight}
 use Rattle.durable_job.specs.Jobs.{nothing_told}
 use Rattle.durable_job.specs.declared.jobs.Told.{Told}
 use Rattle.exit_status.specs.Statuses.{code, memory_text, written_text}
@@ -77,7 +77,7 @@ pub record JobHalted {S : Type 0} (F : Sight S) (command : Command) (left rest :
 pub record StoreHalted {S : Type 0} (F : Sight S) (command : Command) (left rest : Option (List ℕ)) (old new : S) (stop : Stop) : Type 0 where
   pub reason : HasReason stop command (F.held old) left rest
   pub same : F.held new ≡ F.held old
-  pub calls : (old ≡ new) ⊎ (F.fails old new ⊎ F.answers old new)
+  pub calls : (old ≡ new) ⊎ (F.fails Load old new ⊎ F.answers Load old new)
   pub leaves : CrashesLeave F old new (F.may_leave old)
 
 -- ---- a command, by what was found

@@ -90,13 +90,20 @@ pub record LeavesOnly {S C : Type 0} (moment : S → ℕ) (left_since : S → �
 
 -- ---- what is told of a shelf
 
+-- a call of a shelf: a load, a replace, an append, or an append that was out of memory
+pub data Call : Type 0 where
+  Load : Call
+  Replace : Call
+  Append : Call
+  AppendOutOfMemory : Call
+
 -- what is told of a shelf: what it holds, what its calls make of it, and what a crash leaves
 pub record Sight (S : Type 0) : Type 1 where
   -- what is held, however large, where it is told
   pub held : S → Option Stored
   -- what a call that did not fail may make of it, where it says which of its calls fail, and what one that failed may
-  pub answers : S → S → Type 0
-  pub fails : S → S → Type 0
+  pub answers : Call → S → S → Type 0
+  pub fails : Call → S → S → Type 0
   -- what a crash at this moment may leave, where it is told
   pub may_leave : S → Holding → Type 0
   -- the moment, as a number that does not fall

@@ -3,6 +3,7 @@ ghost use Rattle.std.specs.Prelude.{◌≡◌, ℕ, ◌⊎◌, IfOk, OnOk, OnErr
 ghost use Rattle.log_format.specs.Change.{is_changing};
 ghost use Rattle.shelf.specs.Devices.{Rose};
 ghost use Rattle.shelf.specs.Logged.{Sight, Holding, IsLoaded, IsTooLarge, IsBad, fresh, HoldsFresh, HoldsGrown, HoldsOneOf, IsBeforeOrAfter, IsDurable, CrashesLeave, IsTimed, IsMeasured};
+ghost use Rattle.shelf.specs.Logged.Call.{Load, Replace, Append, AppendOutOfMemory};
 ghost use Rattle.shelf.specs.Causes.{IfBadLog};
 
 mod memory;
@@ -60,8 +61,8 @@ pub trait Shelf {
         ensures any_moment { CrashesLeave sight self.old self.new (sight.may_leave self.old) }
         ensures durable { OnOk result (IsDurable (sight.held self.new) (sight.may_leave self.new)) }
         ensures failed { IsErrOf result LoadFault.Failed → Rose (faults self.old) (faults self.new) }
-        ensures answered { (IsErrOf result LoadFault.Failed → ⊥) → sight.answers self.old self.new }
-        ensures broken { IsErrOf result LoadFault.Failed → sight.fails self.old self.new }
+        ensures answered { (IsErrOf result LoadFault.Failed → ⊥) → sight.answers Load self.old self.new }
+        ensures broken { IsErrOf result LoadFault.Failed → sight.fails Load self.old self.new }
         ensures calm { (IsErrOf result LoadFault.Failed → ⊥) → faults self.new ≡ faults self.old };
 
     /// Holds this base and no changes in place of what is held. After a fault the shelf holds what it
@@ -77,8 +78,8 @@ pub trait Shelf {
         ensures durable { OnOk result (IsDurable (sight.held self.new) (sight.may_leave self.new)) }
         ensures kept { OnErr result ((h : Holding) → sight.may_leave self.new h → sight.may_leave self.old h) }
         ensures failed { OnErr result (Rose (faults self.old) (faults self.new)) }
-        ensures answered { OnOk result (sight.answers self.old self.new) }
-        ensures broken { OnErr result (sight.fails self.old self.new) }
+        ensures answered { OnOk result (sight.answers Replace self.old self.new) }
+        ensures broken { OnErr result (sight.fails Replace self.old self.new) }
         ensures calm { OnOk result (faults self.new ≡ faults self.old) };
 
     /// Adds a change behind those that are held. A crash within the call leaves the changes before it, with
@@ -99,8 +100,9 @@ pub trait Shelf {
             (IsBeforeOrAfter (sight.held self.old) change.now) }
         ensures durable { OnOk result (IsDurable (sight.held self.new) (sight.may_leave self.new)) }
         ensures failed { IsErrOf result ShelfStop.Failed → Rose (faults self.old) (faults self.new) }
-        ensures answered { (IsErrOf result ShelfStop.Failed → ⊥) → sight.answers self.old self.new }
-        ensures broken { IsErrOf result ShelfStop.Failed → sight.fails self.old self.new }
+        ensures answered { OnOk result (sight.answers Append self.old self.new) }
+        ensures starved { IsErrOf result ShelfStop.NoMemory → sight.answers AppendOutOfMemory self.old self.new }
+        ensures broken { IsErrOf result ShelfStop.Failed → sight.fails Append self.old self.new }
         ensures calm { (IsErrOf result ShelfStop.Failed → ⊥) → faults self.new ≡ faults self.old };
 
     /// What its moments are.

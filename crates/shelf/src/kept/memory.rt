@@ -118,8 +118,8 @@ impl MemShelf {
 impl Shelf for MemShelf {
     ghost sight = { record {
       held = λ s. Some (stock s.held);
-      answers = λ s t. calls_of.Answers s.calls t.calls;
-      fails = λ s t. calls_of.Fails s.calls t.calls × (t.takes ≡ false);
+      answers = λ call s t. calls_of.Answers s.calls t.calls;
+      fails = λ call s t. calls_of.Fails s.calls t.calls × (t.takes ≡ false);
       may_leave = λ s h. ⊥;
       moment = λ s. 0;
       left_since = λ s t h. ⊥;

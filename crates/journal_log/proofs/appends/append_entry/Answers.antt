@@ -10,7 +10,8 @@ returns-in-Some-clause-ok g c =
 pub returns-in-Some-clause-err : goal.returns-in-Some-clause-err
 returns-in-Some-clause-err g c =
     let e = c.append.ensures in
-    rw c.in-Some.ensures.0 (stopped_by g.F.Shelf.sight c.append.result c.args.shelf.now c.append.new.self c.in-Some.change.now e.same e.one_of e.answered e.broken)
+    rw c.in-Some.ensures.0 (stopped_by g.F.Shelf.sight c.append.result c.args.shelf.now c.append.new.self c.in-Some.change.now e.same
+    e.one_of e.starved e.broken)
 
 pub returns-in-Some-clause-any_moment : goal.returns-in-Some-clause-any_moment
 returns-in-Some-clause-any_moment g c =
