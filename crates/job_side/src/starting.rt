@@ -114,8 +114,6 @@ impl Shared {
 impl<W: Works> Body<W> {
     /// Nothing has happened yet, and all events are to be the job's. AllocError comes where memory ran out alone.
     pub fn new(alloc: Global, script: Script, service: Service) -> Result<Body<W>, AllocError>
-        requires some { 1 ≤ service.minimum }
-        requires most { service.minimum ≤ MOST_MINIMUM }
         requires few { service.next ≤ 2 ^ 62 }
         ensures { IfOk result (IsBegun W.wants W.is_of W.running W.picks_of script service) }
     {

@@ -1,6 +1,6 @@
 -- A world as its callers see it.
 use Rattle.std.specs.Prelude.{Bool, List, Option, [], false, length, slice_get, true, ◌++◌, ◌+◌, ◌^◌, ◌∷◌, ◌≡◌, ◌≤◌}
-use Rattle.job_spec.specs.Prelude.{AllByRecursion, AreOwn, Content, Entry, EventEnd, MOST_MINIMUM, Pick, Promised, Script, Sent}
+use Rattle.job_spec.specs.Prelude.{AllByRecursion, AreOwn, Content, Entry, EventEnd, Pick, Promised, Script, Sent}
 use Rattle.job_spec.specs.Promise.{all_picks, lacked_memory}
 use Rattle.job_spec.specs.States.{past}
 use Rattle.job_safety.specs.Laws.{FactsHold}
@@ -21,10 +21,8 @@ pub record Run : Type 0 where
 abbrev pub run_of : {W : Type 0} → (W → Option (List Pick)) → Body W → Bool → Run
 run_of picks_of b stuck = record { script = b.side.script; opening = b.shared.opening; journal = b.shared.journal.entries; picks = picks_in picks_of b.side.picks (slice_get b.side.hands.items 0); ends = b.side.ends.items; stuck = stuck }
 
--- a store over which a run may begin: its parts have a least size within the store's bounds, and ids are left
+-- a store over which a run may begin: ids of uploads are left
 pub record MayBegin (c : Content) : Type 0 where
-  pub some : 1 ≤ c.minimum
-  pub most : c.minimum ≤ MOST_MINIMUM
   pub few : c.next ≤ 2 ^ 62
 
 -- nothing has happened

@@ -28,7 +28,7 @@ pub struct Service {
 impl Model for Service {
     ghost use Rattle.s3_types.specs.Store.{Content};
     ghost use Rattle.s3_types.specs.Coded.{coded_content};
-    ghost use Rattle.s3_service.specs.Ids.{AreBelow};
+    ghost use Rattle.s3_service.specs.Ids.{IsStore};
 
     ghost Value = { Content };
 
@@ -36,7 +36,7 @@ impl Model for Service {
 
     ghost view = { λ s. record { buckets = s.buckets; next = s.next; minimum = s.minimum } };
 
-    ghost invariant = { λ s. AreBelow s.buckets s.next };
+    ghost invariant = { λ s. IsStore s.buckets s.next s.minimum };
 }
 
 /// The next upload's id after a request that was done.
@@ -79,9 +79,11 @@ impl Service {
         }
     }
 
-    /// The least size in bytes of a part that is not the last.
+    /// The least size in bytes of a part that is not the last: 1 to 5,242,880.
     pub fn minimum(&self) -> u64
-        ensures { result ≡ self.now.minimum }
+        ensures minimum { result ≡ self.now.minimum }
+        ensures some { 1 ≤ self.now.minimum }
+        ensures most { self.now.minimum ≤ MOST_MINIMUM }
     {
         self.minimum
     }

@@ -1,5 +1,5 @@
 -- Over which stores a job may begin.
-use Rattle.s3a_top.proofs.Common.{Bool, BucketContent, Content, IsContent, List, MOST_MINIMUM, MakeBucket, None, Option, Some, and_parts, apply_store, arith, cond, false, is_bucket, leb-true, nat_le, new_bucket, new_content, refl, subst, sym, true, ℕ, ◌^◌, ◌≡◌, ◌≤◌}
+use Rattle.s3a_top.proofs.Common.{Bool, BucketContent, Content, IsContent, List, MOST_MINIMUM, MakeBucket, None, Option, Some, apply_store, arith, cond, false, is_bucket, new_bucket, new_content, refl, subst, sym, true, ℕ, ◌^◌, ◌≡◌, ◌≤◌}
 use Rattle.std.specs.FinMap as map
 use Rattle.s3_types.specs.Answer.{made}
 use Rattle.journal_log.proofs.Imaged.{new, one}
@@ -8,9 +8,7 @@ use Rattle.job_world.specs.Worlds.{MayBegin}
 
 -- one that can have an image
 pub image_begins : (c : Content) → IsContent c → MayBegin c
-image_begins c h =
-    let bounds = and_parts (nat_le 1 c.minimum) (nat_le c.minimum MOST_MINIMUM) h.minimum in
-    record { some = leb-true 1 c.minimum bounds.0; most = leb-true c.minimum MOST_MINIMUM bounds.1; few = few_ids c h }
+image_begins c h = record { few = few_ids c h }
 
 few_made : (c : Content) (name : List ℕ) (o : Option BucketContent) → c.next ≤ 2 ^ 62 → (made c name o).next ≤ 2 ^ 62
 few_made c name (Some b) h = h

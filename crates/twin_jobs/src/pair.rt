@@ -48,8 +48,6 @@ pub fn paired<W: Works>(
     first: Script,
     second: Script,
 ) -> Result<Pair<W>, AllocError>
-    requires some { 1 ≤ shared.opening.minimum }
-    requires most { shared.opening.minimum ≤ MOST_MINIMUM }
     requires few { length sides.items + 1 < 2 ^ 32 }
     ensures { IfOk result (IsPaired first second shared sides.items) }
 {

@@ -1,6 +1,5 @@
 ghost use Rattle.std.specs.Prelude.{◌≡◌, ◌≤◌, ◌^◌, length, slice_get, true, IfOk, OnErr, IsErr};
 ghost use Rattle.s3_types.specs.Moment.{moment};
-ghost use Rattle.s3_types.specs.declared.limits.TheConstants.{MOST_MINIMUM};
 ghost use Rattle.job_spec.specs.States.{verdict};
 ghost use Rattle.twin_jobs.specs.Worlds.{job_of, played, begun, Keeps, Turned, FoundNone};
 ghost use Rattle.twin_jobs.specs.Played.{told_of};
@@ -47,8 +46,6 @@ impl<W: Works> TwinWorld<W> {
     /// No event has happened yet. The store's content is copied, so that the run's opening stays known; bytes
     /// are shared. AllocError comes where memory ran out alone.
     pub fn new(alloc: Global, twins: Twins, service: Service) -> Result<TwinWorld<W>, AllocError>
-        requires some { 1 ≤ service.minimum }
-        requires most { service.minimum ≤ MOST_MINIMUM }
         requires few { service.next ≤ 2 ^ 62 }
         ensures { IfOk result (λ world. world ≡ begun twins service) }
     {

@@ -4,5 +4,11 @@ use Rattle.s3_service.proofs.service.Service.apply.Goals as goal
 
 pub invariant_of-self : goal.invariant_of-self
 invariant_of-self c =
-    subst (λ (n : ℕ). AreBelow c.apply.new.self n) (sym c.next_after-self-inside.ensures)
-    (kept_below c.self.inside.buckets c.apply.new.self c.self.inside.next c.self.inside.minimum c.in-Some.name.now c.args.request.now c.self.invariant c.in-Ok-Some.ensures.ok)
+    let s = c.self.inside in
+    record {
+      below =
+          subst (λ (n : ℕ). AreBelow c.apply.new.self n) (sym c.next_after-self-inside.ensures)
+          (kept_below s.buckets c.apply.new.self s.next s.minimum c.in-Some.name.now c.args.request.now c.self.invariant.below c.in-Ok-Some.ensures.ok);
+      some = c.self.invariant.some;
+      most = c.self.invariant.most;
+    }

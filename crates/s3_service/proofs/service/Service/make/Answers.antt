@@ -4,7 +4,13 @@ use Rattle.s3_service.proofs.service.Service.make.Goals as goal
 
 pub invariant_of-self-2 : goal.invariant_of-self-2
 invariant_of-self-2 c =
-    let le : c.self.inside.next ≤ c.self.inside.next = omega arith in
-    subst (λ (m : Buckets). AreBelow m c.self.inside.next) (sym c.in_ok-insert.ensures.ok)
-    (below_insert c.self.inside.buckets c.self.inside.next c.self.inside.next c.in-Ok.name c.empty.result c.self.invariant le
-    (subst (λ (b : BucketContent). IsFresh b.uploads c.self.inside.next) (sym c.empty.ensures) (new_fresh c.self.inside.next)))
+    let n = c.self.inside.next in
+    let le : n ≤ n = omega arith in
+    record {
+      below =
+          subst (λ (m : Buckets). AreBelow m n) (sym c.in_ok-insert.ensures.ok)
+          (below_insert c.self.inside.buckets n n c.in-Ok.name c.empty.result c.self.invariant.below le
+          (subst (λ (b : BucketContent). IsFresh b.uploads n) (sym c.empty.ensures) (new_fresh n)));
+      some = c.self.invariant.some;
+      most = c.self.invariant.most;
+    }

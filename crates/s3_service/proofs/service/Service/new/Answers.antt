@@ -3,4 +3,8 @@ use Rattle.s3_service.proofs.Below.{none_below}
 use Rattle.s3_service.proofs.service.Service.new.Goals as goal
 
 pub invariant_of-result : goal.invariant_of-result
-invariant_of-result c = subst (λ (m : Buckets). AreBelow m 1) (sym c.new.ensures) (none_below 1)
+invariant_of-result c = record {
+  below = subst (λ (m : Buckets). AreBelow m 1) (sym c.new.ensures) (none_below 1);
+  some = c.requires.some;
+  most = c.requires.most;
+}
