@@ -1,11 +1,12 @@
-ghost use Rattle.std.specs.Prelude.{◌≡◌, ℕ, ◌<◌, ◌≤◌, length, IfOk, IsErrOf};
+ghost use Rattle.std.specs.Prelude.{◌≡◌, ℕ, ◌+◌, ◌*◌, ◌<◌, ◌≤◌, List, ◌++◌, length, IfOk, IsErrOf};
+ghost use Rattle.s3_types.specs.declared.journal.Entry.{Entry};
 ghost use Rattle.s3_types.specs.Store.{Objects};
 ghost use Rattle.s3_types.specs.declared.reply.Reply.{Reply};
 ghost use Rattle.operations.specs.declared.plan.Step.{Step};
 ghost use Rattle.operations.specs.Courses.{once, reached, unlost};
 ghost use Rattle.operations.specs.Performed.{Performed, seen};
-ghost use Rattle.bucket_ops.specs.Asks.{Ask, request_of};
-ghost use Rattle.bucket_ops.specs.Phases.{IsPhases, MayAsk, request, led, Holds, Gives, Always, GivesIn, AlwaysIn, SendsIn, Sends, left_in, Starts};
+ghost use Rattle.bucket_ops.specs.Asks.{Ask, objects_at, request_of};
+ghost use Rattle.bucket_ops.specs.Phases.{IsPhases, MayAsk, request, led, Holds, Gives, Always, GivesIn, AlwaysIn, SendsIn, Sends, left_at, left_in, Starts};
 
 use machine::DriveStop;
 use operations::{Plan, Step, perform};
@@ -147,6 +148,8 @@ pub fn perform_in<O: Phases, S: ObjectStore>(
         (SendsIn bucket (O.asks names (O.first names)) (O.sends names) (S.scene store.old))
         (seen S.scene S.requests S.losses S.foretold store.old journal.old.entries)
         (seen S.scene S.requests S.losses S.foretold store.new journal.new.entries) result }
+    ensures few { (part : List Entry) → journal.new.entries ≡ journal.old.entries ++ part → length part
+        ≤ (left_at (objects_at (S.scene store.old) bucket) O.left names (O.first names) + 1) * (retries + 1) }
     ensures fault { IsErrOf result DriveStop.StoreFault → S.losses store.old < S.losses store.new }
 {
     let stage = names.start();

@@ -8,8 +8,8 @@
 //! stages give of these objects, and nothing else of the store or the cluster changes; where there is
 //! no bucket it answers so (`given`). Each request is sent at most `retries + 1` times, by that actor
 //! in that event, and is one that the operation may ask (`sends`), or its first look where there is no
-//! bucket; at each moment the bucket is as the operation promises always; StoreFault comes exactly
-//! where a request wore out (`performed`).
+//! bucket. It sends at most `retries + 1` requests for each stage that it may come to, and as many again (`few`). At each
+//! moment the bucket is as the operation promises always. StoreFault comes exactly where a request wore out (`performed`).
 //!
 //! `fits`: Whether a walk or a sweep may be told a reply; where the bucket is there it may (`walk_fits`,
 //! `sweep_fits`). What a walk found and what is left are all keys below its prefix, each with the length of
@@ -21,7 +21,8 @@
 //!
 //! `list_uploads`: Alone, whatever is lost: exactly the live uploads below a prefix, in order, for any number of
 //! pages, or that there is no bucket (`found`). It changes nothing (`same`); each request is for a page below the
-//! prefix and is sent at most `retries + 1` times, and StoreFault comes exactly where one wore out (`performed`).
+//! prefix and is sent at most `retries + 1` times, and StoreFault comes exactly where one wore out (`performed`). It asks
+//! for at most one page more than there are such uploads (`few`).
 #![tactic(auto)]
 
 mod bucket;

@@ -1,7 +1,8 @@
-ghost use Rattle.std.specs.Prelude.{◌≡◌, ◌<◌, ◌≤◌, length, None, IfOk, IsErrOf};
+ghost use Rattle.std.specs.Prelude.{◌≡◌, ◌+◌, ◌*◌, ◌<◌, ◌≤◌, List, ◌++◌, length, None, IfOk, IsErrOf};
+ghost use Rattle.s3_types.specs.declared.journal.Entry.{Entry};
 ghost use Rattle.operations.specs.Courses.{once, reached, unlost};
 ghost use Rattle.operations.specs.Performed.{Performed, seen};
-ghost use Rattle.bucket_ops.specs.Uploads.{uploads_from, IsStill, asks, refused, goes, Begins, IsListing, Gives, IsSame, IsPageOf, Pages, left};
+ghost use Rattle.bucket_ops.specs.Uploads.{uploads_from, IsStill, asks, refused, goes, Begins, IsListing, Gives, IsSame, IsPageOf, Pages, size, left};
 
 use list_walk::UploadWalk;
 use machine::DriveStop;
@@ -95,6 +96,8 @@ pub fn list_uploads<S: ObjectStore>(
     ensures performed { Performed actor event retries (IsStill (S.scene store.old)) (IsPageOf bucket prefix)
         (seen S.scene S.requests S.losses S.foretold store.old journal.old.entries)
         (seen S.scene S.requests S.losses S.foretold store.new journal.new.entries) result }
+    ensures few { (part : List Entry) → journal.new.entries ≡ journal.old.entries ++ part → length part
+        ≤ (size (uploads_from (S.scene store.old) bucket prefix None) + 1) * (retries + 1) }
 {
     let below = UploadsBelow {
         bucket,

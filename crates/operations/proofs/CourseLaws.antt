@@ -49,15 +49,17 @@ module _ {P A : Type 0} {starts : P → Type 0} {asks : P → Request} {goes : P
     less_led (Next p) s n h = omega arith
     less_led (End a) s n h = omega arith
 
-    falls : (m : Stage P A) (s : Scene) (r : Request) (b : Bool) → wanted asks m ≡ Some r → K m s b → left more (got goes m (answer s r) b) (apply s r) < left more m s
+    pub falls : (m : Stage P A) (s : Scene) (r : Request) (b : Bool) → wanted asks m ≡ Some r → K m s b
+        → left more (got goes m (answer s r) b) (apply s r) < left more m s
     falls (On p) s r b w h = let e : asks p ≡ r = cc in subst (λ v. left more (led (goes p (answer s v) b)) (apply s v) < 1 + more p s) e (less_led _ _ _ (c.falls o z p s b h))
     falls _ s r b w h = absurd (cc)
 
-    no_rise : (m : Stage P A) (s : Scene) (r : Request) (b : Bool) → wanted asks m ≡ Some r → K m s b → left more m (apply s r) ≤ left more m s
+    pub no_rise : (m : Stage P A) (s : Scene) (r : Request) (b : Bool) → wanted asks m ≡ Some r → K m s b
+        → left more m (apply s r) ≤ left more m s
     no_rise (On p) s r b w h = let e : asks p ≡ r = cc in let n = subst (λ v. more p (apply s v) ≤ more p s) e (c.no_rise o z p s b h) in omega (arith, n)
     no_rise _ s r b w h = absurd (cc)
 
-  some_left : (m : Stage P A) (s : Scene) (r : Request) → wanted asks m ≡ Some r → 0 < left more m s
+  pub some_left : (m : Stage P A) (s : Scene) (r : Request) → wanted asks m ≡ Some r → 0 < left more m s
   some_left (On p) s r w = omega arith
   some_left _ s r w = absurd (cc)
 

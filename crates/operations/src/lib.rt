@@ -9,7 +9,8 @@
 //!
 //! `perform`: Alone: the answer means what the plan gives (`given`), what the plan keeps holds before
 //! and after each sending, each request is one that the plan may send (`sends`), and the entries, tries
-//! and counts are as with `drive` (`Performed`). Where each sending was answered, what is left is told
+//! and counts are as with `drive` (`Performed`); no more requests are sent than there are phases that it may come to, each
+//! at most `retries + 1` times (`few`). Where each sending was answered, what is left is told
 //! apart (`answered`).
 #![tactic(auto)]
 

@@ -1,4 +1,4 @@
-ghost use Rattle.std.specs.Prelude.{◌≡◌, ◌<◌, ◌≤◌, List, ◌++◌, length, IfOk, OnOk, IsErrOf, Ok, Err};
+ghost use Rattle.std.specs.Prelude.{◌≡◌, ◌+◌, ◌*◌, ◌<◌, ◌≤◌, List, ◌++◌, length, IfOk, OnOk, IsErrOf, Ok, Err};
 ghost use Rattle.s3_types.specs.declared.journal.Entry.{Entry};
 ghost use Rattle.machine.specs.Counted.{AreAnswered};
 ghost use Rattle.operations.specs.Performed.{Performed, seen};
@@ -29,7 +29,8 @@ fn answer_of<P: Drop, A: Drop>(
 
 /// Performs an operation that is alone, whatever the store loses: each request is sent at most
 /// `retries + 1` times. StoreFault comes exactly where a request wore out. The journal gains an entry for
-/// each sending. What it leaves where each was answered, is told apart.
+/// each sending, at most `retries + 1` for each phase that it may come to. What it leaves where each was answered, is told
+/// apart.
 pub fn perform<P: Plan, S: ObjectStore>(
     alloc: Global,
     plan: P,
@@ -47,6 +48,8 @@ pub fn perform<P: Plan, S: ObjectStore>(
     ensures performed { Performed actor event retries (P.always plan (S.scene store.old))
         (P.sends plan (S.scene store.old)) (seen S.scene S.requests S.losses S.foretold store.old journal.old.entries)
         (seen S.scene S.requests S.losses S.foretold store.new journal.new.entries) result }
+    ensures few { (part : List Entry) → journal.new.entries ≡ journal.old.entries ++ part
+        → length part ≤ (P.left plan (S.scene store.old) + 1) * (retries + 1) }
     ensures fault { IsErrOf result DriveStop.StoreFault → S.losses store.old < S.losses store.new }
 {
     P::laws();

@@ -1,5 +1,6 @@
 -- Over which stores a job may begin.
-use Rattle.s3a_top.proofs.Common.{Bool, BucketContent, Content, IsContent, List, MOST_MINIMUM, MakeBucket, None, Option, Some, apply_store, arith, cond, false, is_bucket, new_bucket, new_content, refl, subst, sym, true, ℕ, ◌^◌, ◌≡◌, ◌≤◌}
+use Rattle.s3a_top.proofs.Common.{Bool, BucketContent, Content, IsContent, List, MOST_MINIMUM, MakeBucket, None, Option, Some, apply_store}
+use Rattle.s3a_top.proofs.Common.{arith, cond, false, is_bucket, new_bucket, new_content, refl, subst, sym, true, ℕ, ◌^◌, ◌≡◌, ◌≤◌}
 use Rattle.std.specs.FinMap as map
 use Rattle.s3_types.specs.Answer.{made}
 use Rattle.journal_log.proofs.Imaged.{new, one}

@@ -1,5 +1,7 @@
-use Rattle.operations.proofs.Common.{DriveStop, Entry, Err, IsFaultBy, List, Ok, Result, Retried, Retrying, Stage, Tried, ap, fresh, refl, retried, subst, sym, ℕ, ◌∙◌, ◌≡◌}
+use Rattle.operations.proofs.Common.{DriveStop, Entry, Err, Follows, IsFaultBy, List, Ok, Result, Retried, Retrying, Stage, Tried, after}
+use Rattle.operations.proofs.Common.{ap, fresh, refl, retried, step, subst, sym, wanted, wants_of, ℕ, ◌∙◌, ◌≡◌}
 use Rattle.operations.proofs.Runs.{ready_start, performed, given, left_calm, nothing_done, tried_ok, tried_err, literal_ok, literal_err}
+use Rattle.operations.proofs.Few.{few_of, none_few}
 use Rattle.operations.proofs.performing.perform.Goals as goal
 
 pub returns-in-Err-clause-performed : goal.returns-in-Err-clause-performed
@@ -44,3 +46,20 @@ returns-in-Err-answer_of-clause-performed g c =
     performed c.laws.ensures.course c.args.plan _ g.P.Plan.sends c.laws.ensures.asked (Err c.in-Err-answer_of.stop) _ _ c.args.retries _ _ _ _ d.part _ _ _ _ _ _ (ap (λ (t : Retried _). t.operation) c.new-retrying.ensures.unsent ∙ c.in-Ok.ensures) (ap (λ (t : Retried _). t.repeated) c.new-retrying.ensures.unsent) c.requires.starts d.is_run d.appended d.foretold
     (tried_err c.args.retries c.args.retries d.part _ _ (λ e. c.in-Err-answer_of.ensures.fault (ap Err e)) (tried_new _ _ c.args.retries d.part _ c.new-retrying.ensures.unsent c.new-retrying.ensures.retries d.tried))
     (literal_err c.args.retries d.part _ _ (λ e. c.in-Err-answer_of.ensures.fault (ap Err e)) (literal_new _ _ c.args.retries d.part _ c.new-retrying.ensures.unsent c.new-retrying.ensures.retries d.literal)) c.drive-driven.ensures.counts
+
+pub returns-in-Err-clause-few : goal.returns-in-Err-clause-few
+returns-in-Err-clause-few g c = λ part e. none_few _ part _ e
+
+pub returns-in-Ok-answer_of-clause-few : goal.returns-in-Ok-answer_of-clause-few
+returns-in-Ok-answer_of-clause-few g c = λ part e.
+    let d = c.drive-driven.ensures.drove in
+    few_of c.laws.ensures.course c.args.plan _ c.args.retries _ c.in-Ok.ensures c.requires.starts _ c.new-retrying.ensures.unsent d.part
+        (subst (λ (k : ℕ). Follows (wants_of (wanted g.P.Plan.asks)) (step k (after g.P.Plan.goes)) (retried c.new-retrying.result) d.part)
+        c.new-retrying.ensures.retries d.is_run.follows) d.is_run.honest _ _ part d.appended e
+
+pub returns-in-Err-answer_of-clause-few : goal.returns-in-Err-answer_of-clause-few
+returns-in-Err-answer_of-clause-few g c = λ part e.
+    let d = c.drive-driven.ensures.drove in
+    few_of c.laws.ensures.course c.args.plan _ c.args.retries _ c.in-Ok.ensures c.requires.starts _ c.new-retrying.ensures.unsent d.part
+        (subst (λ (k : ℕ). Follows (wants_of (wanted g.P.Plan.asks)) (step k (after g.P.Plan.goes)) (retried c.new-retrying.result) d.part)
+        c.new-retrying.ensures.retries d.is_run.follows) d.is_run.honest _ _ part d.appended e
