@@ -1,5 +1,8 @@
 -- What was played, by what the world of the jobs leaves.
-use Rattle.durable_job.proofs.Common.{Bool, Content, Entry, EventEnd, Finished, IsHeld, IsPlayed, KeepsImages, List, None, One, Option, Pick, Script, ShelfStop, Side, Sight, Stays, Survives, Twins, TwinsStay, Two, ap, arith, false, left_of, length, moment, sides_in, subst, sym, turns_left, verdict, ℕ, ◌+◌, ◌-◌, ◌∙◌, ◌≡◌}
+use Rattle.durable_job.proofs.Common.{Bool, Content, Entry, EventEnd, Finished, IsHeld, IsPlayed, KeepsImages, List, None, One, Option}
+use Rattle.durable_job.proofs.Common.{Pick, Script, ShelfStop, Side, Sight, Stays, Survives, Twins, TwinsStay, Two, ap, arith, false}
+use Rattle.durable_job.proofs.Common.{left_of, length, moment, sides_in, subst, sym, turns_left, verdict, ℕ, HaveEventsLeft, LacksSince}
+use Rattle.durable_job.proofs.Common.{NoMemory, Some, inl, inr, ⊎_elim, ◌+◌, ◌-◌, ◌∙◌, ◌≡◌, ◌<◌, ◌⊎◌}
 use Rattle.s3_types.specs.Ledger.{Ledger}
 use Rattle.job_world.specs.Worlds as one
 use Rattle.twin_script.specs.declared.turns.TwinTurn.{TwinTurn}
@@ -21,6 +24,15 @@ survives_as F c es fs old new e h = subst (λ (l : List Entry). Survives F c l o
 -- where none is left all events have their ends
 all_ended : (ended all all_first : ℕ) → ended + (all - ended) ≡ 0 + (all_first - 0) → all - ended ≡ 0 → ended ≡ all_first
 all_ended ended all all_first count none = omega arith
+
+-- what a shelf lacks under another name
+lacks_as : {S : Type 0} (F : Sight S) (c : Content) (es fs : List Entry) (old new : S) → es ≡ fs → LacksSince F c fs old new
+    → LacksSince F c es old new
+lacks_as F c es fs old new e h = subst (λ (l : List Entry). LacksSince F c l old new) (sym e) h
+
+-- where one is left not all events have their ends
+more_to_come : (ended all : ℕ) → 0 < all - ended → ended < all
+more_to_come ended all left = omega arith
 
 -- ---- a job alone
 
@@ -75,15 +87,22 @@ module _ (w : Script) (c : Content) (s : one.Run) (stop : Option ShelfStop) (due
       let end : length s.ends ≡ length s.script.events = all ∙ ap (λ (v : Script). length v.events) (sym leaves.stays.script) in
       (subst (λ (r : one.Run). Finished r.script r.opening r.journal r.picks r.ends) (sym one_is) (leaves.finished end), left.alone)
 
+  one_left : 0 < left_of s → HaveEventsLeft (One w) told
+  one_left some = subst (λ (r : one.Run). length r.ends < length r.script.events) (sym one_is)
+      (more_to_come (length s.ends) (length s.script.events) some)
+
 pub one_played : {S : Type 0} (F : Sight S) (w : Script) (c : Content) (s : one.Run) (stop : Option ShelfStop) (due : ℕ) (script : Script) (service : Content) (journal : Ledger) (told : Told) (old new : S) → LeavesOne w c s stop due → LeftOne s script service journal told
-    → IsHeld F c s.journal stop old new → Survives F c s.journal old new → KeepsImages c journal.entries
+    → (stop ≡ Some NoMemory → (0 < left_of s) ⊎ LacksSince F c s.journal old new) → IsHeld F c s.journal stop old new
+    → Survives F c s.journal old new → KeepsImages c journal.entries
     → IsPlayed F (One w) c (record { stop = stop; verdict = due; jobs = One script; service = service; journal = journal; told = told }) old new
-one_played F w c s stop due script service journal told old new leaves left held survives images = record {
+one_played F w c s stop due script service journal told old new leaves left short held survives images = record {
   jobs_are = ap One (left.script_is ∙ leaves.stays.script);
   service = one_service w c s stop due script service journal told leaves left;
   promised = one_promised w c s stop due script service journal told leaves left;
   finished = one_finished w c s stop due script service journal told leaves left;
   verdict = one_verdict w c s stop due script service journal told leaves left;
+  short = λ e. ⊎_elim (λ some. inl (one_left w c s stop due script service journal told leaves left some))
+      (λ l. inr (lacks_as F c journal.entries s.journal old new left.journal_is l)) (short e);
   held = held_as F c journal.entries s.journal stop old new left.journal_is held;
   survives = survives_as F c journal.entries s.journal old new left.journal_is survives;
   images = images;
@@ -182,15 +201,21 @@ module _ (t : Twins) (c : Content) (s : two.Run) (stop : Option ShelfStop) (due 
       let all : two.played s ≡ length (sides_in t.order) = all_ended (two.played s) (length s.sides) (length (sides_in t.order)) leaves.stays.count (leaves.over none) in
       (two_promised, subst (λ (r : two.Run). two.played r ≡ length (sides_in t.order)) (sym two_is) all)
 
+  two_left : 0 < turns_left s → HaveEventsLeft (Two t) (told_both first second)
+  two_left some = subst (λ (r : two.Run). two.played r < length r.sides) (sym two_is) (more_to_come (two.played s) (length s.sides) some)
+
 pub two_played : {S : Type 0} (F : Sight S) (t : Twins) (c : Content) (s : two.Run) (stop : Option ShelfStop) (due : ℕ) (first second : JobLeft) (order : List TwinTurn) (service : Content) (journal : Ledger) (old new : S) → order ≡ t.order → LeavesTwo t c s stop due → LeftTwo s first second service journal
-    → IsHeld F c s.journal stop old new → Survives F c s.journal old new → KeepsImages c journal.entries
+    → (stop ≡ Some NoMemory → (0 < turns_left s) ⊎ LacksSince F c s.journal old new) → IsHeld F c s.journal stop old new
+    → Survives F c s.journal old new → KeepsImages c journal.entries
     → IsPlayed F (Two t) c (record { stop = stop; verdict = due; jobs = Two (twins_by first.script second.script order); service = service; journal = journal; told = told_both first second }) old new
-two_played F t c s stop due first second order service journal old new is leaves left held survives images = record {
+two_played F t c s stop due first second order service journal old new is leaves left short held survives images = record {
   jobs_are = ap Two (twins_are t c first second order s left.first_is left.second_is leaves.stays is);
   service = two_service t c s stop due first second service journal leaves left;
   promised = two_promised t c s stop due first second service journal leaves left;
   finished = two_finished t c s stop due first second service journal leaves left;
   verdict = two_verdict t c s stop due first second service journal leaves left;
+  short = λ e. ⊎_elim (λ some. inl (two_left t c s stop due first second service journal leaves left some))
+      (λ l. inr (lacks_as F c journal.entries s.journal old new left.journal_is l)) (short e);
   held = held_as F c journal.entries s.journal stop old new left.journal_is held;
   survives = survives_as F c journal.entries s.journal old new left.journal_is survives;
   images = images;

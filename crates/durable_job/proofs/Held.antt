@@ -1,5 +1,7 @@
 -- What is kept of a run since its opening store was put in place of what a shelf held.
-use Rattle.durable_job.proofs.Common.{Behind, Content, CrashesLeave, Entry, InPace, IsHeld, IsMoment, List, None, NotReplaced, Replaced, ShelfStop, Sight, Some, Survives, WhereTold, [], ap, length, moment, subst, ◌∙◌, ◌≡◌}
+use Rattle.durable_job.proofs.Common.{Behind, Content, CrashesLeave, Entry, InPace, IsHeld, IsMoment, List, None, NotReplaced, Replaced}
+use Rattle.durable_job.proofs.Common.{ShelfStop, Sight, Some, Survives, WhereTold, [], ap, length, moment, subst, Lacks, LacksSince, inl}
+use Rattle.durable_job.proofs.Common.{inr, ◌∙◌, ◌≡◌, ◌⊎◌}
 
 -- the store of a run in which nothing was sent
 pub opening_is : (d c : Content) (es : List Entry) → d ≡ (moment c es (length es)).content → es ≡ [] → d ≡ c
@@ -22,3 +24,7 @@ module _ {S : Type 0} (F : Sight S) (c : Content) where
 
     pub survives_since : CrashesLeave F mid now (λ h. WhereTold (F.held now) (IsMoment c es h)) → Survives F c es old now
     survives_since leaves = (mid, (r.leaves, leaves))
+
+    pub lacks_since : {P : Type 0} → P ⊎ Lacks F c es mid now → P ⊎ LacksSince F c es old now
+    lacks_since (inl left) = inl left
+    lacks_since (inr lacks) = inr (mid, r.answered, lacks)

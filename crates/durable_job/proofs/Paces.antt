@@ -1,5 +1,10 @@
 -- How a shelf goes on with a run, step by step.
-use Rattle.durable_job.proofs.Common.{Adds, Appended, AreAnswered, Begins, Behind, Bool, Content, Counts, CrashesLeave, Entry, Err, Event, Failed, FoundNone, Holding, Holds, HoldsPart, InPace, IsBetween, IsDurable, IsErrOf, IsMoment, IsTimed, List, NoMemory, None, Ok, OnErr, OnOk, Option, Request, Result, Rose, Run, Script, ShelfStop, Sight, Some, Stays, Stepped, Stopped, Stored, WentOn, WhereTold, [], ap, append-nil, arith, drop, drop_at, false, inl, inr, left_of, length, length-append, refl, slice_get, slice_get_within, subst, sym, true, ℕ, ◌++◌, ◌+◌, ◌-◌, ◌<◌, ◌^◌, ◌∙◌, ◌∷◌, ◌≡◌, ◌≤◌}
+use Rattle.durable_job.proofs.Common.{Adds, Appended, AreAnswered, Begins, Behind, Bool, Content, Counts, CrashesLeave, Entry, Err, Event}
+use Rattle.durable_job.proofs.Common.{Failed, FoundNone, Holding, Holds, HoldsPart, InPace, IsBetween, IsDurable, IsErrOf, IsMoment}
+use Rattle.durable_job.proofs.Common.{IsTimed, List, NoMemory, None, Ok, OnErr, OnOk, Option, Request, Result, Rose, Run, Script, ShelfStop}
+use Rattle.durable_job.proofs.Common.{Sight, Some, Stays, Stepped, Stopped, Stored, WentOn, WhereTold, [], ap, append-nil, arith, drop}
+use Rattle.durable_job.proofs.Common.{drop_at, false, inl, inr, left_of, length, length-append, refl, slice_get, slice_get_within, subst}
+use Rattle.durable_job.proofs.Common.{sym, true, ℕ, Lacks, append_assoc, ◌++◌, ◌+◌, ◌-◌, ◌<◌, ◌^◌, ◌∙◌, ◌∷◌, ◌≡◌, ◌≤◌, ◌⊎◌}
 use Rattle.std.proofs.lemmas.Option.{slice_get_cases}
 use Rattle.journal_log.specs.Changes.{changes}
 use Rattle.journal_log.proofs.Journals.{changes_append, changes_none}
@@ -35,6 +40,15 @@ stays_so r s f =
     let ends : length s.ends ≡ length r.ends = ap length f.ends in
     let count : length s.ends + left_of s ≡ length r.ends + left_of r = omega arith in
     record { script = f.script; count = count }
+
+-- and is left then
+pub left_so : (r s : Run) (e : Event) → slice_get r.script.events (length r.ends) ≡ Some e → FoundNone r s → 0 < left_of s
+left_so r s e next f =
+    let events : length s.script.events ≡ length r.script.events = ap (λ (v : Script). length v.events) f.script in
+    let ends : length s.ends ≡ length r.ends = ap length f.ends in
+    let few : length r.ends < length r.script.events = slice_get_within r.script.events (length r.ends) e next in
+    let some : 0 < left_of s = omega arith in
+    some
 
 -- there is none
 pub none_left : (r : Run) → slice_get r.script.events (length r.ends) ≡ None → left_of r ≡ 0
@@ -124,6 +138,24 @@ module _ {S : Type 0} (F : Sight S) (c : Content) where
         leaves = on_and_on F c es part first mid new p.holds grew p.leaves leaves;
       })
 
+  -- where its append was out of memory the shelf lacks a change
+  pub lacks_at : (es fs part : List Entry) (first mid new : S) (fault : ShelfStop) → fault ≡ NoMemory → InPace F c es first mid
+      → Adds es fs part → Stopped F fault (changes part) mid new → Lacks F c fs first new
+  lacks_at es fs part first mid new fault is p a stopped =
+      let s : Stopped F NoMemory (changes part) mid new = subst (λ (f : ShelfStop). Stopped F f (changes part) mid new) is stopped in
+      subst (λ (l : List Entry). Lacks F c l first new) (sym a.journal) (record {
+        front = changes es ++ s.front;
+        next = s.next;
+        rest = s.rest;
+        parts = changes_append es part ∙ ap (λ (rs : List Request). changes es ++ rs) s.parts
+            ∙ sym (append_assoc (changes es) s.front (s.next ∷ s.rest));
+        holds = subst (λ (o : Option Stored). Holds o c (changes es ++ s.front)) (sym s.left_out.0)
+            (holds_more c (F.held mid) (F.held s.at) (changes es) s.front p.holds s.grown);
+        at = s.at;
+        answered = answered_then F (changes es) s.front first mid s.at p.answered s.answered;
+        starved = s.left_out.1;
+      })
+
   -- it stops there
   pub pace_stops : (es fs : List Entry) (first now : S) → InPace F c es first now → fs ≡ es → Behind F c fs first now
   pace_stops es fs first now p same = subst (λ (l : List Entry). Behind F c l first now) (sym same) (record {
@@ -149,3 +181,8 @@ counts_some Failed before mid after first few rose calm = less (rose refl)
     less (inl l) = omega (arith, l, first)
     less (inr most) = absurd (omega (arith, most, first, few))
 counts_some NoMemory before mid after first few rose calm = calm (λ e. cc) ∙ first
+
+-- ---- a step that was out of memory
+
+pub fault_is : {A : Type 0} (fault : ShelfStop) (r : Result A ShelfStop) → r ≡ Err fault → IsErrOf r NoMemory → fault ≡ NoMemory
+fault_is fault r is none = cc

@@ -1,10 +1,13 @@
 -- A step of a world of two jobs.
-use Rattle.durable_job.proofs.Common.{Bool, None, Option, Side, Some, Stepped, TwinsStay, [], ap, arith, is_some, length, length-append, refl, slice_get_within, subst, sym, turns_left, ℕ, ◌+◌, ◌-◌, ◌<◌, ◌∙◌, ◌∷◌, ◌≡◌}
+use Rattle.durable_job.proofs.Common.{Bool, None, Option, Side, Some, Stepped, TwinsStay, [], ap, arith, is_some, length, length-append}
+use Rattle.durable_job.proofs.Common.{refl, slice_get_within, subst, sym, turns_left, ℕ, slice_get, false, inl, inr, ◌+◌, ◌-◌, ◌<◌, ◌∙◌}
+use Rattle.durable_job.proofs.Common.{◌∷◌, ◌≡◌}
+use Rattle.std.proofs.lemmas.Option.{slice_get_cases}
 use Rattle.twin_script.specs.declared.turns.Side.TheVariants.{First, Second}
 use Rattle.twin_jobs.specs.Worlds.{JobRun, Run, played, Played, Turned, FoundNone}
 
 -- nothing changed
-self_stays : (r : Run) → TwinsStay r r
+pub self_stays : (r : Run) → TwinsStay r r
 self_stays r = record { first = refl; second = refl; sides = refl; count = refl }
 
 -- ---- an event was played
@@ -68,6 +71,15 @@ stepped_so r s None h = (none_left (played r) (length r.sides) h.1, h.0)
 pub turn_steps : (r s : Run) (turned : Option Side) (more : Bool) → more ≡ is_some turned → Turned r s turned → Stepped {M = Run} (λ x. x.journal) turns_left r s more
 turn_steps r s turned more is h = subst (Stepped {M = Run} (λ x. x.journal) turns_left r s) (sym is) (stepped_so r s turned h)
 
+-- no turn is next
+pub none_next : (r : Run) → slice_get r.sides (played r) ≡ None → turns_left r ≡ 0
+none_next r none =
+    let cases = slice_get_cases r.sides (played r) in
+    elim cases.1 [
+      | inl h ↦ let bad : Some h.0 ≡ None = sym h.2 ∙ none in absurd (cc)
+      | inr h ↦ let past : turns_left r ≡ 0 = omega (arith, h.0) in past
+    ]
+
 -- ---- none was played, for want of memory
 
 module _ (r s : Run) (none : FoundNone r s) where
@@ -79,3 +91,10 @@ module _ (r s : Run) (none : FoundNone r s) where
 
   pub none_stays : TwinsStay r s
   none_stays = subst (TwinsStay r) (sym none.is) (record { first = refl; second = refl; sides = refl; count = refl })
+
+  -- a turn is left then
+  pub none_short : (side : Side) → slice_get r.sides (played r) ≡ Some side → 0 < turns_left s
+  none_short side next =
+      let few : played r < length r.sides = slice_get_within r.sides (played r) side next in
+      let some : 0 < turns_left r = omega arith in
+      subst (λ (x : Run). 0 < turns_left x) (sym none.is) some

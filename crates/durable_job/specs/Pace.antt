@@ -1,6 +1,7 @@
 -- How a shelf keeps pace with a run.
-use Rattle.std.specs.Prelude.{List}
-use Rattle.journal_log.specs.Prelude.{AreAnswered, Content, CrashesLeave, Entry, Holds, HoldsPart, IsDurable, IsMoment, Sight, Stops, WhereTold}
+use Rattle.std.specs.Prelude.{◌≡◌, List, ◌∷◌, ◌++◌}
+use Rattle.journal_log.specs.Prelude.{AppendOutOfMemory, AreAnswered, Content, CrashesLeave, Entry, Holds, HoldsPart, IsDurable, IsMoment}
+use Rattle.journal_log.specs.Prelude.{Replace, Request, Sight, Stops, WhereTold}
 use Rattle.journal_log.specs.Changes.{changes}
 
 -- since this state the shelf took all that a run changed, and a crash since then left a moment of it
@@ -15,3 +16,20 @@ pub record Behind {S : Type 0} (F : Sight S) (opening : Content) (es : List Entr
   pub part : HoldsPart (F.held now) opening es
   pub stops : Stops F (changes es) first now
   pub leaves : CrashesLeave F first now (λ h. WhereTold (F.held now) (IsMoment opening es h))
+
+-- since this state the shelf took the first of what a run changed, and its append of the next change was out of memory
+pub record Lacks {S : Type 0} (F : Sight S) (opening : Content) (es : List Entry) (first now : S) : Type 0 where
+  pub front : List Request
+  pub next : Request
+  pub rest : List Request
+  pub parts : changes es ≡ front ++ next ∷ rest
+  -- what it holds, where it is told
+  pub holds : Holds (F.held now) opening front
+  -- its calls
+  pub at : S
+  pub answered : AreAnswered F front first at
+  pub starved : F.answers AppendOutOfMemory at now
+
+-- of a shelf that took the opening image, and then the first of what a run changed
+abbrev pub LacksSince : {S : Type 0} → Sight S → Content → List Entry → S → S → Type 0
+LacksSince {S} F opening es old now = (mid : S) × F.answers Replace old mid × Lacks F opening es mid now

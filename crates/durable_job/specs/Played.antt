@@ -1,9 +1,14 @@
 -- What comes of jobs that are played over a shelf.
-use Rattle.std.specs.Prelude.{List, None, Option, Some, length, ℕ, ◌<◌, ◌≡◌, ◌⊎◌}
-use Rattle.journal_log.specs.Prelude.{AreCalled, AreStopped, Content, CrashesLeave, Entry, Failed, Holds, HoldsPart, IsDurable, IsMoment, KeepsImages, ShelfStop, Sight, WhereTold, fresh, image, moment}
+use Rattle.std.specs.Prelude.{List, None, Option, Some, length, ℕ, ◌+◌, ◌<◌, ◌≡◌, ◌⊎◌}
+use Rattle.journal_log.specs.Prelude.{AreCalled, AreStopped, Content, CrashesLeave, Entry, Failed, Holds, HoldsPart, IsDurable, IsMoment}
+use Rattle.journal_log.specs.Prelude.{KeepsImages, NoMemory, ShelfStop, Sight, WhereTold, fresh, image, moment}
 use Rattle.journal_log.specs.Changes.{changes}
 use Rattle.durable_job.specs.Jobs.{AreFinished, ArePromised, verdict_of}
+use Rattle.durable_job.specs.Pace.{LacksSince}
 use Rattle.durable_job.specs.declared.jobs.Jobs.{Jobs}
+use Rattle.durable_job.specs.declared.jobs.Jobs.TheVariants.{One, Two}
+use Rattle.durable_job.specs.declared.jobs.Told.{Told}
+use Rattle.twin_script.specs.TwinScripts.{sides_in}
 use Rattle.durable_job.specs.declared.playing.Kept.{Kept}
 
 -- ---- what is kept of a run
@@ -26,6 +31,11 @@ Counts _ before after = after ≡ before
 
 -- ---- what was played
 
+-- an event has no end yet, of two jobs one that the order asks for
+abbrev pub HaveEventsLeft : Jobs → Told → Type 0
+HaveEventsLeft (One w) told = length told.ends < length w.events
+HaveEventsLeft (Two t) told = length told.ends + length told.second_ends < length (sides_in t.order)
+
 -- What was played of jobs over a store with this content, and is kept of it since the shelf was in this state.
 pub record IsPlayed {S : Type 0} (F : Sight S) (jobs : Jobs) (c : Content) (kept : Kept) (old new : S) : Type 0 where
   -- the jobs, and the store as the sendings have left it
@@ -36,6 +46,8 @@ pub record IsPlayed {S : Type 0} (F : Sight S) (jobs : Jobs) (c : Content) (kept
   -- where nothing stopped it, it went to its end
   pub finished : kept.stop ≡ None → AreFinished jobs c kept.journal.entries kept.told
   pub verdict : kept.verdict ≡ verdict_of jobs kept.told
+  -- where it stopped out of memory an event has no end, or the shelf lacks a change
+  pub short : kept.stop ≡ Some NoMemory → HaveEventsLeft jobs kept.told ⊎ LacksSince F c kept.journal.entries old new
   -- what the shelf holds, and what a crash left
   pub held : IsHeld F c kept.journal.entries kept.stop old new
   pub survives : Survives F c kept.journal.entries old new

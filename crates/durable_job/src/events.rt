@@ -1,15 +1,15 @@
-ghost use Rattle.std.specs.Prelude.{◌≡◌, [], OnOk, OnErr, IsErrOf};
+ghost use Rattle.std.specs.Prelude.{◌≡◌, ◌<◌, ◌⊎◌, [], OnOk, OnErr, IsErrOf};
 ghost use Rattle.shelf.specs.Devices.{Rose};
 ghost use Rattle.shelf.specs.Logged.{IsDurable};
 ghost use Rattle.journal_log.specs.Kept.{Holds};
-ghost use Rattle.durable_job.specs.Pace.{InPace, Behind};
+ghost use Rattle.durable_job.specs.Pace.{InPace, Behind, Lacks};
 
 use crate::moves::Moves;
 use journal_log::append_all;
 use shelf::kept::{Shelf, ShelfStop};
 
-/// Plays all steps that are left, and appends after each one what it changed. It stops where an append fails or memory
-/// is wanting, and else where no step is left.
+/// Plays all steps that are left, and appends after each one what it changed. It stops where an append fails or it is
+/// out of memory, and else where no step is left. Out of memory, a step is left or the shelf lacks a change.
 pub fn play_over<M: Moves, F: Shelf>(shelf: &mut F, world: &mut M) -> Result<(), ShelfStop>
     requires sent { M.sent world.old ≡ [] }
     requires holds { Holds (F.sight.held shelf.old) (M.origin world.old) [] }
@@ -19,6 +19,8 @@ pub fn play_over<M: Moves, F: Shelf>(shelf: &mut F, world: &mut M) -> Result<(),
     ensures keeps { M.keeps world.old world.new }
     ensures ok { OnOk result (InPace F.sight (M.origin world.old) (M.sent world.new) shelf.old shelf.new) }
     ensures over { OnOk result (M.left world.new ≡ 0) }
+    ensures short { IsErrOf result ShelfStop.NoMemory → (0 < M.left world.new)
+        ⊎ Lacks F.sight (M.origin world.old) (M.sent world.new) shelf.old shelf.new }
     ensures err { OnErr result (Behind F.sight (M.origin world.old) (M.sent world.new) shelf.old shelf.new) }
     ensures failed { IsErrOf result ShelfStop.Failed → Rose (F.faults shelf.old) (F.faults shelf.new) }
     ensures calm { (IsErrOf result ShelfStop.Failed → ⊥) → F.faults shelf.new ≡ F.faults shelf.old }

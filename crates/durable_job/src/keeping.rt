@@ -1,5 +1,6 @@
-ghost use Rattle.std.specs.Prelude.{◌≡◌, ◌<◌, ◌^◌, ◌-◌, [], Some, None, IfOk, IfErr, OnOk, OnErr};
+ghost use Rattle.std.specs.Prelude.{◌≡◌, ◌<◌, ◌^◌, ◌-◌, ◌⊎◌, [], Some, None, IfOk, IfErr, OnOk, OnErr};
 ghost use Rattle.journal_log.specs.Images.{NotReplaced};
+ghost use Rattle.durable_job.specs.Pace.{LacksSince};
 ghost use Rattle.durable_job.specs.Played.{IsHeld, Survives, Counts};
 
 use crate::events::play_over;
@@ -20,6 +21,8 @@ pub fn keep<M: Moves, F: Shelf>(
     ensures origin { OnOk result (M.origin moved.new ≡ M.origin moved.old) }
     ensures keeps { OnOk result (M.keeps moved.old moved.new) }
     ensures over { IfOk result (λ stop. stop ≡ None → M.left moved.new ≡ 0) }
+    ensures short { IfOk result (λ stop. stop ≡ Some ShelfStop.NoMemory → (0 < M.left moved.new)
+        ⊎ LacksSince F.sight (M.origin moved.old) (M.sent moved.new) shelf.old shelf.new) }
     ensures held { IfOk result (λ stop. IsHeld F.sight (M.origin moved.old) (M.sent moved.new) stop shelf.old
         shelf.new) }
     ensures survives { OnOk result (Survives F.sight (M.origin moved.old) (M.sent moved.new) shelf.old shelf.new) }

@@ -15,8 +15,9 @@
 //! which no run is told, the shelf holds what it held (`err`). Its count of faults rose exactly where it failed
 //! (`counted`, `faults`). Left open: stores whose next upload id is over 2^62.
 //! `play_over`: of whatever `Moves` it plays the steps that are left, and then none is (`over`), or it stops where an
-//! append fails or memory is wanting. What each step keeps is kept (`keeps`, `origin`). A shelf that held the image of
-//! the opening store holds all changes with it, or else the first ones, with all of the events before, and a crash
+//! append fails or it is out of memory. Out of memory, a step is left or the shelf lacks a change, whose append was out
+//! of memory (`short`; so too of `play`, of events). What each step keeps is kept (`keeps`, `origin`). A shelf that held
+//! the image of the opening store holds all changes with it, or else the first ones, with all of the events before, and a crash
 //! meanwhile leaves a moment (`ok`, `err`).
 #![tactic(auto)]
 

@@ -1,4 +1,4 @@
-ghost use Rattle.std.specs.Prelude.{◌≡◌, ℕ, List, length, is_some, IfOk, OnErr, refl};
+ghost use Rattle.std.specs.Prelude.{◌≡◌, ℕ, ◌<◌, List, length, is_some, IfOk, OnErr, refl};
 ghost use Rattle.std.proofs.Common.{◌∙◌};
 ghost use Rattle.s3_types.specs.Moment.{moment};
 ghost use Rattle.s3_types.specs.Store.{Content};
@@ -36,13 +36,14 @@ pub trait Moves {
     fn journal(&self) -> &Journal
         ensures { result.now.entries ≡ sent self.now };
 
-    /// Plays the next step, all of whose entries are of one event; or false, where none is left. After want of
-    /// memory it has sent nothing.
+    /// Plays the next step, all of whose entries are of one event; or false, where none is left. Out of memory,
+    /// it has sent nothing and steps are left.
     fn step(&mut self) -> Result<bool, AllocError>
         ensures origin { origin self.new ≡ origin self.old }
         ensures keeps { keeps self.old self.new }
         ensures ok { IfOk result (Stepped sent left self.old self.new) }
-        ensures err { OnErr result (sent self.new ≡ sent self.old) };
+        ensures err { OnErr result (sent self.new ≡ sent self.old) }
+        ensures short { OnErr result (0 < left self.new) };
 
     /// What is kept by every step is kept by all.
     ghost laws: { KeepsLaws keeps };
@@ -121,6 +122,9 @@ impl<W: Works> Moves for TwinWorld<W> {
 
     /// A step is the order's next event.
     fn step(&mut self) -> Result<bool, AllocError> {
+        let Some(_) = self.next() else {
+            return Ok(false);
+        };
         match self.turn() {
             Ok(turned) => Ok(is_turn(turned)),
             Err(error) => Err(error),

@@ -12,11 +12,22 @@ module _ (A B : List ℕ → Type 0) (f : (t : List ℕ) → A t → B t) {S : T
     ended_out : (command : Command) (jobs : Jobs) (c : Content) (loaded new : S) → JobEnded F command jobs c loaded new due es told A → JobEnded F command jobs c loaded new due es told B
     ended_out command jobs c loaded new h = record { finished = h.finished; holds = h.holds; durable = h.durable; calls = h.calls; said = said_out _ _ _ _ _ _ (f _) (f _) h.said }
 
-    cut_out : (c : Content) (loaded new : S) → JobCut F c loaded new due es A → JobCut F c loaded new due es B
-    cut_out c loaded new h = record { holds = h.holds; calls = h.calls; said = said_out _ _ _ _ _ _ (f _) (f _) h.said }
+    cut_out : (jobs : Jobs) (c : Content) (loaded new : S) → JobCut F jobs c loaded new due es told A
+        → JobCut F jobs c loaded new due es told B
+    cut_out jobs c loaded new h = record {
+      holds = h.holds;
+      calls = h.calls;
+      said = said_out _ _ _ _ _ _ (f _) (f _) h.said;
+      short = h.short;
+    }
 
     ran_out : (command : Command) (jobs : Jobs) (c : Content) (loaded new : S) → JobRan F command jobs c loaded new due es told A → JobRan F command jobs c loaded new due es told B
-    ran_out command jobs c loaded new h = record { promised = h.promised; image = h.image; images = h.images; ended = ⊎_elim (λ e. inl (ended_out command jobs c loaded new e)) (λ e. inr (cut_out c loaded new e)) h.ended }
+    ran_out command jobs c loaded new h = record {
+      promised = h.promised;
+      image = h.image;
+      images = h.images;
+      ended = ⊎_elim (λ e. inl (ended_out command jobs c loaded new e)) (λ e. inr (cut_out jobs c loaded new e)) h.ended;
+    }
 
     played_out : (command : Command) (left rest : Option (List ℕ)) (old new : S) → JobPlayed F command left rest old new due es told A → JobPlayed F command left rest old new due es told B
     played_out command left rest old new h = record {

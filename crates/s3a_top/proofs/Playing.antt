@@ -8,7 +8,8 @@ use Rattle.journal_log.specs.Changes.{changes}
 use Rattle.journal_log.specs.Kept.{IsToEnd}
 use Rattle.journal_log.proofs.Journals.{changes_append}
 use Rattle.journal_log.proofs.Standing.{begins_all, last}
-use Rattle.durable_job.specs.Played.{IsPlayed, IsHeld}
+use Rattle.durable_job.specs.Pace.{LacksSince}
+use Rattle.durable_job.specs.Played.{HaveEventsLeft, IsPlayed, IsHeld}
 use Rattle.durable_job.specs.declared.playing.Kept.{Kept}
 
 -- ---- what is kept
@@ -33,19 +34,21 @@ never due (inr (inr e)) (inl h) = absurd (omega (arith, e, h))
 never due (inr (inr e)) (inr h) = absurd (omega (arith, e, h))
 
 module _ {S : Type 0} (F : Sight S) where
-  short_due : (c : Content) (loaded new : S) (due : ℕ) (es : List Entry) (Says : List ℕ → Type 0) → JobCut F c loaded new due es Says → (due ≡ 5) ⊎ (due ≡ 9)
-  short_due c loaded new due es Says h = ⊎_elim (λ e. inl e.0) (λ e. inr e.0) h.said
+  short_due : (jobs : Jobs) (c : Content) (loaded new : S) (due : ℕ) (es : List Entry) (told : Told) (Says : List ℕ → Type 0)
+      → JobCut F jobs c loaded new due es told Says → (due ≡ 5) ⊎ (due ≡ 9)
+  short_due jobs c loaded new due es told Says h = ⊎_elim (λ e. inl e.0) (λ e. inr e.0) h.said
 
   module _ (command : Command) (jobs : Jobs) (c : Content) (loaded new : S) (due : ℕ) (es : List Entry) (told : Told) (Says : List ℕ → Type 0)
-      (ended : JobEnded F command jobs c loaded new due es told Says ⊎ JobCut F c loaded new due es Says) where
+      (ended : JobEnded F command jobs c loaded new due es told Says ⊎ JobCut F jobs c loaded new due es told Says) where
     pub is_kept : IsKept due (F.held new) c es
     is_kept = record {
-      whole = λ to_end. ⊎_elim (λ e. e.holds) (λ e. never due to_end (short_due c loaded new due es Says e)) ended;
+      whole = λ to_end. ⊎_elim (λ e. e.holds) (λ e. never due to_end (short_due jobs c loaded new due es told Says e)) ended;
       partly = λ which some. ⊎_elim (λ e. whole_part (F.held new) c es e.holds) (λ e. e.holds) ended;
     }
 
     pub last_is : IsToEnd due → (h : Holding) → F.may_leave new h → IsLast (F.held new) c es h
-    last_is to_end h left = ⊎_elim (λ e. last c es (F.held new) (F.may_leave new) e.holds e.durable h left) (λ e. never due to_end (short_due c loaded new due es Says e)) ended
+    last_is to_end h left = ⊎_elim (λ e. last c es (F.held new) (F.may_leave new) e.holds e.durable h left)
+        (λ e. never due to_end (short_due jobs c loaded new due es told Says e)) ended
 
 -- ---- since the shelf was loaded, and before
 
@@ -78,14 +81,34 @@ module _ {S : Type 0} (F : Sight S) (command : Command) (jobs : Jobs) (c : Conte
   said_whole told = subst (λ (n : ℕ). ((due ≡ n) × (text ≡ job_text command due (length kept.journal.entries) kept.told jobs)) ⊎ ((due ≡ 9) × (text ≡ memory_text))) played.verdict
       (subst (λ (j : Jobs). ((due ≡ kept.verdict) × (text ≡ job_text command due (length kept.journal.entries) kept.told j)) ⊎ ((due ≡ 9) × (text ≡ memory_text))) played.jobs_are told)
 
-  ended_so : (stop : Option ShelfStop) → IsHeld F c kept.journal.entries stop old new → (stop ≡ None → AreFinished jobs c kept.journal.entries kept.told) → IsTold stop command kept due text
-      → JobEnded F command jobs c old new due kept.journal.entries kept.told (λ t. text ≡ t) ⊎ JobCut F c old new due kept.journal.entries (λ t. text ≡ t)
-  ended_so None h finished told = inl (record { finished = finished refl; holds = h.0; durable = h.1.0; calls = h.1.1; said = said_whole told })
-  ended_so (Some Failed) h finished told = inr (record { holds = h.0; calls = h.1; said = inl told })
-  ended_so (Some NoMemory) h finished told = inr (record { holds = h.0; calls = h.1; said = inr told })
+  ended_so : (stop : Option ShelfStop) → IsHeld F c kept.journal.entries stop old new
+      → (stop ≡ None → AreFinished jobs c kept.journal.entries kept.told)
+      → (stop ≡ Some NoMemory → HaveEventsLeft jobs kept.told ⊎ LacksSince F c kept.journal.entries old new)
+      → IsTold stop command kept due text
+      → JobEnded F command jobs c old new due kept.journal.entries kept.told (λ t. text ≡ t)
+          ⊎ JobCut F jobs c old new due kept.journal.entries kept.told (λ t. text ≡ t)
+  ended_so None h finished short told = inl (record {
+    finished = finished refl;
+    holds = h.0;
+    durable = h.1.0;
+    calls = h.1.1;
+    said = said_whole told;
+  })
+  ended_so (Some Failed) h finished short told = inr (record {
+    holds = h.0;
+    calls = h.1;
+    said = inl told;
+    short = λ e. absurd (omega (arith, e, told.0));
+  })
+  ended_so (Some NoMemory) h finished short told = inr (record { holds = h.0; calls = h.1; said = inr told; short = λ e. short refl })
 
   ran_so : IsTold kept.stop command kept due text → JobRan F command jobs c old new due kept.journal.entries kept.told (λ t. text ≡ t)
-  ran_so told = record { promised = played.promised; image = image; images = played.images; ended = ended_so kept.stop played.held played.finished told }
+  ran_so told = record {
+    promised = played.promised;
+    image = image;
+    images = played.images;
+    ended = ended_so kept.stop played.held played.finished played.short told;
+  }
 
   -- where this is what was sent and told
   pub ran_of : (es : List Entry) (told : Told) → es ≡ kept.journal.entries → told ≡ kept.told → IsTold kept.stop command kept due text → JobRan F command jobs c old new due es told (λ t. text ≡ t)

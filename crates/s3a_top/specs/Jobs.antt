@@ -16,6 +16,8 @@ use Rattle.durable_store.specs.declared.held.Held.TheVariants.{Faulty}
 use Rattle.journal_log.specs.Changes.{changes}
 use Rattle.journal_log.specs.Crashes.{SurvivesCrashes}
 use Rattle.durable_job.specs.Jobs.{ArePromised, AreFinished, verdict_of}
+use Rattle.durable_job.specs.Pace.{LacksSince}
+use Rattle.durable_job.specs.Played.{HaveEventsLeft}
 use Rattle.durable_job.specs.declared.jobs.Jobs.{Jobs}
 use Rattle.durable_job.specs.declared.jobs.Jobs.TheVariants.{One, Two}
 use Rattle.durable_job.specs.declared.jobs.Told.{Told}
@@ -105,13 +107,16 @@ pub record JobEnded {S : Type 0} (F : Sight S) (command : Command) (jobs : Jobs)
   pub said : ((due ≡ verdict_of jobs told) × Says (job_text command due (length es) told jobs)) ⊎ ((due ≡ 9) × Says memory_text)
 
 -- an append failed, or memory was wanting between two events
-pub record JobCut {S : Type 0} (F : Sight S) (c : Content) (loaded new : S) (due : ℕ) (es : List Entry) (Says : List ℕ → Type 0) : Type 0 where
+pub record JobCut {S : Type 0} (F : Sight S) (jobs : Jobs) (c : Content) (loaded new : S) (due : ℕ) (es : List Entry) (told : Told)
+    (Says : List ℕ → Type 0) : Type 0 where
   -- the shelf holds the first changes of the run, with those of all earlier events
   pub holds : HoldsPart (F.held new) c es
   -- the shelf was called for the first changes alone, and the last call may have failed
   pub calls : AreStopped F (changes es) loaded new
   -- the status is that of the shelf, or of want of memory
   pub said : ((due ≡ 5) × Says shelf_text) ⊎ ((due ≡ 9) × Says memory_text)
+  -- where it was cut out of memory an event has no end, or the shelf lacks a change
+  pub short : due ≡ 9 → HaveEventsLeft jobs told ⊎ LacksSince F c es loaded new
 
 -- Of jobs over a store with this content, since the shelf was loaded: what was sent keeps all that is promised of them.
 pub record JobRan {S : Type 0} (F : Sight S) (command : Command) (jobs : Jobs) (c : Content) (loaded new : S)
@@ -121,7 +126,7 @@ pub record JobRan {S : Type 0} (F : Sight S) (command : Command) (jobs : Jobs) (
   -- its store can have an image at each moment, up to the most of its counter, so that the next run loads it where it is small
   pub image : IsContent c
   pub images : KeepsImages c es
-  pub ended : JobEnded F command jobs c loaded new due es told Says ⊎ JobCut F c loaded new due es Says
+  pub ended : JobEnded F command jobs c loaded new due es told Says ⊎ JobCut F jobs c loaded new due es told Says
 
 -- The headline. Of a job that was played, or of two: the scripts are the command's, the store that they opened with is the shelf's, and the promise holds of all that was sent.
 pub record JobPlayed {S : Type 0} (F : Sight S) (command : Command) (left rest : Option (List ℕ)) (old new : S)

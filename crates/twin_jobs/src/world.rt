@@ -72,7 +72,7 @@ impl<W: Works> TwinWorld<W> {
     }
 
     /// The side whose event is next, or None where the order is used up. Takes no memory.
-    fn next(&self) -> Option<Side>
+    pub fn next(&self) -> Option<Side>
         ensures { result ≡ slice_get self.now.sides (played self.now) }
     {
         self.pair.next()

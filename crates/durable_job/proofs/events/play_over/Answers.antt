@@ -1,5 +1,6 @@
-use Rattle.durable_job.proofs.Common.{Entry, Err, InPace, List, ap, drop, false, length, refl, rules, subst, sym, true, ◌∙◌, ◌≡◌}
-use Rattle.durable_job.proofs.Paces.{falls, adds_rest, within, sent_same, left_none, pace_begins, pace_on, pace_ends, pace_stops}
+use Rattle.durable_job.proofs.Common.{Entry, Err, InPace, List, ap, drop, false, length, refl, rules, subst, sym, true, inl, inr, ◌∙◌, ◌≡◌}
+use Rattle.durable_job.proofs.Paces.{falls, adds_rest, within, sent_same, left_none, pace_begins, pace_on, pace_ends, pace_stops, lacks_at}
+use Rattle.durable_job.proofs.Paces.{fault_is}
 use Rattle.durable_job.proofs.events.play_over.Goals as goal
 
 pub steps-init : goal.steps-init
@@ -78,3 +79,20 @@ returns-in_err-append_all-clause-err g c =
     rw stop
     (pace_ends s.sight (m.origin c.args.world.now) (m.sent c.steps.world) (m.sent c.step.new.self) (drop c.len-from.result all) c.args.shelf.now c.steps.shelf c.append_all.new.shelf fault c.steps.invariant.pace rest
     c.in_err-append_all.ensures.stopped c.append_all.ensures.any_moment)
+
+pub returns-in-Err-clause-short : goal.returns-in-Err-clause-short
+returns-in-Err-clause-short g c = λ none. inl c.in-Err.ensures.short
+
+pub returns-in_err-append_all-clause-short : goal.returns-in_err-append_all-clause-short
+returns-in_err-append_all-clause-short g c = λ none.
+    let s = g.F.Shelf in
+    let m = g.M.Moves in
+    let all = c.journal-journal.result.now.entries in
+    let is : c.in-Ok-true.field-0 ≡ true = cc in
+    let rest = adds_rest m.sent m.left c.steps.world c.step.new.self c.in-Ok-true.field-0 c.in-Ok-true.ensures.ok is all c.len-from.result
+    (c.len-from.ensures.len ∙ ap length c.journal.ensures) c.journal-journal.ensures in
+    let fault = c.in_err-append_all.field-0.0 in
+    let stop : c.from_residual.result ≡ Err fault = search rules in
+    inr (lacks_at s.sight (m.origin c.args.world.now) (m.sent c.steps.world) (m.sent c.step.new.self) (drop c.len-from.result all)
+    c.args.shelf.now c.steps.shelf c.append_all.new.shelf fault (fault_is fault _ stop none) c.steps.invariant.pace rest
+    c.in_err-append_all.ensures.stopped)

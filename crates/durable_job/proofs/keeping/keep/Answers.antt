@@ -1,4 +1,5 @@
-use Rattle.durable_job.proofs.Held.{opening_is, replaced_as, not_replaced_as, held_whole, held_partly, survives_since}
+use Rattle.durable_job.proofs.Common.{Err, NoMemory, Option, ShelfStop, Some, ap, ◌≡◌}
+use Rattle.durable_job.proofs.Held.{opening_is, replaced_as, not_replaced_as, held_whole, held_partly, survives_since, lacks_since}
 use Rattle.durable_job.proofs.Paces.{counts_none, counts_some}
 use Rattle.durable_job.proofs.keeping.keep.Goals as goal
 
@@ -61,3 +62,18 @@ returns-in-Ok-play_over-clause-over g c = λ e. c.in-Ok-play_over.ensures.over
 
 pub returns-in-Err-play_over-clause-over : goal.returns-in-Err-play_over-clause-over
 returns-in-Err-play_over-clause-over g c = λ e. absurd (cc)
+
+pub returns-in-Ok-play_over-clause-short : goal.returns-in-Ok-play_over-clause-short
+returns-in-Ok-play_over-clause-short g c = λ e. absurd (cc)
+
+fault_is : (fault : ShelfStop) → Some fault ≡ Some NoMemory → fault ≡ NoMemory
+fault_is fault e = cc
+
+pub returns-in-Err-play_over-clause-short : goal.returns-in-Err-play_over-clause-short
+returns-in-Err-play_over-clause-short g c = λ e.
+    let m = g.M.Moves in
+    let s = g.F.Shelf.sight in
+    let is = opening_is c.service.result.now (m.origin c.args.moved.now) (m.sent c.args.moved.now) c.service.ensures c.requires.sent in
+    lacks_since s (m.origin c.args.moved.now) (m.sent c.play_over.new.world) c.args.shelf.now c.put_image.new.shelf c.play_over.new.shelf
+    (replaced_as s (m.origin c.args.moved.now) c.service.result.now c.args.shelf.now c.put_image.new.shelf is c.in-Ok.ensures.ok)
+    (c.in-Err-play_over.ensures.short (ap Err (fault_is c.in-Err-play_over.fault e)))

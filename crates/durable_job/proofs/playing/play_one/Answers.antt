@@ -1,4 +1,4 @@
-use Rattle.durable_job.proofs.Common.{Content, IsHeld, Run, Stays, Survives, ap, not_called, subst, ◌∙◌, ◌≡◌}
+use Rattle.durable_job.proofs.Common.{Content, IsHeld, Run, Stays, Survives, ap, not_called, subst, LacksSince, left_of, ◌∙◌, ◌≡◌, ◌<◌, ◌⊎◌}
 use Rattle.durable_job.proofs.Held.{not_replaced_as}
 use Rattle.durable_job.proofs.Ends.{one_played}
 use Rattle.durable_job.proofs.playing.play_one.Goals as goal
@@ -39,6 +39,7 @@ returns-clause-played g c =
       ends_is = f.ends;
       alone = record { picks = c.new-second_picks.ensures; ends = c.new-second_ends.ensures };
     })
+    (λ none. subst (λ (x : Content). (0 < left_of t) ⊎ LacksSince s x t.journal c.args.shelf.now c.keep.new.shelf) opening (e.short none))
     (subst (λ (x : Content). IsHeld s x t.journal c.in-Ok-keep.stop c.args.shelf.now c.keep.new.shelf) opening e.held)
     (subst (λ (x : Content). Survives s x t.journal c.args.shelf.now c.keep.new.shelf) opening e.survives)
     (c.keeps_images.ensures d)

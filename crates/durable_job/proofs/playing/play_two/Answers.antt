@@ -1,4 +1,5 @@
-use Rattle.durable_job.proofs.Common.{AreTwins, Content, IsHeld, IsPlayed, Survives, Twins, TwinsStay, Two, ap, not_called, subst, sym, ◌∙◌, ◌≡◌}
+use Rattle.durable_job.proofs.Common.{AreTwins, Content, IsHeld, IsPlayed, Survives, Twins, TwinsStay, Two, ap, not_called, subst, sym}
+use Rattle.durable_job.proofs.Common.{LacksSince, turns_left, ◌∙◌, ◌≡◌, ◌<◌, ◌⊎◌}
 use Rattle.twin_jobs.specs.Worlds.{Run}
 use Rattle.durable_job.specs.declared.playing.Kept.{Kept}
 use Rattle.durable_job.proofs.Held.{not_replaced_as}
@@ -45,6 +46,8 @@ returns-clause-played g c =
       due_is = c.verdict_of-verdict.ensures;
     })
     (record { first_is = f.first; second_is = f.second; service_is = f.service; journal_is = f.journal })
+    (λ none. subst (λ (x : Content). (0 < turns_left n) ⊎ LacksSince s x n.journal c.args.shelf.now c.keep.new.shelf) opening
+    (e.short none))
     (subst (λ (x : Content). IsHeld s x n.journal c.in-Ok-keep.stop c.args.shelf.now c.keep.new.shelf) opening e.held)
     (subst (λ (x : Content). Survives s x n.journal c.args.shelf.now c.keep.new.shelf) opening e.survives)
     (c.keeps_images.ensures d))

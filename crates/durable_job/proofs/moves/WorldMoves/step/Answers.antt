@@ -1,5 +1,5 @@
 use Rattle.std.proofs.Common.{refl, sym}
-use Rattle.durable_job.proofs.Paces.{stepped, stays, stays_so, none_left}
+use Rattle.durable_job.proofs.Paces.{stepped, stays, stays_so, left_so, none_left}
 use Rattle.durable_job.proofs.moves.WorldMoves.step.Goals as goal
 
 pub returns-in-None-clause-keeps : goal.returns-in-None-clause-keeps
@@ -16,3 +16,6 @@ returns-in-Ok-clause-ok g c = stepped c.args.self.now c.event.new.self c.in-Some
 
 pub returns-in-Err-clause-keeps : goal.returns-in-Err-clause-keeps
 returns-in-Err-clause-keeps g c = stays_so c.args.self.now c.event.new.self c.in-Err.ensures.err
+
+pub returns-in-Err-clause-short : goal.returns-in-Err-clause-short
+returns-in-Err-clause-short g c = left_so c.args.self.now c.event.new.self c.in-Some.event (sym c.in-Some.ensures) c.in-Err.ensures.err
