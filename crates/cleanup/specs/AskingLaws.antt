@@ -1,9 +1,9 @@
 -- How a clean stands.
-use Rattle.std.specs.Prelude.{◌≡◌, ℕ, List, [], ◌∷◌, Some, None}
+use Rattle.std.specs.Prelude.{◌≡◌, ℕ, List, [], ◌∷◌, Some, None, is_none, is_some}
 use Rattle.std.proofs.Common.{refl}
 use Rattle.job_protocol.specs.Prelude.{Committer, Magic, Request, UploadRef, Reply, ClusterNames, Job, job_script, clean_wants, clean_told, More, Whole, walked_uploads, sweep_hears, all_go, Clean, Walking, Aborting, Naming, Removing, CleanOver, clean_asks, clean_hears, aborted, aborting, walking, sweeping, removing, naming}
 use Rattle.machine.specs.Prelude.{AskLaws, Fine}
-use Rattle.job_protocol.specs.Cleanups.{Sweeping}
+use Rattle.job_protocol.specs.Cleanups.{Sweeping, clean_over}
 use Rattle.cleanup.specs.Fits.{FitsDriving, standing, standing_of}
 
 fine_aborting : (c : Committer) (us : List UploadRef) → standing_of (aborting c us) ≡ Fine
@@ -22,8 +22,14 @@ goes_on j Naming r a e = elim a as (λ a. standing_of (naming a) ≡ Fine) [ Clu
 goes_on j (Removing p ps) r a e = fine_removing ps
 goes_on j (CleanOver end) r a e = refl
 
-pub clean_laws : AskLaws clean_wants clean_told FitsDriving standing
+-- it asks a request until it is over
+asks_until : (j : Job) (c : Clean) → is_some (clean_asks (job_script j) c) ≡ is_none (clean_over c)
+asks_until j (CleanOver end) = refl
+asks_until j _ = refl
+
+pub clean_laws : AskLaws clean_wants clean_told FitsDriving (λ m. clean_over m.operation) standing
 clean_laws = record {
+  ends = λ m. asks_until m.plan m.operation;
   stops = λ m. refl;
   breaks = λ m. refl;
   faults = λ m r e. refl;

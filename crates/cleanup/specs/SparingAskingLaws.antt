@@ -1,12 +1,12 @@
 -- How a sparing clean goes on.
-use Rattle.std.specs.Prelude.{◌≡◌, ℕ, List, [], ◌∷◌, ◌++◌, drop, Some}
+use Rattle.std.specs.Prelude.{◌≡◌, ℕ, List, [], ◌∷◌, ◌++◌, drop, Some, is_none, is_some}
 use Rattle.std.proofs.Common.{refl}
 use Rattle.job_protocol.specs.Prelude.{filter, Committer, Magic, Request, UploadRef, Reply, ClusterNames, Job, job_script, More, Whole}
 use Rattle.machine.specs.Prelude.{AskLaws, Fine}
 use Rattle.list_walk.specs.Walks.{walked}
 use Rattle.job_protocol.specs.AtWork.{sparing_wants, sparing_told}
 use Rattle.magic_paths.specs.Places.{is_record}
-use Rattle.job_protocol.specs.Sparing.{Sparing, Walking, Naming, Reading, Aborting, Deleting, Removing, SparingOver, sparing_asks, sparing_hears, names, deleting, removing, aborting, reading_on, walking, naming}
+use Rattle.job_protocol.specs.Sparing.{Sparing, Walking, Naming, Reading, Aborting, Deleting, Removing, SparingOver, sparing_asks, sparing_hears, sparing_over, names, deleting, removing, aborting, reading_on, walking, naming}
 use Rattle.cleanup.specs.SparingFits.{FitsSparingDriving, sparing_standing, sparing_standing_of}
 
 fine_deleting : (ks : List (List ℕ)) → sparing_standing_of (deleting ks) ≡ Fine
@@ -36,8 +36,14 @@ goes_on j (Deleting k ks) r a e = fine_deleting (drop 1000 (k ∷ ks))
 goes_on j (Removing p ps) r a e = fine_removing ps
 goes_on j (SparingOver end) r a e = refl
 
-pub sparing_laws : AskLaws sparing_wants sparing_told FitsSparingDriving sparing_standing
+-- it asks a request until it is over
+asks_until : (j : Job) (x : Sparing) → is_some (sparing_asks (job_script j) x) ≡ is_none (sparing_over x)
+asks_until j (SparingOver end) = refl
+asks_until j _ = refl
+
+pub sparing_laws : AskLaws sparing_wants sparing_told FitsSparingDriving (λ m. sparing_over m.operation) sparing_standing
 sparing_laws = record {
+  ends = λ m. asks_until m.plan m.operation;
   stops = λ m. refl;
   breaks = λ m. refl;
   faults = λ m r e. refl;

@@ -1,10 +1,10 @@
 -- How a check before a commit stands.
-use Rattle.std.specs.Prelude.{◌≡◌, ℕ, List, [], ◌∷◌, Option, Some, None}
+use Rattle.std.specs.Prelude.{◌≡◌, ℕ, List, [], ◌∷◌, Option, Some, None, is_none, is_some}
 use Rattle.std.proofs.Common.{refl}
 use Rattle.job_protocol.specs.Prelude.{Request, PageEntry, Reply, Page, Script, job_script, Walked, More, Whole, keys_on, first_shown}
 use Rattle.machine.specs.Prelude.{AskLaws, Fine}
 use Rattle.list_walk.specs.Walks.{walked}
-use Rattle.job_protocol.specs.Rechecks.{Check, Looking, Probing, CheckOver, probing, check_asks, looked, probed, check_hears}
+use Rattle.job_protocol.specs.Rechecks.{Check, Looking, Probing, CheckOver, probing, check_asks, check_over, looked, probed, check_hears}
 use Rattle.conflict.specs.Rechecks.{check_wants, check_told}
 use Rattle.conflict.specs.Fits.{FitsCheck, standing, standing_of}
 
@@ -24,8 +24,14 @@ goes_on w (Probing d ds) r (Page entries more) e = fine_probed d ds entries
 goes_on w (Probing d ds) r _ e = refl
 goes_on w (CheckOver end) r a e = refl
 
-pub check_laws : AskLaws check_wants check_told FitsCheck standing
+-- it asks a request until it is over
+asks_until : (w : Script) (c : Check) → is_some (check_asks w c) ≡ is_none (check_over c)
+asks_until w (CheckOver end) = refl
+asks_until w _ = refl
+
+pub check_laws : AskLaws check_wants check_told FitsCheck (λ m. check_over m.operation) standing
 check_laws = record {
+  ends = λ m. asks_until (job_script m.plan.job) m.operation;
   stops = λ m. refl;
   breaks = λ m. refl;
   faults = λ m r e. refl;

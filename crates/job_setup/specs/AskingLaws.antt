@@ -1,10 +1,10 @@
 -- How a set-up stands.
-use Rattle.std.specs.Prelude.{◌≡◌, ℕ, true, false, cond, List, [], Option, Some, None}
+use Rattle.std.specs.Prelude.{◌≡◌, ℕ, true, false, cond, List, [], Option, Some, None, is_none, is_some}
 use Rattle.std.proofs.Common.{refl}
 use Rattle.job_protocol.specs.Prelude.{Magic, Request, Reply, Head, Page, Job, Script, job_script, setup_wants, setup_told, checks_all, Walked, More, Whole, keys_on, sweep_hears, all_go, Setup, Heading, Clearing, Sweeping, SetupOver, setup_asks, setup_hears, if_bucket, headed, first_shown, checked_by, checked, cleared}
 use Rattle.machine.specs.Prelude.{AskLaws, Fine}
 use Rattle.list_walk.specs.Walks.{walked}
-use Rattle.job_protocol.specs.Setup.{Checking, sweeping}
+use Rattle.job_protocol.specs.Setup.{Checking, setup_over, sweeping}
 use Rattle.job_protocol.proofs.Faults.{if_bucket_so}
 use Rattle.job_setup.specs.Fits.{FitsDriving, standing, standing_of}
 
@@ -32,8 +32,14 @@ goes_on j Clearing r a e = fine_if a (cleared j.committer) (elim j.committer as 
 goes_on j (Sweeping s) r a e = let o = sweep_hears all_go s a in fine_if a (sweeping o) (elim o as (λ o. standing_of (sweeping o) ≡ Fine) [ Some w ↦ refl | None ↦ refl ])
 goes_on j (SetupOver end) r a e = refl
 
-pub setup_laws : AskLaws setup_wants setup_told FitsDriving standing
+-- it asks a request until it is over
+asks_until : (j : Job) (s : Setup) → is_some (setup_asks (job_script j) s) ≡ is_none (setup_over s)
+asks_until j (SetupOver end) = refl
+asks_until j _ = refl
+
+pub setup_laws : AskLaws setup_wants setup_told FitsDriving (λ m. setup_over m.operation) standing
 setup_laws = record {
+  ends = λ m. asks_until m.plan m.operation;
   stops = λ m. refl;
   breaks = λ m. refl;
   faults = λ m r e. refl;

@@ -3,7 +3,9 @@ use Rattle.std.specs.Prelude.{ℕ, Bool, Option}
 use Rattle.machine.specs.Prelude.{Scene, Request, Reply, Item, Standing, Laws, AskLaws}
 use Rattle.machine.specs.Asks.{never}
 
-pub machine_laws : {O : Type 0} {wants : O → Option Request} {after : O → Item → O} {fits : O → Reply → Bool → Type 0} {standing : O → Standing} (left : O → Scene → ℕ) → AskLaws wants after fits standing → Laws wants after fits never left standing
+pub machine_laws : {O E : Type 0} {wants : O → Option Request} {after : O → Item → O} {fits : O → Reply → Bool → Type 0}
+    {end_of : O → Option E} {standing : O → Standing} (left : O → Scene → ℕ) → AskLaws wants after fits end_of standing
+    → Laws wants after fits never left standing
 machine_laws left laws = record {
   fit = λ o s r b e h. absurd h;
   lost = λ o s b h. h;

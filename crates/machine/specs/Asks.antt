@@ -1,10 +1,13 @@
 -- What an operation owes beside the contracts of its calls.
-use Rattle.std.specs.Prelude.{◌≡◌, Bool, Option, Some, None}
+use Rattle.std.specs.Prelude.{◌≡◌, Bool, Option, Some, None, is_none, is_some}
 use Rattle.retries.specs.Prelude.{Scene, Request, Reply, Item, Got, WornOut, OutOfMemory}
 use Rattle.machine.specs.Standing.{Standing, Faulted, Broken}
 
 -- what an actor's operation owes as a machine
-pub record AskLaws {O : Type 0} (wants : O → Option Request) (after : O → Item → O) (fits : O → Reply → Bool → Type 0) (standing : O → Standing) : Type 0 where
+pub record AskLaws {O E : Type 0} (wants : O → Option Request) (after : O → Item → O) (fits : O → Reply → Bool → Type 0)
+    (end_of : O → Option E) (standing : O → Standing) : Type 0 where
+  -- it asks a request exactly as long as it has not ended
+  pub ends : (o : O) → is_some (wants o) ≡ is_none (end_of o)
   -- without memory it asks nothing more
   pub stops : (o : O) → wants (after o OutOfMemory) ≡ None
   pub breaks : (o : O) → standing (after o OutOfMemory) ≡ Broken

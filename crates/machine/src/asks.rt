@@ -87,10 +87,10 @@ pub trait Asks: Drop {
     fn into_plan(self) -> Self::Plan
         ensures { result ≡ plan_of self };
 
-    /// How it ended, or None while it asks a request. Takes no memory.
+    /// How it ended, or None while it asks a request, which is until it ends (`laws`). Takes no memory.
     fn end(&self) -> Option<&Self::End>
         ensures { option_copied result ≡ end_of self.now };
 
     /// What holds of these.
-    ghost laws: { AskLaws wants after fits standing };
+    ghost laws: { AskLaws wants after fits end_of standing };
 }

@@ -1,7 +1,7 @@
 -- How a commit of a task stands.
-use Rattle.std.specs.Prelude.{◌≡◌, ℕ, Bool, true, false, List, [], ◌∷◌, Option, Some, None}
+use Rattle.std.specs.Prelude.{◌≡◌, ℕ, Bool, true, false, List, [], ◌∷◌, Option, Some, None, is_none, is_some}
 use Rattle.std.proofs.Common.{refl}
-use Rattle.job_protocol.specs.Prelude.{Reply, Page, Refused, NoSuchKey, NoSuchUpload, NoSuchFile, File, Who, Known, Script, Attempting, task_script, who_of, task_commit_wants, task_commit_told, files, Uploading, Creating, Sending, file_parts, sending, created, sent_part, upload_hears, Walked, More, Whole, TaskCommit, Looking, Reading, Checking, Renaming, task_commit_over, task_commit_hears, reading, looked_at, looked, read_record, storing, checking, uploaded, renamed}
+use Rattle.job_protocol.specs.Prelude.{Reply, Page, Refused, NoSuchKey, NoSuchUpload, NoSuchFile, File, Who, Known, Task, Script, Attempting, task_script, who_of, task_commit_wants, task_commit_told, files, Uploading, Creating, Sending, file_parts, sending, created, sent_part, upload_hears, Walked, More, Whole, TaskCommit, Looking, Reading, Checking, Renaming, task_commit_over, task_commit_hears, reading, looked_at, looked, read_record, storing, checking, uploaded, renamed}
 use Rattle.machine.specs.Prelude.{Upload, Standing, Fine, AskLaws}
 use Rattle.s3_types.specs.declared.reply.Reply.TheVariants.{Object}
 use Rattle.list_walk.specs.Walks.{walked}
@@ -73,8 +73,14 @@ goes_on w minimum a k (commits.Uploads f fs u) r b h = fine_uploaded w minimum f
 goes_on w minimum a k Renaming r b h = fine_renamed w a r b
 goes_on w minimum a k _ r b h = refl
 
-pub commit_laws : AskLaws task_commit_wants task_commit_told commit_fits commit_standing
+-- it asks a request until it is over
+asks_until : (t : Task) (o : TaskCommit) → is_some (task_commit_wants (record { plan = t; operation = o })) ≡ is_none (task_commit_over o)
+asks_until t (commits.TaskCommitOver end) = refl
+asks_until t _ = refl
+
+pub commit_laws : AskLaws task_commit_wants task_commit_told commit_fits (λ m. task_commit_over m.operation) commit_standing
 commit_laws = record {
+  ends = λ m. asks_until m.plan m.operation;
   stops = λ m. refl;
   breaks = λ m. refl;
   faults = λ m r e. refl;

@@ -5,6 +5,9 @@ use Rattle.job_protocol.specs.Prelude.{Request, Reply, Item, WornOut, OutOfMemor
 use Rattle.machine.specs.Prelude.{Standing, AskLaws}
 use Rattle.job_model.specs.declared.ends.TaskEnd.TheVariants as ends
 use Rattle.job_protocol.specs.AtWork.{told}
+use Rattle.job_protocol.specs.TaskAborts.{task_abort_over}
+use Rattle.job_protocol.specs.TaskCommits.{task_commit_over}
+use Rattle.job_protocol.specs.Writes.{write_over}
 use Rattle.task_requests.specs.Writing.{write_fits}
 use Rattle.task_machines.specs.Writes.{write_standing, write_asks}
 use Rattle.task_machines.specs.Commits.{commit_fits}
@@ -17,8 +20,10 @@ abbrev pub at : {O : Type 0} → Task → O → Attempting O
 at t o = record { plan = t; operation = o }
 
 -- what each operation of an attempt owes, whatever its committer
-pub record TaskLaws {O : Type 0} (wants : Attempting O → Option Request) (after : Attempting O → Item → Attempting O) (fits : Attempting O → Reply → Bool → Type 0) (standing : Attempting O → Standing) (ended : TaskEnd → O) : Type 0 where
-  pub asks : AskLaws wants after fits standing
+pub record TaskLaws {O : Type 0} (wants : Attempting O → Option Request) (after : Attempting O → Item → Attempting O)
+    (fits : Attempting O → Reply → Bool → Type 0) (over : O → Option TaskEnd) (standing : Attempting O → Standing)
+    (ended : TaskEnd → O) : Type 0 where
+  pub asks : AskLaws wants after fits (λ m. over m.operation) standing
   -- want of memory ends it, and teaches nothing
   pub broken : (m : Attempting O) → after m OutOfMemory ≡ at m.plan (ended ends.NoMemory)
   -- once a request wore out it asks nothing more
@@ -31,11 +36,11 @@ no_memory w a k None = refl
 broken : {O : Type 0} (m : Attempting O) (asked : Option Request) (next : O) → told m asked OutOfMemory next ≡ at m.plan next
 broken {O} m asked next = ap (λ (k : Known). let then : Attempting O = at (with_known m.plan k) next in then) (no_memory (task_script m.plan) (who_of m.plan) m.plan.known asked)
 
-pub write_is : TaskLaws write_wants write_told write_fits write_standing WriteOver
+pub write_is : TaskLaws write_wants write_told write_fits write_over write_standing WriteOver
 write_is = record { asks = write_asks; broken = λ m. broken m _ _; worn = λ m. refl }
 
-pub commit_is : TaskLaws task_commit_wants task_commit_told commit_fits commit_standing TaskCommitOver
+pub commit_is : TaskLaws task_commit_wants task_commit_told commit_fits task_commit_over commit_standing TaskCommitOver
 commit_is = record { asks = commit_laws; broken = λ m. broken m _ _; worn = λ m. refl }
 
-pub abort_is : TaskLaws task_abort_wants task_abort_told abort_fits abort_standing TaskAbortOver
+pub abort_is : TaskLaws task_abort_wants task_abort_told abort_fits task_abort_over abort_standing TaskAbortOver
 abort_is = record { asks = abort_laws; broken = λ m. broken m _ _; worn = λ m. refl }

@@ -1,10 +1,10 @@
 -- How a write stands, and its laws as a machine.
-use Rattle.std.specs.Prelude.{◌≡◌, ℕ, List, [], ◌∷◌, Some}
+use Rattle.std.specs.Prelude.{◌≡◌, ℕ, List, [], ◌∷◌, Some, is_none, is_some}
 use Rattle.std.proofs.Common.{refl}
 use Rattle.job_protocol.specs.Prelude.{Request, Reply, Part, Refused, NoSuchUpload, File, Drawn, Task, Script, Attempting, task_script, write_wants, write_told, Creating, Sending, sending, file_parts, created, sent_part, Write, writing, write_hears}
 use Rattle.machine.specs.Prelude.{Upload, Standing, Fine, AskLaws}
 use Rattle.job_protocol.specs.Writes as writes
-use Rattle.job_protocol.specs.Writes.{uploaded}
+use Rattle.job_protocol.specs.Writes.{uploaded, write_over}
 use Rattle.task_machines.specs.Standing.{standing_of}
 use Rattle.task_requests.specs.Writing.{write_fits, FitsWrite, FitsCreate, FitsPart}
 
@@ -43,8 +43,14 @@ fine_at t (writes.Recording f fs) r a w h = written_fine fs
 fine_at t _ r a w h = refl
 
 -- of an operation that an actor holds
-pub write_asks : AskLaws write_wants write_told write_fits write_standing
+-- it asks a request until it is over
+asks_until : (t : Task) (o : Write) → is_some (write_wants (record { plan = t; operation = o })) ≡ is_none (write_over o)
+asks_until t (writes.WriteOver end) = refl
+asks_until t _ = refl
+
+pub write_asks : AskLaws write_wants write_told write_fits (λ m. write_over m.operation) write_standing
 write_asks = record {
+  ends = λ m. asks_until m.plan m.operation;
   stops = λ m. refl;
   breaks = λ m. refl;
   faults = λ m r w. refl;

@@ -47,7 +47,7 @@ pub trait TaskOperation {
     ghost standing: { Attempting Self → Standing };
 
     /// What holds of these.
-    ghost laws: { TaskLaws wants after fits standing ended };
+    ghost laws: { TaskLaws wants after fits over standing ended };
 }
 
 /// An attempt's write of its files: a magic one uploads them, a staging one keeps them. (Hadoop, S3A committer
