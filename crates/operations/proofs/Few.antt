@@ -37,7 +37,7 @@ module _ {P A : Type 0} {starts : P → Type 0} {asks : P → Request} {goes : P
   one_most t s r (Answered a) n w k honest few h =
       let f : left more (got goes t.operation a t.repeated) (apply s r) < left more t.operation s =
       subst (λ v. left more (got goes t.operation v t.repeated) (apply s r) < left more t.operation s) (sym honest)
-          (falls course o z t.operation s r t.repeated w k) in
+      (falls course o z t.operation s r t.repeated w k) in
       omega (arith, room (suc (left more (got goes t.operation a t.repeated) (apply s r))) (left more t.operation s) f)
   one_most t s r Slow n w k honest few h = unanswered_most t.operation t.spare s s t.repeated n (some_left course t.operation s r w)
       (omega arith) few h
@@ -62,7 +62,7 @@ module _ {P A : Type 0} {starts : P → Type 0} {asks : P → Request} {goes : P
   few_sent t s (e ∷ es) f h k few =
       one_most t s e.request e.outcome (length es) f.0 k h.0 few
       (few_sent (step retries (after goes) t e.outcome) (effect s e.request e.outcome) es f.1 h.1
-          (kept_run (keeps course o z) retries t s (e ∷ []) (f.0, tt) (h.0, tt) k) (spare_still t e.outcome few))
+      (kept_run (keeps course o z) retries t s (e ∷ []) (f.0, tt) (h.0, tt) k) (spare_still t e.outcome few))
 
   -- from its beginning
   pub few_of : (m : Stage P A) → m ≡ On o → starts o → (t : Retried (Stage P A)) → t ≡ fresh retries m → (all : List Entry)
@@ -71,7 +71,7 @@ module _ {P A : Type 0} {starts : P → Type 0} {asks : P → Request} {goes : P
   few_of m e h t first all f honest old new part appended same =
       let begun : t ≡ fresh retries (On o) = first ∙ ap (fresh retries) e in
       let most_all = subst (λ (t : Retried (Stage P A)). Follows (wants_of (wanted asks)) (step retries (after goes)) t all
-          → length all ≤ (1 + more o z) * (retries + 1)) (sym begun)
+      → length all ≤ (1 + more o z) * (retries + 1)) (sym begun)
       (λ g. let l = few_sent (fresh retries (On o)) z all g honest (course.begin o z h) (omega arith) in omega (arith, l)) f in
       let one : length part ≡ length all = ap length (append_cancel_left old part all (sym same ∙ appended)) in
       omega (arith, most_all, one)

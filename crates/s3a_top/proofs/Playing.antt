@@ -86,7 +86,7 @@ module _ {S : Type 0} (F : Sight S) (command : Command) (jobs : Jobs) (c : Conte
       → (stop ≡ Some NoMemory → HaveEventsLeft jobs kept.told ⊎ LacksSince F c kept.journal.entries old new)
       → IsTold stop command kept due text
       → JobEnded F command jobs c old new due kept.journal.entries kept.told (λ t. text ≡ t)
-          ⊎ JobCut F jobs c old new due kept.journal.entries kept.told (λ t. text ≡ t)
+      ⊎ JobCut F jobs c old new due kept.journal.entries kept.told (λ t. text ≡ t)
   ended_so None h finished short told = inl (record {
     finished = finished refl;
     holds = h.0;

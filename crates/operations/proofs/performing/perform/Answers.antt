@@ -54,12 +54,12 @@ pub returns-in-Ok-answer_of-clause-few : goal.returns-in-Ok-answer_of-clause-few
 returns-in-Ok-answer_of-clause-few g c = λ part e.
     let d = c.drive-driven.ensures.drove in
     few_of c.laws.ensures.course c.args.plan _ c.args.retries _ c.in-Ok.ensures c.requires.starts _ c.new-retrying.ensures.unsent d.part
-        (subst (λ (k : ℕ). Follows (wants_of (wanted g.P.Plan.asks)) (step k (after g.P.Plan.goes)) (retried c.new-retrying.result) d.part)
-        c.new-retrying.ensures.retries d.is_run.follows) d.is_run.honest _ _ part d.appended e
+    (subst (λ (k : ℕ). Follows (wants_of (wanted g.P.Plan.asks)) (step k (after g.P.Plan.goes)) (retried c.new-retrying.result) d.part)
+    c.new-retrying.ensures.retries d.is_run.follows) d.is_run.honest _ _ part d.appended e
 
 pub returns-in-Err-answer_of-clause-few : goal.returns-in-Err-answer_of-clause-few
 returns-in-Err-answer_of-clause-few g c = λ part e.
     let d = c.drive-driven.ensures.drove in
     few_of c.laws.ensures.course c.args.plan _ c.args.retries _ c.in-Ok.ensures c.requires.starts _ c.new-retrying.ensures.unsent d.part
-        (subst (λ (k : ℕ). Follows (wants_of (wanted g.P.Plan.asks)) (step k (after g.P.Plan.goes)) (retried c.new-retrying.result) d.part)
-        c.new-retrying.ensures.retries d.is_run.follows) d.is_run.honest _ _ part d.appended e
+    (subst (λ (k : ℕ). Follows (wants_of (wanted g.P.Plan.asks)) (step k (after g.P.Plan.goes)) (retried c.new-retrying.result) d.part)
+    c.new-retrying.ensures.retries d.is_run.follows) d.is_run.honest _ _ part d.appended e

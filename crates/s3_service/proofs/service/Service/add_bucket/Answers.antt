@@ -11,7 +11,7 @@ invariant_of-self-2 c =
           subst (λ (m : Buckets). AreBelow m n) (sym c.in_ok-insert.ensures.ok)
           (below_insert c.self.inside.buckets n n c.args.name c.new.result c.self.invariant.below le
           (next_below c.new.result c.args.objects c.args.uploads n c.args.self.now.next c.new.ensures (λ i. (sym c.self.view_is i).next)
-              c.requires.below));
+          c.requires.below));
       some = c.self.invariant.some;
       most = c.self.invariant.most;
     }

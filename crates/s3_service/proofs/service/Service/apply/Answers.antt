@@ -9,7 +9,7 @@ invariant_of-self c =
       below =
           subst (λ (n : ℕ). AreBelow c.apply.new.self n) (sym c.next_after-self-inside.ensures)
           (kept_below s.buckets c.apply.new.self s.next s.minimum c.in-Some.name.now c.args.request.now c.self.invariant.below
-              c.in-Ok-Some.ensures.ok);
+          c.in-Ok-Some.ensures.ok);
       some = c.self.invariant.some;
       most = c.self.invariant.most;
     }

@@ -17,7 +17,7 @@ new-requires-clause-room c =
 pub returns-in-Ok-clause-did : goal.returns-in-Ok-clause-did
 returns-in-Ok-clause-did c =
     let least = subst (λ (n : ℕ). n ≤ c.block_of-block.result) (c.minimum-minimum.ensures.minimum ∙ ap (λ (d : Content). d.minimum)
-        c.service.ensures) (least_block _ _ _ c.block_of-block.ensures) in
+    c.service.ensures) (least_block _ _ _ c.block_of-block.ensures) in
     let done = c.in-Ok.ensures.performed in
     file_if c.args.path.now c.args.bytes.now c.in_ok-bytes.bytes c.block_of-block.result c.args.overwrite c.args.policy _ _ c.in_ok-file.file.file c.in-Ok.answer c.nothing_said.result c.in_ok-bytes.ensures.cases
     c.in_ok-file.ensures.file least (c.in-Ok.ensures.answered done.part done.appended (answered (c.args.self.now.store.requests + 1) done.part done.foretold)) c.nothing_said.ensures
@@ -26,7 +26,7 @@ pub returns-in-Ok-clause-sent : goal.returns-in-Ok-clause-sent
 returns-in-Ok-clause-sent c =
     let z = c.args.self.now.store.scene in
     let least = subst (λ (n : ℕ). n ≤ c.block_of-block.result) (c.minimum-minimum.ensures.minimum ∙ ap (λ (d : Content). d.minimum)
-        c.service.ensures) (least_block _ _ _ c.block_of-block.ensures) in
+    c.service.ensures) (least_block _ _ _ c.block_of-block.ensures) in
     let file = c.in_ok-file.file.file in
     on_ok c.nothing_said.result
     (sent_as (AlwaysFile file z) (FileOrNot c.args.policy c.args.path.now c.args.bytes.now z) _ _
