@@ -35,7 +35,7 @@ returns-in-Ok-clause-sent c =
 
 pub returns-in-Ok-clause-asked : goal.returns-in-Ok-clause-asked
 returns-in-Ok-clause-asked c =
-    let least = c.minimum-minimum.ensures ∙ ap (λ (d : Content). d.minimum) c.service.ensures in
+    let least = c.minimum-minimum.ensures.minimum ∙ ap (λ (d : Content). d.minimum) c.service.ensures in
     on_ok c.nothing_said.result
     (file_asked c.args.path.now c.args.bytes.now c.in_ok-bytes.bytes c.block_of-block.result c.args.overwrite c.args.policy
     c.args.self.now.store.scene _ _ c.in_ok-file.file c.in_ok-bytes.ensures.cases
