@@ -15,5 +15,6 @@ mod played;
 mod report;
 mod twins;
 
+pub use ends::write_end;
 pub use report::report_text;
 pub use twins::{SideReport, twins_report};

@@ -31,4 +31,5 @@ mod reading;
 pub use fault::ScriptFault;
 pub use job_model::Script;
 pub use print::print_script;
+pub use print_words::mode_word;
 pub use reading::read_script;
