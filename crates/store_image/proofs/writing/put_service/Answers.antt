@@ -11,7 +11,7 @@ four o m a b d w x y z first second third fourth =
     ∙ ap (λ (l : List ℕ). l ++ (a ++ (b ++ d))) first ∙ append_assoc o m (a ++ (b ++ d))
 
 pub returns : goal.returns
-returns g c = on_ok_weaker c.put_buckets.result (λ last. four c.args.out.now.items magic _ _ _ _ _ _ _
+returns c = on_ok_weaker c.put_buckets.result (λ last. four c.args.out.now.items magic _ _ _ _ _ _ _
     c.in_ok-extend_from_slice.ensures.items
     (c.in_ok-put_u64.ensures ∙ ap (λ (n : ℕ). c.extend_from_slice.new.self.items ++ to_be_bytes w64 n) c.minimum.ensures.minimum)
     (c.in_ok-put_u64-2.ensures ∙ ap (λ (n : ℕ). c.put_u64.new.out.items ++ to_be_bytes w64 n) c.next_upload.ensures.next)
