@@ -11,7 +11,7 @@ pub use Rattle.job_script.specs.AttemptLines.{name_at}
 pub use Rattle.job_script.specs.HeadLines.{head_at, head_lines, head_order, loss_at, loss_lines, no_head, path_text, row_lines, unless, value_lines}
 pub use Rattle.job_script.specs.Kinds.{Line, fate_word, fates}
 pub use Rattle.job_script.specs.Print.{attempt_lines, event_line, file_line, hex_word, script_text}
-pub use Rattle.job_script.specs.Script.{lines_at, nothing, script_of}
+pub use Rattle.job_script.specs.Script.{lines_at, nothing, script_of, script_within}
 pub use Rattle.job_script.specs.declared.draft.Draft.{Draft}
 pub use Rattle.job_script.specs.declared.draft.Group.{Group}
 pub use Rattle.job_script.specs.declared.fault.ScriptFault.{ScriptFault}

@@ -179,8 +179,30 @@ rows_go s l n (w ∷ ws) h f =
     (rows_go s l (n + length (row_lines s w)) ws ((row w).put n ((row w).said s) h) f.2)
 
 -- the lines of a script's head are read as what it says
-pub head_goes : (s : Script) → IsLegal s → Goes 1 nothing (flat_map (row_lines s) head_order) (headed (said_by s 1 head_order no_head))
-head_goes s l = rows_go s l 1 head_order no_head (refl, refl, (refl, refl, (refl, refl, (refl, refl, (refl, refl, (refl, refl, (refl, refl, (refl, refl, (refl, refl, (refl, refl, tt))))))))))
+pub head_goes : (losses : ℕ) (s : Script) → IsLegal s
+    → Goes 1 (nothing losses) (flat_map (row_lines s) head_order) (headed (said_by s 1 head_order (no_head losses)))
+head_goes losses s l =
+    rows_go s l 1 head_order (no_head losses) (
+      refl,
+      refl,
+      (
+        refl,
+        refl,
+        (
+          refl,
+          refl,
+          (
+            refl,
+            refl,
+            (
+              refl,
+              refl,
+              (refl, refl, (refl, refl, (refl, refl, (refl, refl, (refl, refl, tt))))),
+            ),
+          ),
+        ),
+      ),
+    )
 
 -- ---- what is read is within bounds
 
@@ -222,6 +244,6 @@ value_sound n w h k values words e s =
     subst IsSoundHead p.4 (record { values = λ v. put_sound w v n p.1 h bound (s.values v); fates = put_fates w n p.1 h s.fates })
 
 -- before the first line
-pub none_sound : (w : HeadWord) → IfSome ((row w).kept no_head) (Holds w)
-none_sound head.Job = tt
-none_sound w = tt
+pub none_sound : (losses : ℕ) (w : HeadWord) → IfSome ((row w).kept (no_head losses)) (Holds w)
+none_sound losses head.Job = tt
+none_sound losses w = tt

@@ -1,5 +1,11 @@
 -- The lines of sendings that have a fate: what is printed is read again, and what is read is within bounds.
-use Rattle.job_script.proofs.Common.{AllByRecursion, AreFates, Bool, Err, Fate, FateMap, Head, HeadWord, IsFirstFrom, IsFirstNamed, List, None, Ok, Option, RepeatedName, Result, ScriptFault, Some, TooLarge, [], ap, append-nil, append_assoc, arith, cases_lt, check, cond, contrary, decimal, ended, eq_by_cmp, exact_unsigned, false, fate_word, fates, find, find_head, find_other, inl, inr, is_answer, is_some, keys_of, le-leb, length, lit<, lt-ltb, map, map_sorted, nat_cmp, nat_cmp_total, nat_tests, need, none_is, number_in-decimal, parted, refl, same_ok, sorted_head, sorted_tail, subst, suc, sym, text_of, true, true≢false, zero, ℕ, ◌++◌, ◌+◌, ◌<◌, ◌>>=◌, ◌||◌, ◌↔◌, ◌∙◌, ◌∷◌, ◌≡◌, ◌≤◌}
+use Rattle.job_script.proofs.Common.{AllByRecursion, AreFates, Bool, Err, Fate, FateMap, Head, HeadWord, IsFirstFrom, IsFirstNamed, List}
+use Rattle.job_script.proofs.Common.{None, Ok, Option, RepeatedName, Result, ScriptFault, Some, TooLarge, [], ap, append-nil, append_assoc}
+use Rattle.job_script.proofs.Common.{arith, cases_lt, check, cond, contrary, decimal, ended, eq_by_cmp, exact_unsigned, false, fate_word}
+use Rattle.job_script.proofs.Common.{fates, find, find_head, find_other, inl, inr, is_answer, is_some, keys_of, le-leb, length, lit<}
+use Rattle.job_script.proofs.Common.{lt-ltb, map, map_sorted, nat_cmp, nat_cmp_total, nat_tests, need, none_is, number_in-decimal, parted}
+use Rattle.job_script.proofs.Common.{refl, same_ok, sorted_head, sorted_tail, subst, suc, sym, text_of, true, true≢false, zero, ℕ, ◌++◌}
+use Rattle.job_script.proofs.Common.{◌+◌, ◌-◌, ◌<◌, ◌>>=◌, ◌||◌, ◌↔◌, ◌∙◌, ◌∷◌, ◌≡◌, ◌≤◌}
 use Rattle.std.specs.Prelude.{IfSome, codes, is_some, ◌&&◌, nat_le, nat_lt, ⊤, IsErrOf, OnOk}
 use Rattle.std.specs.List.Sorted.{IsStrictlySortedBy}
 use Rattle.s3_types.specs.Fates.{with_fates}
@@ -91,14 +97,20 @@ named_again : (n : ℕ) (m : FateMap) (e : ℕ × Fate) → fin.get m e.0 ≡ No
 unfolding named_at
 named_again n m e h = rw (none_there m e.0 h) (ap (λ (x : FateMap). Ok x) (one_fate m e.0 e.1))
 
-line_again : (n : ℕ) (h : Head) (values : List (List ℕ)) (l : Loss) (m : FateMap) → loss_of n values ≡ Ok l → named_at n l h.fates ≡ Ok m → h.losses < 10000 → loss_at n h values ≡ Ok (record h { fates = m; losses = h.losses + 1 })
+line_again : (n : ℕ) (h : Head) (values : List (List ℕ)) (l : Loss) (m : FateMap) → loss_of n values ≡ Ok l → named_at n l h.fates ≡ Ok m
+    → 0 < h.losses_left → loss_at n h values ≡ Ok (record h { fates = m; losses_left = h.losses_left - 1 })
 unfolding loss_at
-line_again n h values l m a b few = rw (a, b, lt-ltb h.losses 10000 few) refl
+line_again n h values l m a b few = rw (a, b, lt-ltb 0 h.losses_left few) refl
 
 loss_printed : (e : ℕ × Fate) → IsLost e → IsPrinted (loss_line e)
 loss_printed e h = printed (codes "loss") (decimal e.0 ∷ fate_word e.1 ∷ []) (rw (decimal_lettered e.0 (omega (arith, h.high)), (fate_is e.1 h.lost).1) refl) refl
 
-loss_read : (n : ℕ) (h : Head) (e : ℕ × Fate) → IsLost e → fin.get h.fates e.0 ≡ None → h.losses < 10000 → words_at n (headed h) (loss_line e) ≡ Ok (headed (record h { fates = fin.insert h.fates e.0 e.1; losses = h.losses + 1 }))
+-- the head behind one more such line
+abbrev with_loss : Head → ℕ × Fate → Head
+with_loss h e = record h { fates = fin.insert h.fates e.0 e.1; losses_left = h.losses_left - 1 }
+
+loss_read : (n : ℕ) (h : Head) (e : ℕ × Fate) → IsLost e → fin.get h.fates e.0 ≡ None → 0 < h.losses_left
+    → words_at n (headed h) (loss_line e) ≡ Ok (headed (with_loss h e))
 unfolding said_at
 loss_read n h e is new few =
     let values = decimal e.0 ∷ fate_word e.1 ∷ [] in
@@ -122,16 +134,17 @@ all_new (e ∷ es) = (fin.get-empty nat_cmp e.0, all_new es)
 -- the head behind the lines of these entries
 abbrev lost : Head → List (ℕ × Fate) → Head
 lost h [] = h
-lost h (e ∷ es) = lost (record h { fates = fin.insert h.fates e.0 e.1; losses = h.losses + 1 }) es
+lost h (e ∷ es) = lost (with_loss h e) es
 
-lost_is : (h : Head) (es : List (ℕ × Fate)) → lost h es ≡ record h { fates = made h.fates es; losses = (lost h es).losses }
+lost_is : (h : Head) (es : List (ℕ × Fate)) → lost h es ≡ record h { fates = made h.fates es; losses_left = (lost h es).losses_left }
 lost_is h [] = refl
-lost_is h (e ∷ es) = lost_is (record h { fates = fin.insert h.fates e.0 e.1; losses = h.losses + 1 }) es
+lost_is h (e ∷ es) = lost_is (with_loss h e) es
 
-entries_go : (n : ℕ) (h : Head) (es : List (ℕ × Fate)) → AllByRecursion IsLost es → IsStrictlySortedBy nat_cmp (keys_of es) → AreNew h.fates es → h.losses + length es ≤ 10000 → Goes n (headed h) (map loss_line es) (headed (lost h es))
+entries_go : (n : ℕ) (h : Head) (es : List (ℕ × Fate)) → AllByRecursion IsLost es → IsStrictlySortedBy nat_cmp (keys_of es)
+    → AreNew h.fates es → length es ≤ h.losses_left → Goes n (headed h) (map loss_line es) (headed (lost h es))
 entries_go n h [] is s new few = goes_nowhere n (headed h)
 entries_go n h (e ∷ es) is s new few =
-    let next : Head = record h { fates = fin.insert h.fates e.0 e.1; losses = h.losses + 1 } in
+    let next = with_loss h e in
     goes_through n (headed h) (loss_line e ∷ []) (headed next) (map loss_line es) (headed (lost next es)) (goes_on n (headed h) (headed next) (loss_line e) (loss_printed e is.0) (loss_read n h e is.0 new.0 (omega (arith, few))))
     (entries_go (n + 1) next es is.1 (sorted_tail nat_cmp e.0 (keys_of es) s) (still_new h.fates e.0 e.1 es (sorted_head nat_cmp e.0 (keys_of es) s) new.1) (omega (arith, few)))
 
@@ -144,15 +157,19 @@ all_lost (e ∷ es) s h =
 entries_lost : (m : FateMap) → AreFates m → AllByRecursion IsLost (fin.entries m)
 entries_lost m h = all_lost (fin.entries m) (map_sorted nat_cmp m) (λ k f found. let b = h k f (fin.get-entries m k ∙ found) in record { low = b.0; high = b.1; lost = b.2 })
 
--- the number of lines is of no account in the end
-pub losses_go : (n : ℕ) (h : Head) (m : FateMap) → h.fates ≡ fin.empty → h.losses ≡ 0 → AreFates m → fin.len m ≤ 10000 → (k : ℕ) × Goes n (headed h) (loss_lines m) (headed (record h { fates = m; losses = k }))
-losses_go n h m e z are few =
-    let count : length (fin.entries m) ≤ 10000 = subst (λ (x : ℕ). x ≤ 10000) (fin.len-entries m) few in
+-- how many more lines might come is of no account in the end
+pub losses_go : (n : ℕ) (h : Head) (m : FateMap) → h.fates ≡ fin.empty → AreFates m → fin.len m ≤ h.losses_left
+    → (k : ℕ) × Goes n (headed h) (loss_lines m) (headed (record h { fates = m; losses_left = k }))
+losses_go n h m e are few =
+    let count : length (fin.entries m) ≤ h.losses_left = subst (λ (x : ℕ). x ≤ h.losses_left) (fin.len-entries m) few in
     let new : AreNew h.fates (fin.entries m) = subst (λ (x : FateMap). AreNew x (fin.entries m)) (sym e) (all_new (fin.entries m)) in
     let whole : made h.fates (fin.entries m) ≡ m = ap (λ (x : FateMap). made x (fin.entries m)) e ∙ made_again m in
-    let k = (lost h (fin.entries m)).losses in
-    let is = lost_is h (fin.entries m) ∙ ap (λ (x : FateMap). record h { fates = x; losses = k }) whole in
-    (k, subst (λ (x : Head). Goes n (headed h) (loss_lines m) (headed x)) is (entries_go n h (fin.entries m) (entries_lost m are) (map_sorted nat_cmp m) new (omega (arith, count, z))))
+    let k = (lost h (fin.entries m)).losses_left in
+    let is = lost_is h (fin.entries m) ∙ ap (λ (x : FateMap). record h { fates = x; losses_left = k }) whole in (
+      k,
+      subst (λ (x : Head). Goes n (headed h) (loss_lines m) (headed x)) is (entries_go n h (fin.entries m) (entries_lost m are)
+          (map_sorted nat_cmp m) new count),
+    )
 
 -- ---- what is read is within bounds
 
@@ -189,7 +206,8 @@ named_sound : (n : ℕ) (l : Loss) (m after : FateMap) → named_at n l m ≡ Ok
 named_sound n l m after e is old = subst AreFates (named_is n l m after e) (fates_sound m l is old)
 
 -- a line `loss` gives none of the values
-fates_kept : (w : HeadWord) (h : Head) (m : FateMap) (k : ℕ) → IfSome ((row w).kept h) (Holds w) → IfSome ((row w).kept (record h { fates = m; losses = k })) (Holds w)
+fates_kept : (w : HeadWord) (h : Head) (m : FateMap) (k : ℕ) → IfSome ((row w).kept h) (Holds w)
+    → IfSome ((row w).kept (record h { fates = m; losses_left = k })) (Holds w)
 fates_kept head.Job h m k b = b
 fates_kept w h m k b = b
 
@@ -198,9 +216,13 @@ unfolding loss_at
 loss_line_sound n h k values e s =
     let a = parted (loss_of n values) _ _ e in
     let b = parted (named_at n a.value h.fates) _ _ a.next in
-    let c = parted (check (nat_lt h.losses 10000) TooLarge) _ _ b.next in
-    subst IsSoundHead (same_ok (record h { fates = b.value; losses = h.losses + 1 }) k c.next)
-    (record { values = λ w. fates_kept w h b.value (h.losses + 1) (s.values w); fates = named_sound n a.value h.fates b.value b.first (loss_sound n values a.value a.first) s.fates })
+    let c = parted (check (nat_lt 0 h.losses_left) TooLarge) _ _ b.next in
+    subst IsSoundHead (same_ok (record h { fates = b.value; losses_left = h.losses_left - 1 }) k c.next)
+    (record {
+      values = λ w. fates_kept w h b.value (h.losses_left - 1) (s.values w);
+      fates = named_sound n a.value h.fates b.value b.first
+          (loss_sound n values a.value a.first) s.fates;
+    })
 
 -- ---- sendings in a row of which one has a fate
 

@@ -5,7 +5,8 @@ use Rattle.basics.specs.Lines.{lines_from}
 use Rattle.job_script.specs.declared.draft.Group.TheVariants as group
 use Rattle.job_script.specs.declared.head.HeadWord.TheVariants as head
 use Rattle.job_script.specs.declared.kinds.Kind.TheVariants as kind
-use Rattle.job_script.specs.Script.{kind_of, enters, is_skipped, said_at, words_at, line_at, lines_at, nothing, mode_in, unique_in, all_inside, complete, script_of}
+use Rattle.job_script.specs.Script.{kind_of, enters, is_skipped, said_at, words_at, line_at, lines_at, nothing, mode_in, unique_in}
+use Rattle.job_script.specs.Script.{all_inside, complete, script_of, script_within}
 use Rattle.job_script.specs.Print.{attempt_lines, event_line, script_lines, script_text}
 use Rattle.job_script.proofs.Words.{IsClean, text_clean, line_words}
 use Rattle.job_script.proofs.Lines.{Goes, goes_through, goes_all, lines_printed, printed_utf8}
@@ -39,25 +40,28 @@ unique_again c n m u h = grind arith
 unless_kept : (default n : ℕ) → n ≡ unwrap_or (unless default n) default
 unless_kept default n = grind arith
 
--- the head of a script's lines, of which so many are of losses
+-- the head of a script's lines, behind which so many lines `loss` might still come
 abbrev whole_head : Script → ℕ → Head
-whole_head s k = record (said_by s 1 head_order no_head) { fates = s.fates; losses = k }
+whole_head s k = record (said_by s 1 head_order (no_head k)) { fates = s.fates }
 
 -- all that a script's lines have said
 abbrev whole_draft : Script → ℕ → Draft
 whole_draft s k = drafted (group_after (group_after group.Head group.Attempts s.attempts) group.Events s.events) (whole_head s k) s.attempts s.events
 
-script_goes : (s : Script) → IsLegal s → fin.len s.fates ≤ 10000 → (k : ℕ) × Goes 1 nothing (script_lines s) (whole_draft s k)
-script_goes s h few =
+script_goes : (most : ℕ) (s : Script) → IsLegal s → fin.len s.fates ≤ most
+    → (k : ℕ) × Goes 1 (nothing most) (script_lines s) (whole_draft s k)
+script_goes most s h few =
+    let said = said_by s 1 head_order (no_head most) in
     let values = flat_map (row_lines s) head_order in
     let attempts = flat_map attempt_lines s.attempts in
     let events = map event_line s.events in
-    let losses = losses_go (1 + length values) (said_by s 1 head_order no_head) s.fates refl refl h.fates few in
+    let losses = losses_go (1 + length values) said s.fates refl h.fates few in
     let k = losses.0 in
     let enter = group_after group.Head group.Attempts s.attempts in
-    let first = goes_through 1 nothing values (headed (said_by s 1 head_order no_head)) (loss_lines s.fates) (headed (whole_head s k)) (head_goes s h) losses.1 in (
+    let first = goes_through 1 (nothing most) values (headed said) (loss_lines s.fates) (headed (whole_head s k)) (head_goes most s h)
+    losses.1 in (
       k,
-      goes_through 1 nothing (head_lines s) (headed (whole_head s k)) (attempts ++ events) (whole_draft s k) first
+      goes_through 1 (nothing most) (head_lines s) (headed (whole_head s k)) (attempts ++ events) (whole_draft s k) first
           (goes_through (1 + length (head_lines s)) (headed (whole_head s k)) attempts (drafted enter (whole_head s k) s.attempts []) events (whole_draft s k)
           (attempts_go (whole_head s k) s.tasks refl h.tasks (1 + length (head_lines s)) s.attempts h.attempts (record { attempts = h.few_attempts; files = h.few_files; bytes = h.few_bytes }))
           (events_go (1 + length (head_lines s) + length attempts) enter (whole_head s k) s.attempts s.events (are_named s.tasks [] s.attempts h.tasks h.attempts) h.events h.few_events)),
@@ -68,17 +72,24 @@ whole_script s k h =
     completed (whole_draft s k) s.job s.dest s.committer s.tasks s.mode s.unique s.retries s.block s.lanes tt refl refl refl refl
     (mode_again s.committer 5 s.mode s.unique h.magic) (unique_again s.committer 6 s.mode s.unique h.magic) refl (unless_kept 0 s.block) (unless_kept 1 s.lanes) refl
 
-read_from : (bytes : List ℕ) (d : Draft) (s : Script) → length bytes ≤ 67108864 → is_utf8 bytes ≡ true → lines_at 1 nothing (lines_of bytes) ≡ Ok d → complete d ≡ Ok s → script_of bytes ≡ Ok s
-unfolding script_of
-read_from bytes d s short a b c = rw (le-leb (length bytes) 67108864 short, a, b) c
+read_from : (most size : ℕ) (bytes : List ℕ) (d : Draft) (s : Script) → length bytes ≤ size → is_utf8 bytes ≡ true
+    → lines_at 1 (nothing most) (lines_of bytes) ≡ Ok d → complete d ≡ Ok s → script_within most size bytes ≡ Ok s
+read_from most size bytes d s short a b c = rw (le-leb (length bytes) size short, a, b) c
 
--- the printed text of a script means the script
-pub read_again : (s : Script) → IsLegal s → fin.len s.fates ≤ 10000 → length (script_text s) ≤ 67108864 → script_of (script_text s) ≡ Ok s
+-- the printed text of a script means the script, where the reader's limits are at least what the text needs
+pub read_within : (most size : ℕ) (s : Script) → IsLegal s → fin.len s.fates ≤ most → length (script_text s) ≤ size
+    → script_within most size (script_text s) ≡ Ok s
 unfolding script_text
-read_again s h few short =
-    let g = script_goes s h few in
-    read_from (text_of (script_lines s)) (whole_draft s g.0) s short (printed_utf8 (script_lines s) g.1.printed)
-    (ap (lines_at 1 nothing) (lines_printed (script_lines s) g.1.printed) ∙ goes_all 1 nothing (script_lines s) (whole_draft s g.0) g.1) (whole_script s g.0 h)
+read_within most size s h few short =
+    let g = script_goes most s h few in
+    read_from most size (text_of (script_lines s)) (whole_draft s g.0) s short (printed_utf8 (script_lines s) g.1.printed)
+    (ap (lines_at 1 (nothing most)) (lines_printed (script_lines s) g.1.printed)
+    ∙ goes_all 1 (nothing most) (script_lines s) (whole_draft s g.0) g.1) (whole_script s g.0 h)
+
+-- so it does within the limits that the reader has
+pub read_again : (s : Script) → IsLegal s → fin.len s.fates ≤ 10000 → length (script_text s) ≤ 67108864 → script_of (script_text s) ≡ Ok s
+unfolding script_of
+read_again s h few short = read_within 10000 67108864 s h few short
 
 -- ---- what is read is within bounds
 
@@ -165,9 +176,9 @@ lines_sound n d e (text ∷ texts) c h s =
 no_fates : (let m : fin.FinMap nat_cmp Fate = fin.empty in AreFates m)
 no_fates n fate h = let none : None ≡ Some fate = sym (fin.get-empty nat_cmp n) ∙ h in absurd cc
 
-nothing_sound : IsSound nothing
-nothing_sound = record {
-  head = record { values = none_sound; fates = no_fates };
+nothing_sound : (most : ℕ) → IsSound (nothing most)
+nothing_sound most = record {
+  head = record { values = none_sound most; fates = no_fates };
   attempts = record { attempts = λ tasks t o. tt; few = omega arith; counted = omega arith; few_files = omega arith; measured = omega arith; few_bytes = omega arith };
   events = tt;
   few = omega arith;
@@ -224,5 +235,7 @@ complete_sound d s h is =
     })
 
 -- what lines in UTF-8 mean as a script has the bounds of one
-pub draft_legal : (bytes : List ℕ) (d : Draft) → is_utf8 bytes ≡ true → lines_at 1 nothing (lines_of bytes) ≡ Ok d → (s : Script) → complete d ≡ Ok s → IsLegal s
-draft_legal bytes d utf8 h s k = complete_sound d s k (lines_sound 1 nothing d (lines_of bytes) (text_clean bytes utf8) h nothing_sound)
+pub draft_legal : (most : ℕ) (bytes : List ℕ) (d : Draft) → is_utf8 bytes ≡ true → lines_at 1 (nothing most) (lines_of bytes) ≡ Ok d
+    → (s : Script) → complete d ≡ Ok s → IsLegal s
+draft_legal most bytes d utf8 h s k =
+    complete_sound d s k (lines_sound 1 (nothing most) d (lines_of bytes) (text_clean bytes utf8) h (nothing_sound most))

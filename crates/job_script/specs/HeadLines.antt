@@ -1,5 +1,6 @@
 -- What a head line with these values says, after the head lines before it, and how a script's head is printed.
-use Rattle.std.specs.Prelude.{ℕ, ◌+◌, ◌==◌, not, ◌||◌, Bool, zero, suc, false, is_some, List, [], ◌∷◌, ◌++◌, map, Option, Some, None, option_map, Result, Ok, Err, length, nat_le, nat_lt, codes, if◌then◌else◌}
+use Rattle.std.specs.Prelude.{ℕ, ◌+◌, ◌-◌, ◌==◌, not, ◌||◌, Bool, zero, suc, false, is_some, List, [], ◌∷◌, ◌++◌, map, Option, Some, None}
+use Rattle.std.specs.Prelude.{option_map, Result, Ok, Err, length, nat_le, nat_lt, codes, if◌then◌else◌}
 use Rattle.job_model.specs.Prelude.{flat_map, decimal, ◌>>=◌, need, check, free, one, two_and_more, at_most_one, FateMap, is_job_id, Fate, MOST_SCRIPT_BYTES, Committer, Mode, Path, path_in, PathFault, committer_word, Script, is_dest_key}
 use Rattle.std.specs.FinMap as fin
 use Rattle.basics.specs.Numbers.{number_in}
@@ -12,9 +13,22 @@ use Rattle.job_script.specs.declared.head.HeadWord.{HeadWord}
 use Rattle.job_script.specs.declared.head.HeadWord.TheVariants as head
 use Rattle.job_script.specs.Kinds.{Line, Names, named, committers, modes, answers, fates, mode_word, answer_word, fate_word}
 
--- before the first line
-abbrev pub no_head : Head
-no_head = record { job = None; dest = None; committer = None; tasks = None; mode = None; unique = None; retries = None; block = None; lanes = None; stamp = None; fates = fin.empty; losses = 0 }
+-- before the first line, where at most so many lines `loss` may come
+abbrev pub no_head : ℕ → Head
+no_head losses = record {
+  job = None;
+  dest = None;
+  committer = None;
+  tasks = None;
+  mode = None;
+  unique = None;
+  retries = None;
+  block = None;
+  lanes = None;
+  stamp = None;
+  fates = fin.empty;
+  losses_left = losses;
+}
 
 -- ---- lines that give one value
 
@@ -159,8 +173,8 @@ unfoldable pub loss_at : ℕ → Head → List (List ℕ) → Result Head Script
 loss_at n h values = do
   loss ← loss_of n values
   fates ← named_at n loss h.fates
-  few ← check (nat_lt h.losses 10000) TooLarge
-  Ok (record h { fates = fates; losses = h.losses + 1 })
+  few ← check (nat_lt 0 h.losses_left) TooLarge
+  Ok (record h { fates = fates; losses_left = h.losses_left - 1 })
 
 -- a line for one sending
 abbrev pub loss_line : ℕ × Fate → Line

@@ -66,9 +66,9 @@ lines_at n d (text ∷ texts) = do
   next ← line_at n d text
   lines_at (n + 1) next texts
 
--- before the first line
-abbrev pub nothing : Draft
-nothing = record { group = group.Head; head = no_head; attempts = []; outside = None; files = 0; bytes = 0; events = [] }
+-- before the first line, where at most so many lines `loss` may come
+abbrev pub nothing : ℕ → Draft
+nothing losses = record { group = group.Head; head = no_head losses; attempts = []; outside = None; files = 0; bytes = 0; events = [] }
 
 -- the mode, which is `append` where no line gives one, and under `magic`
 abbrev pub mode_in : Committer → Option (ℕ × Mode) → Result Mode ScriptFault
@@ -110,10 +110,14 @@ complete d = do
   inside ← all_inside d.outside
   Ok (record { job = job; dest = dest; committer = committer; mode = mode; unique = unique; tasks = tasks; retries = unwrap_or d.head.retries 3; block = unwrap_or d.head.block 0; lanes = unwrap_or d.head.lanes 1; stamp = d.head.stamp; fates = d.head.fates; attempts = d.attempts; events = d.events })
 
--- what the bytes mean as a script, or the first fault
-unfoldable pub script_of : List ℕ → Result Script ScriptFault
-script_of bytes = do
-  small ← check (nat_le (length bytes) MOST_SCRIPT_BYTES) TooLarge
+-- what the bytes mean as a script of at most so many lines `loss` and so many bytes, or the first fault
+abbrev pub script_within : ℕ → ℕ → List ℕ → Result Script ScriptFault
+script_within losses size bytes = do
+  small ← check (nat_le (length bytes) size) TooLarge
   text ← check (is_utf8 bytes) NotUtf8
-  d ← lines_at 1 nothing (lines_of bytes)
+  d ← lines_at 1 (nothing losses) (lines_of bytes)
   complete d
+
+-- what the bytes mean as a script, or the first fault: at most 10,000 lines `loss`, and MOST_SCRIPT_BYTES bytes
+unfoldable pub script_of : List ℕ → Result Script ScriptFault
+script_of bytes = script_within 10000 MOST_SCRIPT_BYTES bytes

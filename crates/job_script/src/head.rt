@@ -66,8 +66,8 @@ pub struct Head {
     pub lanes: Option<u32>,
     pub stamp: Option<u64>,
     pub fates: Fates,
-    /// The number of lines `loss`.
-    pub losses: u32,
+    /// The number of lines `loss` that may still come.
+    pub losses_left: u32,
 }
 
 pub fn head_word(word: &str) -> Option<HeadWord>
@@ -88,9 +88,9 @@ pub fn head_word(word: &str) -> Option<HeadWord>
     }
 }
 
-/// Before the first line.
+/// Before the first line. At most 10,000 lines `loss` may come.
 pub fn no_head(alloc: Global) -> Head
-    ensures { result ≡ lines.no_head }
+    ensures { result ≡ lines.no_head 10000 }
 {
     Head {
         job: None,
@@ -104,7 +104,7 @@ pub fn no_head(alloc: Global) -> Head
         lanes: None,
         stamp: None,
         fates: Fates::new(alloc),
-        losses: 0,
+        losses_left: 10_000,
     }
 }
 

@@ -9,7 +9,8 @@
 //!
 //! `print_script`: It gives exactly the text that `Print.antt` defines (`text`), and what that text
 //! means is the script again, where it has at most 67,108,864 bytes and names at most 10,000 sendings
-//! (`again`). No command prints one.
+//! (`again`). The reader's definition takes its two limits as numbers. With limits that are large enough it
+//! gives the script again of every printed text, whatever its size (`any_size`). No command prints one.
 #![tactic(auto)]
 
 mod attempts;

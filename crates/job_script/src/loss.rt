@@ -79,9 +79,9 @@ pub fn loss_line(head: &mut Head, line: u64, rest: Option<&str>) -> Result<(), S
 {
     let loss = loss_of(line, rest)?;
     named(&mut head.fates, line, loss)?;
-    if head.losses >= 10_000 {
+    if head.losses_left == 0 {
         return Err(ScriptFault::TooLarge);
     }
-    head.losses += 1;
+    head.losses_left -= 1;
     Ok(())
 }

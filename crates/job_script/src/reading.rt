@@ -19,7 +19,7 @@ use s3_types::{MOST_SCRIPT_BYTES, let_go};
 use std::alloc::Global;
 
 fn nothing(alloc: Global) -> Draft
-    ensures { result ≡ script.nothing }
+    ensures { result ≡ script.nothing 10000 }
 {
     Draft {
         group: Group::Head,
@@ -83,7 +83,7 @@ fn line_of(alloc: Global, draft: &mut Draft, line: u64, text: &str) -> Result<()
 #[tactic(auto, unfolding(crate::specs::Script::lines_at))]
 fn draft_of(alloc: Global, text: &str) -> Result<Draft, ScriptFault>
     requires { length text.now ≤ MOST_SCRIPT_BYTES }
-    ensures { Gives result (script.lines_at 1 script.nothing (lines_of text.now)) }
+    ensures { Gives result (script.lines_at 1 (script.nothing 10000) (lines_of text.now)) }
 {
     let mut draft = nothing(alloc);
     let mut line = 1u64;

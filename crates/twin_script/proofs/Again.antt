@@ -89,8 +89,8 @@ unfolding script_of
 script_others bytes s h =
     let a = parted (check (nat_le (length bytes) 67108864) script_fault.TooLarge) _ _ h in
     let b = parted (check (is_utf8 bytes) script_fault.NotUtf8) _ _ a.next in
-    let c = parted (script.lines_at 1 script.nothing (lines_of bytes)) _ _ b.next in
-    other_lines 1 script.nothing c.value (lines_of bytes) c.first
+    let c = parted (script.lines_at 1 (script.nothing 10000) (lines_of bytes)) _ _ b.next in
+    other_lines 1 (script.nothing 10000) c.value (lines_of bytes) c.first
 
 script_closed : (s : Script) → is_closed true (script_text s) ≡ true
 unfolding script_text

@@ -43,9 +43,9 @@ script_utf8 s h =
     let values = flat_map (row_lines s) head_order in
     let attempts = flat_map attempt_lines s.attempts in
     let events = map event_line s.events in
-    let head = said_by s 1 head_order no_head in
+    let head = said_by s 1 head_order (no_head 0) in
     let tried = attempts_go head s.tasks refl h.tasks 1 s.attempts h.attempts (record { attempts = h.few_attempts; files = h.few_files; bytes = h.few_bytes }) in
     let happened = events_go 1 group.Events head s.attempts s.events (are_named s.tasks [] s.attempts h.tasks h.attempts) h.events h.few_events in
     both_utf8 (head_lines s) (attempts ++ events)
-    (both_utf8 values (loss_lines s.fates) (lines_utf8 values (head_goes s h).printed) (losses_utf8 s.fates h.fates))
+    (both_utf8 values (loss_lines s.fates) (lines_utf8 values (head_goes 0 s h).printed) (losses_utf8 s.fates h.fates))
     (both_utf8 attempts events (lines_utf8 attempts tried.printed) (lines_utf8 events happened.printed))

@@ -1,7 +1,8 @@
-use Rattle.job_script.proofs.Common.{IfOk, IfOk-weaker, IsLegal, List, Ok, ap, length, script_of, script_text, subst, ℕ, ◌∙◌, ◌≡◌, ◌≤◌}
+use Rattle.job_script.proofs.Common.{IfOk, IfOk-weaker, IsLegal, List, Ok, ap, length, script_of, script_text, script_within, subst, ℕ, ◌∙◌}
+use Rattle.job_script.proofs.Common.{◌≡◌, ◌≤◌}
 use Rattle.std.specs.FinMap as map
 use Rattle.job_script.proofs.PrintLines.{script_is}
-use Rattle.job_script.proofs.Whole.{read_again}
+use Rattle.job_script.proofs.Whole.{read_again, read_within}
 use Rattle.job_script.proofs.print.print_script.Goals as goal
 
 pub returns : goal.returns
@@ -18,4 +19,9 @@ returns c =
       again =
           IfOk-weaker c.new.result (λ (bytes : List ℕ). bytes ≡ script_text s) (λ (bytes : List ℕ). map.len s.fates ≤ 10000 → length bytes ≤ 67108864 → script_of bytes ≡ Ok s)
           (λ (bytes : List ℕ) e few short. ap script_of e ∙ read_again s legal few (subst (λ (l : List ℕ). length l ≤ 67108864) e short)) text;
+      any_size =
+          IfOk-weaker c.new.result (λ (bytes : List ℕ). bytes ≡ script_text s)
+          (λ (bytes : List ℕ). (losses size : ℕ) → map.len s.fates ≤ losses → length bytes ≤ size → script_within losses size bytes ≡ Ok s)
+          (λ (bytes : List ℕ) e losses size few short. ap (script_within losses size) e ∙ read_within losses size s legal few
+          (subst (λ (l : List ℕ). length l ≤ size) e short)) text;
     }

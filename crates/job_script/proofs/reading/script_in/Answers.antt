@@ -3,4 +3,7 @@ use Rattle.job_script.proofs.Whole.{draft_legal}
 use Rattle.job_script.proofs.reading.script_in.Goals as goal
 
 pub complete-requires : goal.complete-requires
-complete-requires c = record { legal = draft_legal c.in-Some.text.now c.in_ok-draft.draft (ap is_utf8 c.in-Some.ensures.same ∙ sym c.in-Some.ensures.found) c.in_ok-draft.ensures }
+complete-requires c = record {
+  legal = draft_legal 10000 c.in-Some.text.now c.in_ok-draft.draft
+      (ap is_utf8 c.in-Some.ensures.same ∙ sym c.in-Some.ensures.found) c.in_ok-draft.ensures;
+}
