@@ -1,5 +1,6 @@
 -- Where a member is put among others.
-use Rattle.std.proofs.Common.{Equal, Greater, Less, List, Ordering, [], add-one, ap, arith, drop, get_or, insert, is_eq, length, nat_cmp, refl, set, sym, take, ℕ, ◌++◌, ◌+◌, ◌<◌, ◌∙◌, ◌∷◌, ◌≡◌, ◌≤◌}
+use Rattle.std.proofs.Common.{Equal, Greater, Less, List, Ordering, [], add-one, ap, arith, drop, get_or, insert, is_eq, length, nat_cmp}
+use Rattle.std.proofs.Common.{refl, set, sym, take, ℕ, ◌++◌, ◌+◌, ◌<◌, ◌∙◌, ◌∷◌, ◌≡◌, ◌≤◌}
 use Rattle.std.proofs.lemmas.Map.Text.{is_eq-slice_cmp}
 use Rattle.basics.proofs.Common.{bytes_eq-Decides}
 use Rattle.std.proofs.lemmas.List.{drop_all, drop_more, set_split, take_all, take_more}
@@ -22,7 +23,8 @@ before_listed : (xs ys : List Member) → before xs (listed ys) ≡ listed (xs +
 before_listed [] ys = refl
 before_listed (x ∷ xs) ys = ap (member x.name.now (data_of x.value)) (before_listed xs ys)
 
-before_more : (xs : List Member) (x : Member) (others : Members) → before (xs ++ x ∷ []) others ≡ before xs (member x.name.now (data_of x.value) others)
+before_more : (xs : List Member) (x : Member) (others : Members)
+    → before (xs ++ x ∷ []) others ≡ before xs (member x.name.now (data_of x.value) others)
 before_more [] x others = refl
 before_more (y ∷ xs) x others = ap (member y.name.now (data_of y.value)) (before_more xs x others)
 
@@ -85,4 +87,5 @@ put_last all i n m past end passes =
     let d = data_of m.value in
     let ends : put m.name.now d (listed (drop i all)) ≡ listed (m ∷ drop n all) =
     ap (λ ys. put m.name.now d (listed ys)) (drop_all i all past) ∙ ap (λ ys. listed (m ∷ ys)) (sym (drop_all n all (omega arith))) in
-    sym (passes ∙ ap (before (take i all)) ends ∙ before_listed (take i all) (m ∷ drop n all) ∙ ap (λ ys. listed (ys ++ m ∷ drop n all)) front)
+    sym (passes ∙ ap (before (take i all)) ends ∙ before_listed (take i all) (m ∷ drop n all) ∙ ap (λ ys. listed (ys ++ m ∷ drop n all))
+    front)

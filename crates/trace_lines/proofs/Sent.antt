@@ -30,7 +30,8 @@ module _ {A : Type 0} (f : A → Data) where
   abbrev pub Sends : A → Log → Log → Type 0
   Sends x = SendsValue (f x)
 
-  items_sent : (xs : List A) (first last new : Log) → WritesEach Sends xs first last → Logs last new seq_ends → SendsItems (items_of (map f xs)) first new
+  items_sent : (xs : List A) (first last new : Log) → WritesEach Sends xs first last → Logs last new seq_ends
+      → SendsItems (items_of (map f xs)) first new
   items_sent [] first last new same ended = subst (λ l. Logs l new seq_ends) same ended
   items_sent (x ∷ xs) first last new h ended = (h.0, h.1, items_sent xs h.0 last new h.2 ended)
 
@@ -63,7 +64,8 @@ pub members_count : (ms : List Member) → members_len (listed ms) ≡ length ms
 members_count [] = refl
 members_count (m ∷ ms) = ap suc (members_count ms)
 
-members_sent : (ms : List Member) (first last new : Log) → WritesEach SendsMember ms first last → Logs last new map_ends → SendsMembers (listed ms) first new
+members_sent : (ms : List Member) (first last new : Log) → WritesEach SendsMember ms first last → Logs last new map_ends
+    → SendsMembers (listed ms) first new
 members_sent [] first last new same ended = subst (λ l. Logs l new map_ends) same ended
 members_sent (m ∷ ms) first last new h ended = (h.1.0, h.0, h.1.1, h.1.2, members_sent ms h.0 last new h.2 ended)
 

@@ -29,7 +29,8 @@ digits_spell (Some bytes) tag digits same h =
 
 -- ---- the reply that is due
 
-part_cond : (b : Bool) (bytes : List ℕ) → IfSome (part_tag (cond b (Part (plain_tag bytes)) (Refused BadPartNumber))) (λ tag. tag ≡ plain_tag bytes)
+part_cond : (b : Bool) (bytes : List ℕ) → IfSome (part_tag (cond b (Part (plain_tag bytes)) (Refused BadPartNumber)))
+    (λ tag. tag ≡ plain_tag bytes)
 part_cond true bytes = refl
 part_cond false bytes = tt
 

@@ -7,7 +7,8 @@ use Rattle.s3_types.specs.declared.request.Request.TheVariants.{ListParts, ListU
 use Rattle.s3_types.specs.declared.request.Request.TheVariants.{ClusterDelete, ClusterList}
 use Rattle.s3_types.specs.declared.reply.Refusal.{Refusal}
 use Rattle.s3_types.specs.declared.reply.Refusal.TheVariants.{NoSuchBucket, NoSuchKey, NoSuchUpload, MalformedList, InvalidPartOrder}
-use Rattle.s3_types.specs.declared.reply.Refusal.TheVariants.{InvalidPart, EntityTooSmall, BadPartNumber, TooManyKeys, BucketExists, BadName}
+use Rattle.s3_types.specs.declared.reply.Refusal.TheVariants.{InvalidPart, EntityTooSmall, BadPartNumber, TooManyKeys, BucketExists}
+use Rattle.s3_types.specs.declared.reply.Refusal.TheVariants.{BadName}
 use Rattle.s3_types.specs.declared.reply.Refusal.TheVariants.{NoSuchFile}
 use Rattle.s3_types.specs.declared.journal.Outcome.{Outcome}
 use Rattle.s3_types.specs.declared.journal.Outcome.TheVariants.{Answered, Slow, RequestLost, ReplyLost}

@@ -5,6 +5,8 @@ mod asked;
 mod line;
 mod requests;
 mod sending;
+#[cfg(test)]
+mod tests;
 mod told;
 mod words;
 

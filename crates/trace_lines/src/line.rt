@@ -1,4 +1,6 @@
-ghost use Rattle.std.specs.Prelude.{◌≡◌, ◌<◌, ◌≤◌, OnErr, OnOk, insert, length, string_bytes, vec_len};
+ghost use Rattle.std.specs.Prelude.{◌≡◌, ◌≤◌, OnErr, OnOk, insert, length};
+ghost use Rattle.std.specs.Cmp.Lexicographic.{slice_cmp};
+ghost use Rattle.std.specs.Ordering.{nat_cmp};
 ghost use Rattle.serde_json.specs.Data.{boolean, no_members, put, string};
 ghost use Rattle.trace_lines.specs.Lines.{etags, texts, whole};
 ghost use Rattle.trace_lines.specs.Members.{data_of, listed, members_of};
@@ -36,7 +38,8 @@ fn insert_at<'a>(
     member: Member<'a>,
 ) -> Result<(), AllocError>
     requires { at ≤ length members.old.items }
-    ensures { OnOk result (members.new.items ≡ insert members.old.items at member.entry) }
+    ensures ok { OnOk result (members.new.items ≡ insert members.old.items at member.entry) }
+    ensures err { OnErr result (members.new.items ≡ members.old.items) }
 {
     if members.is_empty() {
         members.reserve(ROOM)?;
@@ -47,13 +50,26 @@ fn insert_at<'a>(
     }
 }
 
+/// The order of two names by their bytes. Most differ in the first one, which is compared by itself.
+#[inline]
+fn name_order(name: &str, other: &str) -> Ordering
+    ensures { result ≡ slice_cmp nat_cmp name.now other.now }
+{
+    let (left, right) = (name.as_bytes(), other.as_bytes());
+    if !left.is_empty() && !right.is_empty() && left[0] != right[0] {
+        return left[0].cmp(&right[0]);
+    }
+    name.cmp(other)
+}
+
 /// Puts a member at its place in the byte order of the names. It replaces the one of its name.
 fn put<'a>(members: &mut Vec<Member<'a>>, member: Member<'a>) -> Result<(), AllocError>
-    ensures { OnOk result
+    ensures ok { OnOk result
         (listed members.new.items ≡ put member.entry.name.now (data_of member.entry.value) (listed members.old.items)) }
+    ensures err { OnErr result (listed members.new.items ≡ listed members.old.items) }
 {
     for at in 0..members.len() {
-        match member.name.cmp(members[at].name) {
+        match name_order(member.name, members[at].name) {
             Ordering::Less => return insert_at(members, at, member),
             Ordering::Equal => {
                 members[at] = member;
@@ -86,7 +102,9 @@ impl<'a> Line<'a> {
 
     /// Puts a text, in the place of the member of this name if there is one.
     pub fn text(&mut self, name: &'a str, text: &'a str) -> Result<(), AllocError>
-        ensures { OnOk result (members_of self.new ≡ put name.now (string text.now) (members_of self.old)) }
+        ensures ok { OnOk result
+            (members_of self.new ≡ put name.now (string text.now) (members_of self.old)) }
+        ensures err { OnErr result (members_of self.new ≡ members_of self.old) }
     {
         put(
             &mut self.members,
@@ -99,7 +117,9 @@ impl<'a> Line<'a> {
 
     /// Puts a whole number, in the place of the member of this name if there is one.
     pub fn whole(&mut self, name: &'a str, number: u64) -> Result<(), AllocError>
-        ensures { OnOk result (members_of self.new ≡ put name.now (whole number) (members_of self.old)) }
+        ensures ok { OnOk result
+            (members_of self.new ≡ put name.now (whole number) (members_of self.old)) }
+        ensures err { OnErr result (members_of self.new ≡ members_of self.old) }
     {
         put(
             &mut self.members,
@@ -112,7 +132,9 @@ impl<'a> Line<'a> {
 
     /// Puts a truth value, in the place of the member of this name if there is one.
     pub fn flag(&mut self, name: &'a str, flag: bool) -> Result<(), AllocError>
-        ensures { OnOk result (members_of self.new ≡ put name.now (boolean flag) (members_of self.old)) }
+        ensures ok { OnOk result
+            (members_of self.new ≡ put name.now (boolean flag) (members_of self.old)) }
+        ensures err { OnErr result (members_of self.new ≡ members_of self.old) }
     {
         put(
             &mut self.members,
@@ -126,7 +148,9 @@ impl<'a> Line<'a> {
     /// Puts a list of tags, each as an ETag without quotes, in the place of the member of this name if
     /// there is one.
     pub fn tags(&mut self, name: &'a str, tags: &'a [Tag]) -> Result<(), AllocError>
-        ensures { OnOk result (members_of self.new ≡ put name.now (etags tags.now) (members_of self.old)) }
+        ensures ok { OnOk result
+            (members_of self.new ≡ put name.now (etags tags.now) (members_of self.old)) }
+        ensures err { OnErr result (members_of self.new ≡ members_of self.old) }
     {
         put(
             &mut self.members,
@@ -139,7 +163,9 @@ impl<'a> Line<'a> {
 
     /// Puts a list of keys, in the place of the member of this name if there is one.
     pub fn texts(&mut self, name: &'a str, keys: &'a [Key]) -> Result<(), AllocError>
-        ensures { OnOk result (members_of self.new ≡ put name.now (texts keys.now) (members_of self.old)) }
+        ensures ok { OnOk result
+            (members_of self.new ≡ put name.now (texts keys.now) (members_of self.old)) }
+        ensures err { OnErr result (members_of self.new ≡ members_of self.old) }
     {
         put(
             &mut self.members,
@@ -152,8 +178,9 @@ impl<'a> Line<'a> {
 
     /// Puts the parts that a completion names, in the place of the member of this name if there is one.
     pub fn parts(&mut self, name: &'a str, parts: &'a [NamedPart]) -> Result<(), AllocError>
-        ensures { OnOk result
+        ensures ok { OnOk result
             (members_of self.new ≡ put name.now (part_objects parts.now) (members_of self.old)) }
+        ensures err { OnErr result (members_of self.new ≡ members_of self.old) }
     {
         put(
             &mut self.members,

@@ -116,7 +116,7 @@ fn write_by(
     line.write(alloc, text)
 }
 
-/// The name of an actor, as a line has it.
+/// The name of an actor.
 fn actor_name(alloc: Global, actor: Actor) -> Result<String, AllocError>
     ensures { IfOk result (λ name. string_bytes name ≡ actor_text actor) }
 {
@@ -140,6 +140,12 @@ pub fn write_request(
         (string_bytes text.new ≡ string_bytes text.old ++ request_line number entry.now due.now) }
     ensures err { OnErr result (string_bytes text.new ≡ string_bytes text.old) }
 {
-    let actor = actor_name(alloc, entry.actor)?;
-    write_by(alloc, text, number, entry, due, actor.as_str())
+    match entry.actor {
+        Actor::Driver => write_by(alloc, text, number, entry, due, "driver"),
+        Actor::Shell => write_by(alloc, text, number, entry, due, "shell"),
+        Actor::Attempt { .. } => {
+            let name = actor_name(alloc, entry.actor)?;
+            write_by(alloc, text, number, entry, due, name.as_str())
+        }
+    }
 }

@@ -11,4 +11,5 @@ loop-key-preserved g c = WritesEach-more (Sends string) _ _ _ _ _ _ (search rule
 
 pub returns : goal.returns
 returns g c = on_ok_weaker c.end_seq.result (λ ended. seq_sent string c.args.keys.now _ _
-    (WritesSeq-ends (Sends string) _ _ _ _ _ _ _ _ refl (search rules) (search rules) c.in_ok-begin_seq.ensures c.loop-key.invariant ended)) c.end_seq.ensures
+    (WritesSeq-ends (Sends string) _ _ _ _ _ _ _ _ refl (search rules) (search rules) c.in_ok-begin_seq.ensures c.loop-key.invariant ended))
+    c.end_seq.ensures

@@ -5,4 +5,5 @@ use Rattle.trace_lines.proofs.Sent.{Sends}
 use Rattle.trace_lines.proofs.sending.send_texts.Given as goal
 
 abbrev pub invariant-loop-key : goal.invariant-loop-key
-invariant-loop-key g l = WritesEach (Sends string) (take l.key-index l.keys) (g.S.Serializer.written l.initial.out) (g.S.Serializer.written l.out)
+invariant-loop-key g l = WritesEach (Sends string) (take l.key-index l.keys) (g.S.Serializer.written l.initial.out)
+    (g.S.Serializer.written l.out)
