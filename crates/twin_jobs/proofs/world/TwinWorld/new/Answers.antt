@@ -2,8 +2,8 @@ use Rattle.twin_jobs.proofs.Common.{List, Side, Twins, ap, begun, length, sides_
 use Rattle.twin_jobs.proofs.Starting.{few_asked, pair_rests, pair_begun}
 use Rattle.twin_jobs.proofs.world.TwinWorld.new.Goals as goal
 
-pub paired-requires-clause-few : goal.paired-requires-clause-few
-paired-requires-clause-few g c =
+pub paired-requires : goal.paired-requires
+paired-requires g c =
     let order = c.as_slice.ensures ∙ ap (λ (t : Twins). t.order) c.twins.view_is in
     subst (λ (l : List Side). length l + 1 < 2 ^ 32) (sym (c.in-Ok.ensures ∙ ap sides_in order)) (few_asked c.args.twins c.keeps.ensures.twins c.keeps.ensures.first c.keeps.ensures.second)
 
