@@ -5,7 +5,11 @@ use Rattle.twin_jobs.proofs.world.TwinWorld.new.Goals as goal
 pub paired-requires : goal.paired-requires
 paired-requires g c =
     let order = c.as_slice.ensures ∙ ap (λ (t : Twins). t.order) c.twins.view_is in
-    subst (λ (l : List Side). length l + 1 < 2 ^ 32) (sym (c.in-Ok.ensures ∙ ap sides_in order)) (few_asked c.args.twins c.keeps.ensures.twins c.keeps.ensures.first c.keeps.ensures.second)
+    record {
+      few =
+          subst (λ (l : List Side). length l + 1 < 2 ^ 32) (sym (c.in-Ok.ensures ∙ ap sides_in order))
+          (few_asked c.args.twins c.keeps.ensures.twins c.keeps.ensures.first c.keeps.ensures.second);
+    }
 
 pub invariant_of-result : goal.invariant_of-result
 invariant_of-result g c =
