@@ -9,11 +9,11 @@ use Rattle.s3a_top.proofs.Playing.{played_from}
 use Rattle.s3a_top.proofs.Telling.{tells_none, worked_usage, worked_due}
 use Rattle.s3a_top.proofs.Halting.{job_halted, halted_told, store_halted, no_command, told_counts, told_due, told_usage}
 
-not_both : {A : Type 0} (b : Bool) → b ≡ true → b ≡ false → A
+pub not_both : {A : Type 0} (b : Bool) → b ≡ true → b ≡ false → A
 not_both true is is_not = absurd (cc)
 not_both false is is_not = absurd (cc)
 
-not_said : {A : Type 0} (said : Option Command) (c : Command) → said ≡ Some c → said ≡ None → A
+pub not_said : {A : Type 0} (said : Option Command) (c : Command) → said ≡ Some c → said ≡ None → A
 not_said None c is is_not = absurd (cc)
 not_said (Some d) c is is_not = absurd (cc)
 
@@ -83,6 +83,14 @@ module _ {S : Type 0} (F : Sight S) (said : Option Command) (left rest : Option 
         command = λ e. absurd (none_usage F command left rest old new (subst (λ (s : Stop). Goes F command left rest old new (Err s)) (told_usage stop due text stopped.told e) goes));
       }
 
+-- for a command there was no memory
+module _ {S : Type 0} (F : Sight S) (left : Option (List ℕ)) (old : S) (c : Command) (timed : IsTimed F) where
+  pub job_wanting : JobHalted F c left left old old NoMemory
+  job_wanting = record { cause = inl refl; same = refl; calls = inl (refl, refl); leaves = unmoved F old (MayHaveLeft (F.may_leave old) c (F.held old) left left) timed (λ h is. inl is) }
+
+  pub store_wanting : StoreHalted F c left left old old NoMemory
+  store_wanting = record { reason = inl refl; same = refl; calls = inl refl; leaves = unmoved F old (F.may_leave old) timed (λ h is. is) }
+
 -- of words that are none, or for which there was no memory
 module _ {S : Type 0} (F : Sight S) (said : Option Command) (left : Option (List ℕ)) (old : S) (i n : ℕ) (work : Work) where
   pub usage_comes : said ≡ None → IsStopped Usage work → ComesOf F said left left old old i i n n work
@@ -109,15 +117,9 @@ module _ {S : Type 0} (F : Sight S) (said : Option Command) (left : Option (List
         due = told_due NoMemory due text stopped.told;
         read = told_counts 3 NoMemory due text i i (λ e. cc) (λ e. cc) (λ e. cc) stopped.told (tells_none 3 9 i i (λ e. cc) refl);
         shelf = told_counts 5 NoMemory due text n n (λ e. cc) (λ e. cc) (λ e. cc) stopped.told (tells_none 5 9 n n (λ e. cc) refl);
-        job = λ c e p. inr (halted_told F c left left old old NoMemory due text es work.told (halted c) stopped.told stopped.idle);
-        store = λ c e p. inr (store_halted F c left left old old NoMemory due text es work.told (stopped_so c) stopped.told stopped.idle);
+        job = λ c e p. inr (halted_told F c left left old old NoMemory due text es work.told (job_wanting F left old c timed) stopped.told stopped.idle);
+        store = λ c e p. inr (store_halted F c left left old old NoMemory due text es work.told (store_wanting F left old c timed) stopped.told stopped.idle);
         quiet = λ c e p. stopped.idle.nothing;
         usage = λ e. no_command old old NoMemory due text es work.told (inr refl) refl stopped.told stopped.idle;
         command = λ e. let is : NoMemory ≡ Usage = told_usage NoMemory due text stopped.told e in absurd (cc);
       }
-    where
-      halted : (c : Command) → JobHalted F c left left old old NoMemory
-      halted c = record { cause = inl refl; same = refl; calls = inl (refl, refl); leaves = unmoved F old (MayHaveLeft (F.may_leave old) c (F.held old) left left) timed (λ h is. inl is) }
-
-      stopped_so : (c : Command) → StoreHalted F c left left old old NoMemory
-      stopped_so c = record { reason = inl refl; same = refl; calls = inl refl; leaves = unmoved F old (F.may_leave old) timed (λ h is. is) }

@@ -1,6 +1,7 @@
 -- From what is to be said to what was written.
 use Rattle.s3a_top.proofs.Common.{Comes, Command, Content, Entry, IsWritten, JobCut, JobEnded, JobPlayed, JobRan, JobStopped, Jobs, List, Option, Sight, Status, StoreDone, StoreStopped, Told, Work, WorkDone, Writes, code, inl, inr, subst, sym, written_text, ℕ, ⊎_elim, ◌≡◌, ◌⊎◌}
 use Rattle.durable_store.specs.Works.{Work as Doing}
+use Rattle.s3a_top.specs.Traces.{JobTraced, Shows, StoreTraced}
 
 -- one of two texts
 said_out : (P Q A B C D : Type 0) → (A → C) → (B → D) → (P × A) ⊎ (Q × B) → (P × C) ⊎ (Q × D)
@@ -82,9 +83,62 @@ module _ (A B : List ℕ → Type 0) (f : (t : List ℕ) → A t → B t) {S : T
       command = h.command;
     }
 
+    job_traced_out : (command : Command) (left rest : Option (List ℕ)) (old new : S)
+        → JobTraced F command left rest old new due es told A → JobTraced F command left rest old new due es told B
+    job_traced_out command left rest old new h = record {
+      script = h.script;
+      opening = h.opening;
+      reads = h.reads;
+      opens = h.opens;
+      promised = h.promised;
+      finished = h.finished;
+      status = h.status;
+      said = f _ h.said;
+      load = h.load;
+    }
+
+    store_traced_out : (command : Command) (left rest : Option (List ℕ)) (old new : S)
+        → StoreTraced F command left rest old new due es A → StoreTraced F command left rest old new due es B
+    store_traced_out command left rest old new h = record {
+      before = h.before;
+      found = h.found;
+      bytes = h.bytes;
+      input = h.input;
+      work = h.work;
+      does = h.does;
+      sent = h.sent;
+      status = h.status;
+      said = f _ h.said;
+      load = h.load;
+    }
+
+    shows_so : (named : Option Command) (left rest : Option (List ℕ)) (old new : S) (i j m n : ℕ)
+        → Shows F named left rest old new i j m n due es told A → Shows F named left rest old new i j m n due es told B
+    shows_so named left rest old new i j m n h = record {
+      due = h.due;
+      read = h.read;
+      shelf = h.shelf;
+      job = λ c e p. ⊎_elim (λ x. inl (job_traced_out c left rest old new x)) (λ x. inr (stopped_out c left rest old new x)) (h.job c e p);
+      store = λ c e p. ⊎_elim (λ x. inl (store_traced_out c left rest old new x)) (λ x. inr (halted_out c left rest old new x)) (h.store c e p);
+      quiet = h.quiet;
+      loaded = h.loaded;
+      usage = λ e. let n = h.usage e in record { said = said_out _ _ _ _ _ _ (f _) (f _) n.said; idle = n.idle; untouched = n.untouched };
+      command = h.command;
+    }
+
 -- what was to be said was written, by its own number of the status
 pub comes_written : {S : Type 0} (F : Sight S) (said : Option Command) (left rest : Option (List ℕ)) (old new : S) (i j m n : ℕ) (work : Work) (status due : ℕ) (before after : Option (List ℕ)) → due ≡ code work.answer.due → Writes status before after (written_text work.answer.due work.answer.text)
     → Comes F said left rest old new i j m n (code work.answer.due) work.answer.sent.entries work.told (IsWritten work.answer) → Comes F said left rest old new i j m n due work.answer.sent.entries work.told (Writes status before after)
 comes_written F said left rest old new i j m n work status due before after is written comes =
     subst (λ (d : ℕ). Comes F said left rest old new i j m n d work.answer.sent.entries work.told (Writes status before after)) (sym is)
     (comes_so (IsWritten work.answer) (Writes status before after) (λ t e. subst (Writes status before after) e written) F (code work.answer.due) work.answer.sent.entries work.told said left rest old new i j m n comes)
+
+pub shows_written : {S : Type 0} (F : Sight S) (named : Option Command) (left rest : Option (List ℕ)) (old new : S) (i j m n : ℕ)
+    (work : Work) (status due : ℕ) (before after : Option (List ℕ)) → due ≡ code work.answer.due
+    → Writes status before after (written_text work.answer.due work.answer.text)
+    → Shows F named left rest old new i j m n (code work.answer.due) work.answer.sent.entries work.told (IsWritten work.answer)
+    → Shows F named left rest old new i j m n due work.answer.sent.entries work.told (Writes status before after)
+shows_written F named left rest old new i j m n work status due before after is written shows =
+    subst (λ (d : ℕ). Shows F named left rest old new i j m n d work.answer.sent.entries work.told (Writes status before after)) (sym is)
+    (shows_so (IsWritten work.answer) (Writes status before after) (λ t e. subst (Writes status before after) e written) F
+    (code work.answer.due) work.answer.sent.entries work.told named left rest old new i j m n shows)

@@ -8,3 +8,5 @@ pub mod Reads
 pub mod Works
 pub mod Plays
 pub mod Workings
+pub mod Traces
+pub mod Tracings

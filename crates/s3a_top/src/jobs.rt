@@ -63,7 +63,7 @@ fn new_store(alloc: Global, jobs: &Jobs) -> Result<Service, AllocError>
 }
 
 /// The status that a verdict is: 0, 1, 8 or 9.
-fn status_of(verdict: u8) -> Status
+pub fn status_of(verdict: u8) -> Status
     requires { IsFinal verdict }
     ensures which { IsVerdict result }
     ensures code { code result ≡ verdict }
@@ -186,7 +186,7 @@ fn answered(alloc: Global, command: &Command, kept: Kept) -> Work
 }
 
 /// The store that jobs open with: the one that is held, or a new one.
-fn opened(alloc: Global, held: Held, jobs: &Jobs) -> Result<Service, AllocError>
+pub fn opened(alloc: Global, held: Held, jobs: &Jobs) -> Result<Service, AllocError>
     requires some { is_sound held }
     requires sound { IsSound held }
     ensures opening { IfOk result (λ service. opening_in held jobs.now ≡ Some service) }

@@ -19,6 +19,12 @@
 //! input of a script that is played was taken to its end. It asks that no device's count of faults
 //! stands at its end, 2^64 - 1. Left open: that `main` hands on the words and the folder that it was
 //! given.
+//!
+//! `run` with the word `trace` before a command: The command is done on what the shelf holds, its requests are shown, and nothing
+//! is kept. The shelf is loaded, and called for nothing else (`trace_loads`). Of `job` and `gen` the text is the trace of a run
+//! that went to its end and keeps all that is promised of a job, and the status is the job's (`trace_job`). Of another command
+//! it is the lines of its requests with status 0, or what the command says itself where it is refused or finds no store
+//! (`trace_store`). `init` and `twins` cannot be traced: such words are no command (`usage`).
 #![tactic(auto)]
 
 mod asked;
@@ -30,6 +36,7 @@ mod script;
 mod stop;
 mod stores;
 mod top;
+mod tracing;
 mod work;
 
 pub use report::Report;

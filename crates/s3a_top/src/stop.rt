@@ -2,7 +2,7 @@ ghost use Rattle.std.specs.Prelude.{◌≡◌, IfOk, OnErr};
 ghost use Rattle.exit_status.specs.Statuses.{written_text};
 ghost use Rattle.s3a_top.specs.Statuses.{script_fault_text, twin_fault_text, IsIdle};
 ghost use Rattle.s3a_top.specs.Stops.{status_of, of_shelf, stop_text};
-ghost use Rattle.s3a_top.specs.Workings.{IsMade, IsStopped};
+ghost use Rattle.s3a_top.specs.Workings.{IsAnswered, IsMade, IsStopped};
 
 use crate::work::{Work, quiet};
 use durable_store::{Answer, fault_text};
@@ -110,5 +110,15 @@ pub fn stopped(alloc: Global, stop: Stop) -> Work
     match stop.text(alloc) {
         Ok(text) => said(alloc, stop.status(), text),
         Err(_) => said(alloc, Status::NoMemory, None),
+    }
+}
+
+/// What is answered to what was done, or to a stop.
+pub fn answered(alloc: Global, done: Result<Work, Stop>) -> Work
+    ensures { IsAnswered done result }
+{
+    match done {
+        Ok(work) => work,
+        Err(stop) => stopped(alloc, stop),
     }
 }

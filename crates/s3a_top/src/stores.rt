@@ -31,7 +31,7 @@ fn reads_input(command: &Command, held: &Held) -> bool
 }
 
 /// The bytes of a command's input, where it reads it.
-fn read_bytes<Q: Source>(
+pub fn read_bytes<Q: Source>(
     alloc: Global,
     input: &mut Q,
     command: &Command,

@@ -8,15 +8,17 @@ ghost use Rattle.s3a_shell.specs.Commanded.{plays};
 ghost use Rattle.s3a_top.specs.Statuses.{IsDue, Writes};
 ghost use Rattle.s3a_top.specs.Jobs.{JobPlayed, JobStopped};
 ghost use Rattle.s3a_top.specs.Commands.{may_read, NoCommand, StoreStopped, StoreDone};
+ghost use Rattle.s3a_top.specs.Traces.{IsLoaded, JobTraced, Shows, StoreTraced, asks_trace, named_command, traced_command, traced_in};
 ghost use Rattle.s3a_top.specs.Works.{IsWritten};
-ghost use Rattle.s3a_top.specs.Workings.{MayDo, Counted, IsAnswered, Goes, Comes};
+ghost use Rattle.s3a_top.specs.Workings.{MayDo, Counted, Goes, Comes};
 
 use crate::asked::Asked;
 use crate::jobs::job;
 use crate::output::write_output;
 use crate::report::Report;
-use crate::stop::{Stop, stopped};
+use crate::stop::{Stop, answered, stopped};
 use crate::stores::commanded;
+use crate::tracing::{asks_trace, traced};
 use crate::work::Work;
 use durable_store::load;
 use exit_status::Status;
@@ -51,18 +53,13 @@ fn do_command<Q: Source, F: Shelf>(
     }
 }
 
-/// What is answered to what was done, or to a stop.
-fn answered(alloc: Global, done: Result<Work, Stop>) -> Work
-    ensures { IsAnswered done result }
-{
-    match done {
-        Ok(work) => work,
-        Err(stop) => stopped(alloc, stop),
-    }
-}
-
 /// Does what the words say, with the text that is to be written.
-fn worked<Q: Source, F: Shelf>(alloc: Global, words: &[Text], input: &mut Q, shelf: &mut F) -> Work
+fn do_words<Q: Source, F: Shelf>(
+    alloc: Global,
+    words: &[Text],
+    input: &mut Q,
+    shelf: &mut F,
+) -> Work
     requires source_count { Q.faults input.old < 2 ^ 64 - 1 }
     requires shelf_count { F.faults shelf.old < 2 ^ 64 - 1 }
     ensures comes { Comes F.sight (command_of words.now) (Q.left input.old) (Q.left input.new) shelf.old shelf.new
@@ -82,6 +79,27 @@ fn worked<Q: Source, F: Shelf>(alloc: Global, words: &[Text], input: &mut Q, she
         }
         Err(WordFault::Usage) => stopped(alloc, Stop::Usage),
         Err(WordFault::NoMemory) => stopped(alloc, Stop::NoMemory),
+    }
+}
+
+/// Does what the words say, or shows what it would send, with the text that is to be written.
+fn worked<Q: Source, F: Shelf>(alloc: Global, words: &[Text], input: &mut Q, shelf: &mut F) -> Work
+    requires source_count { Q.faults input.old < 2 ^ 64 - 1 }
+    requires shelf_count { F.faults shelf.old < 2 ^ 64 - 1 }
+    ensures comes { asks_trace words.now ≡ false
+        → Comes F.sight (command_of words.now) (Q.left input.old) (Q.left input.new) shelf.old shelf.new
+        (Q.faults input.old) (Q.faults input.new) (F.faults shelf.old) (F.faults shelf.new) (code result.answer.due)
+        result.answer.sent.entries result.told (IsWritten result.answer) }
+    ensures shows { asks_trace words.now ≡ true
+        → Shows F.sight (traced_in words.now) (Q.left input.old) (Q.left input.new) shelf.old shelf.new
+        (Q.faults input.old) (Q.faults input.new) (F.faults shelf.old) (F.faults shelf.new) (code result.answer.due)
+        result.answer.sent.entries result.told (IsWritten result.answer) }
+    ensures unread { may_read (named_command words.now) ≡ false → input.new ≡ input.old }
+{
+    if asks_trace(words) {
+        traced(alloc, words, input, shelf)
+    } else {
+        do_words(alloc, words, input, shelf)
     }
 }
 
@@ -111,7 +129,9 @@ fn say<K: Sink>(out: &mut K, work: &Work) -> u8
 /// report of both; `gen SEED TASKS FILES` plays in the same way a script that it makes of these numbers, with nothing
 /// taken from the input, and writes a line that sums the job up. The shelf takes the image of the store that a job or a
 /// changing command opens with in place of what it holds, and after each event, or after the command, each change that was
-/// made, so that a stop at any moment leaves one of the run's. The report's status is one of [`Status`]; what was sent
+/// made, so that a stop at any moment leaves one of the run's. `trace` before another command than `init` and `twins` shows what
+/// it would send over what the shelf holds, and keeps nothing: of `job` and `gen` the trace of the whole run, of other
+/// commands the lines of their requests. The report's status is one of [`Status`]; what was sent
 /// before the shelf failed or memory was wanting is in the report.
 pub fn run<Q: Source, F: Shelf, K: Sink>(
     alloc: Global,
@@ -149,12 +169,31 @@ pub fn run<Q: Source, F: Shelf, K: Sink>(
     ensures quiet { (c : words_said.Command) → command_of words.now ≡ Some c → plays c ≡ false
         → result.told ≡ nothing_told }
 
+    // A trace of a job: it ran over the store that the shelf holds, the promise holds of all that the trace shows, and
+    // nothing is kept; or it stopped before its first event.
+    ensures trace_job { (c : words_said.Command) → traced_command words.now ≡ Some c → plays c ≡ true
+        → JobTraced F.sight c (Q.left input.old) (Q.left input.new) shelf.old shelf.new result.due
+        result.journal.entries result.told (Writes result.status (K.written out.old) (K.written out.new))
+        ⊎ JobStopped F.sight c (Q.left input.old) (Q.left input.new) shelf.old shelf.new result.due
+        result.journal.entries result.told (Writes result.status (K.written out.old) (K.written out.new)) }
+
+    // A trace of another command: it was done on what the shelf holds, its requests are shown, and nothing is kept; or it
+    // stopped before anything was done.
+    ensures trace_store { (c : words_said.Command) → traced_command words.now ≡ Some c → plays c ≡ false
+        → StoreTraced F.sight c (Q.left input.old) (Q.left input.new) shelf.old shelf.new result.due
+        result.journal.entries (Writes result.status (K.written out.old) (K.written out.new))
+        ⊎ StoreStopped F.sight c (Q.left input.old) (Q.left input.new) shelf.old shelf.new result.due
+        result.journal.entries (Writes result.status (K.written out.old) (K.written out.new)) }
+
+    // A trace calls the shelf once at most, to load it.
+    ensures trace_loads { asks_trace words.now ≡ true → IsLoaded F.sight shelf.old shelf.new }
+
     // Words that are no command.
-    ensures usage { command_of words.now ≡ None
+    ensures usage { named_command words.now ≡ None
         → NoCommand result.due shelf.old shelf.new result.journal.entries result.told
         (Writes result.status (K.written out.old) (K.written out.new)) }
-    ensures command { result.due ≡ 2 → command_of words.now ≡ None }
-    ensures unread { may_read (command_of words.now) ≡ false → input.new ≡ input.old }
+    ensures command { result.due ≡ 2 → named_command words.now ≡ None }
+    ensures unread { may_read (named_command words.now) ≡ false → input.new ≡ input.old }
 {
     let work = worked(alloc, words, input, shelf);
     let status = say(out, &work);

@@ -1,34 +1,112 @@
-use Rattle.s3a_top.proofs.Outs.{comes_written}
+use Rattle.s3a_top.proofs.Ending.{ends_written}
 use Rattle.s3a_top.proofs.top.run.Goals as goal
 
 pub returns-clause-due : goal.returns-clause-due
 returns-clause-due g c =
-    (comes_written g.F.Shelf.sight _ (g.Q.Source.left c.args.input.now) (g.Q.Source.left c.worked-work.new.input) c.args.shelf.now c.worked-work.new.shelf _ _ _ _ c.worked-work.result c.say-status.result c.code.result (g.K.Sink.written c.args.out.now) (g.K.Sink.written c.say-status.new.out) c.code.ensures c.say-status.ensures.text c.worked-work.ensures.comes).due
+    let left = g.Q.Source.left in
+    let written = g.K.Sink.written in
+    let new = c.worked-work.new in
+    let e = c.worked-work.ensures in
+    (ends_written g.F.Shelf.sight c.args.words.now (left c.args.input.now) (left new.input) c.args.shelf.now new.shelf _ _ _ _
+    c.worked-work.result c.say-status.result c.code.result (written c.args.out.now) (written c.say-status.new.out) c.code.ensures
+    c.say-status.ensures.text e.comes e.shows).due
 
 pub returns-clause-read : goal.returns-clause-read
 returns-clause-read g c =
-    (comes_written g.F.Shelf.sight _ (g.Q.Source.left c.args.input.now) (g.Q.Source.left c.worked-work.new.input) c.args.shelf.now c.worked-work.new.shelf _ _ _ _ c.worked-work.result c.say-status.result c.code.result (g.K.Sink.written c.args.out.now) (g.K.Sink.written c.say-status.new.out) c.code.ensures c.say-status.ensures.text c.worked-work.ensures.comes).read
+    let left = g.Q.Source.left in
+    let written = g.K.Sink.written in
+    let new = c.worked-work.new in
+    let e = c.worked-work.ensures in
+    (ends_written g.F.Shelf.sight c.args.words.now (left c.args.input.now) (left new.input) c.args.shelf.now new.shelf _ _ _ _
+    c.worked-work.result c.say-status.result c.code.result (written c.args.out.now) (written c.say-status.new.out) c.code.ensures
+    c.say-status.ensures.text e.comes e.shows).read
 
 pub returns-clause-shelf : goal.returns-clause-shelf
 returns-clause-shelf g c =
-    (comes_written g.F.Shelf.sight _ (g.Q.Source.left c.args.input.now) (g.Q.Source.left c.worked-work.new.input) c.args.shelf.now c.worked-work.new.shelf _ _ _ _ c.worked-work.result c.say-status.result c.code.result (g.K.Sink.written c.args.out.now) (g.K.Sink.written c.say-status.new.out) c.code.ensures c.say-status.ensures.text c.worked-work.ensures.comes).shelf
+    let left = g.Q.Source.left in
+    let written = g.K.Sink.written in
+    let new = c.worked-work.new in
+    let e = c.worked-work.ensures in
+    (ends_written g.F.Shelf.sight c.args.words.now (left c.args.input.now) (left new.input) c.args.shelf.now new.shelf _ _ _ _
+    c.worked-work.result c.say-status.result c.code.result (written c.args.out.now) (written c.say-status.new.out) c.code.ensures
+    c.say-status.ensures.text e.comes e.shows).shelf
 
 pub returns-clause-job : goal.returns-clause-job
-returns-clause-job g c command is plays =
-    (comes_written g.F.Shelf.sight _ (g.Q.Source.left c.args.input.now) (g.Q.Source.left c.worked-work.new.input) c.args.shelf.now c.worked-work.new.shelf _ _ _ _ c.worked-work.result c.say-status.result c.code.result (g.K.Sink.written c.args.out.now) (g.K.Sink.written c.say-status.new.out) c.code.ensures c.say-status.ensures.text c.worked-work.ensures.comes).job command is plays
+returns-clause-job g c command is kind =
+    let left = g.Q.Source.left in
+    let written = g.K.Sink.written in
+    let new = c.worked-work.new in
+    let e = c.worked-work.ensures in
+    (ends_written g.F.Shelf.sight c.args.words.now (left c.args.input.now) (left new.input) c.args.shelf.now new.shelf _ _ _ _
+    c.worked-work.result c.say-status.result c.code.result (written c.args.out.now) (written c.say-status.new.out) c.code.ensures
+    c.say-status.ensures.text e.comes e.shows).job command is kind
 
 pub returns-clause-store : goal.returns-clause-store
-returns-clause-store g c command is other =
-    (comes_written g.F.Shelf.sight _ (g.Q.Source.left c.args.input.now) (g.Q.Source.left c.worked-work.new.input) c.args.shelf.now c.worked-work.new.shelf _ _ _ _ c.worked-work.result c.say-status.result c.code.result (g.K.Sink.written c.args.out.now) (g.K.Sink.written c.say-status.new.out) c.code.ensures c.say-status.ensures.text c.worked-work.ensures.comes).store command is other
+returns-clause-store g c command is kind =
+    let left = g.Q.Source.left in
+    let written = g.K.Sink.written in
+    let new = c.worked-work.new in
+    let e = c.worked-work.ensures in
+    (ends_written g.F.Shelf.sight c.args.words.now (left c.args.input.now) (left new.input) c.args.shelf.now new.shelf _ _ _ _
+    c.worked-work.result c.say-status.result c.code.result (written c.args.out.now) (written c.say-status.new.out) c.code.ensures
+    c.say-status.ensures.text e.comes e.shows).store command is kind
 
 pub returns-clause-quiet : goal.returns-clause-quiet
-returns-clause-quiet g c command is other =
-    (comes_written g.F.Shelf.sight _ (g.Q.Source.left c.args.input.now) (g.Q.Source.left c.worked-work.new.input) c.args.shelf.now c.worked-work.new.shelf _ _ _ _ c.worked-work.result c.say-status.result c.code.result (g.K.Sink.written c.args.out.now) (g.K.Sink.written c.say-status.new.out) c.code.ensures c.say-status.ensures.text c.worked-work.ensures.comes).quiet command is other
+returns-clause-quiet g c command is kind =
+    let left = g.Q.Source.left in
+    let written = g.K.Sink.written in
+    let new = c.worked-work.new in
+    let e = c.worked-work.ensures in
+    (ends_written g.F.Shelf.sight c.args.words.now (left c.args.input.now) (left new.input) c.args.shelf.now new.shelf _ _ _ _
+    c.worked-work.result c.say-status.result c.code.result (written c.args.out.now) (written c.say-status.new.out) c.code.ensures
+    c.say-status.ensures.text e.comes e.shows).quiet command is kind
+
+pub returns-clause-trace_job : goal.returns-clause-trace_job
+returns-clause-trace_job g c command is kind =
+    let left = g.Q.Source.left in
+    let written = g.K.Sink.written in
+    let new = c.worked-work.new in
+    let e = c.worked-work.ensures in
+    (ends_written g.F.Shelf.sight c.args.words.now (left c.args.input.now) (left new.input) c.args.shelf.now new.shelf _ _ _ _
+    c.worked-work.result c.say-status.result c.code.result (written c.args.out.now) (written c.say-status.new.out) c.code.ensures
+    c.say-status.ensures.text e.comes e.shows).trace_job command is kind
+
+pub returns-clause-trace_store : goal.returns-clause-trace_store
+returns-clause-trace_store g c command is kind =
+    let left = g.Q.Source.left in
+    let written = g.K.Sink.written in
+    let new = c.worked-work.new in
+    let e = c.worked-work.ensures in
+    (ends_written g.F.Shelf.sight c.args.words.now (left c.args.input.now) (left new.input) c.args.shelf.now new.shelf _ _ _ _
+    c.worked-work.result c.say-status.result c.code.result (written c.args.out.now) (written c.say-status.new.out) c.code.ensures
+    c.say-status.ensures.text e.comes e.shows).trace_store command is kind
+
+pub returns-clause-trace_loads : goal.returns-clause-trace_loads
+returns-clause-trace_loads g c asks =
+    let left = g.Q.Source.left in
+    let written = g.K.Sink.written in
+    let new = c.worked-work.new in
+    let e = c.worked-work.ensures in
+    (ends_written g.F.Shelf.sight c.args.words.now (left c.args.input.now) (left new.input) c.args.shelf.now new.shelf _ _ _ _
+    c.worked-work.result c.say-status.result c.code.result (written c.args.out.now) (written c.say-status.new.out) c.code.ensures
+    c.say-status.ensures.text e.comes e.shows).trace_loads asks
 
 pub returns-clause-usage : goal.returns-clause-usage
 returns-clause-usage g c none =
-    (comes_written g.F.Shelf.sight _ (g.Q.Source.left c.args.input.now) (g.Q.Source.left c.worked-work.new.input) c.args.shelf.now c.worked-work.new.shelf _ _ _ _ c.worked-work.result c.say-status.result c.code.result (g.K.Sink.written c.args.out.now) (g.K.Sink.written c.say-status.new.out) c.code.ensures c.say-status.ensures.text c.worked-work.ensures.comes).usage none
+    let left = g.Q.Source.left in
+    let written = g.K.Sink.written in
+    let new = c.worked-work.new in
+    let e = c.worked-work.ensures in
+    (ends_written g.F.Shelf.sight c.args.words.now (left c.args.input.now) (left new.input) c.args.shelf.now new.shelf _ _ _ _
+    c.worked-work.result c.say-status.result c.code.result (written c.args.out.now) (written c.say-status.new.out) c.code.ensures
+    c.say-status.ensures.text e.comes e.shows).usage none
 
 pub returns-clause-command : goal.returns-clause-command
 returns-clause-command g c is =
-    (comes_written g.F.Shelf.sight _ (g.Q.Source.left c.args.input.now) (g.Q.Source.left c.worked-work.new.input) c.args.shelf.now c.worked-work.new.shelf _ _ _ _ c.worked-work.result c.say-status.result c.code.result (g.K.Sink.written c.args.out.now) (g.K.Sink.written c.say-status.new.out) c.code.ensures c.say-status.ensures.text c.worked-work.ensures.comes).command is
+    let left = g.Q.Source.left in
+    let written = g.K.Sink.written in
+    let new = c.worked-work.new in
+    let e = c.worked-work.ensures in
+    (ends_written g.F.Shelf.sight c.args.words.now (left c.args.input.now) (left new.input) c.args.shelf.now new.shelf _ _ _ _
+    c.worked-work.result c.say-status.result c.code.result (written c.args.out.now) (written c.say-status.new.out) c.code.ensures
+    c.say-status.ensures.text e.comes e.shows).command is

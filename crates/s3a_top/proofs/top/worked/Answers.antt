@@ -1,16 +1,13 @@
-use Rattle.s3a_top.proofs.Coming.{comes_of, usage_comes, wanting_comes}
+use Rattle.s3a_top.proofs.Common.{Command, Option, false, may_read, subst, sym, ◌∙◌, ◌≡◌}
+use Rattle.s3a_top.proofs.Naming.{named_said, named_trace}
 use Rattle.s3a_top.proofs.top.worked.Goals as goal
 
-pub returns-in-Ok-clause-comes : goal.returns-in-Ok-clause-comes
-returns-in-Ok-clause-comes g c =
-    comes_of g.F.Shelf.sight _ (g.Q.Source.left c.args.input.now) (g.Q.Source.left c.do_command-done.new.input) c.args.shelf.now c.do_command-done.new.shelf (g.Q.Source.faults c.args.input.now) (g.Q.Source.faults c.do_command-done.new.input) (g.F.Shelf.faults c.args.shelf.now)
-    (g.F.Shelf.faults c.do_command-done.new.shelf) c.in-Ok.command c.do_command-done.result c.answered.result c.in-Ok.ensures.exact c.do_command-done.ensures.goes c.do_command-done.ensures.counted c.answered.ensures
+pub returns-then-asks_trace-clause-unread : goal.returns-then-asks_trace-clause-unread
+returns-then-asks_trace-clause-unread g c e =
+    let asks = sym c.asks_trace.ensures ∙ c.if-asks_trace.true in
+    c.traced.ensures.unread (subst (λ (o : Option Command). may_read o ≡ false) (named_trace c.args.words.now asks) e)
 
-pub returns-in-Err-Usage-clause-comes : goal.returns-in-Err-Usage-clause-comes
-returns-in-Err-Usage-clause-comes g c =
-    let none = rw c.in-Err-Usage.field-0-is at c.in-Err-Usage.ensures.exact in
-    usage_comes g.F.Shelf.sight _ (g.Q.Source.left c.args.input.now) c.args.shelf.now (g.Q.Source.faults c.args.input.now) (g.F.Shelf.faults c.args.shelf.now) c.stopped.result none c.stopped.ensures
-
-pub returns-in-Err-NoMemory-clause-comes : goal.returns-in-Err-NoMemory-clause-comes
-returns-in-Err-NoMemory-clause-comes g c =
-    wanting_comes g.F.Shelf.sight _ (g.Q.Source.left c.args.input.now) c.args.shelf.now (g.Q.Source.faults c.args.input.now) (g.F.Shelf.faults c.args.shelf.now) c.stopped-in-Err-NoMemory.result g.met.F.Shelf.timed c.stopped-in-Err-NoMemory.ensures
+pub returns-else-asks_trace-clause-unread : goal.returns-else-asks_trace-clause-unread
+returns-else-asks_trace-clause-unread g c e =
+    let asks = sym c.asks_trace.ensures ∙ c.if-asks_trace.false in
+    c.do_words.ensures.unread (subst (λ (o : Option Command). may_read o ≡ false) (named_said c.args.words.now asks) e)

@@ -1,0 +1,9 @@
+use Rattle.s3a_top.proofs.Common.{IsFinal, One, subst, sym}
+use Rattle.s3a_top.specs.Tracings.{told_alone}
+use Rattle.s3a_top.proofs.Verdicts.{jobs_final}
+use Rattle.s3a_top.proofs.tracing.show_job.Goals as goal
+
+pub shown_run-requires : goal.shown_run-requires
+shown_run-requires c =
+    let run = c.in-Ok.made in
+    subst IsFinal (sym c.in-Ok.ensures.status) (jobs_final (One c.args.script) (told_alone run.picks run.ends))

@@ -1,0 +1,5 @@
+pub mod Cutting
+pub mod Firsts
+pub mod Unsent
+pub mod Due
+pub mod Written

@@ -1,0 +1,57 @@
+-- How many sends that have a fate are numbered above another.
+use Rattle.std.proofs.Common.{ℕ, ◌+◌, ◌≡◌, ◌≤◌, ◌<◌, ◌∷◌, ◌⊎◌, Bool, cond, List, [], length, Some, None, nat_lt, refl, ap, arith}
+use Rattle.std.specs.FinMap as fin
+use Rattle.std.specs.List.{count_by}
+use Rattle.std.proofs.lemmas.List.Sums.{sum_by-cons}
+use Rattle.std.specs.List.Sorted.{IsStrictlySortedBy}
+use Rattle.basics.proofs.Common.{cases_lt, inl, inr, keys_of, nat_cmp, sorted_head, sorted_tail}
+use Rattle.basics.proofs.EntriesFrom.{AreAbove, entries_from, entry_from, from_on, no_entry_from}
+use Rattle.basics.proofs.Naturals.{below_so, less_is, not_below}
+use Rattle.basics.proofs.Tree.{map_sorted}
+use Rattle.s3_types.specs.Fates.{FateMap, IsFirstFrom}
+use Rattle.s3_types.specs.declared.fates.Fate.{Fate}
+use Rattle.trace_text.specs.Trace.{unsent}
+
+-- it is numbered above n
+abbrev above : ℕ → ℕ × Fate → Bool
+above n e = nat_lt n e.0
+
+-- from a number on stands all that is above it
+kept : (n k : ℕ) (es : List (ℕ × Fate)) → n ≤ k → AreAbove k es → from_on n es ≡ es
+kept n k [] le h = refl
+kept n k (e ∷ es) le h =
+    let lt = less_is k e.0 h.0 in
+    ap (λ b. cond b (from_on n es) (e ∷ es)) (not_below e.0 n (omega (arith, lt)))
+
+-- those from the next number on are those that are numbered above
+counted : (n : ℕ) (es : List (ℕ × Fate)) → IsStrictlySortedBy nat_cmp (keys_of es) → count_by (above n) es ≡ length (from_on (n + 1) es)
+counted n [] s = refl
+counted n (e ∷ es) s = by (cases_lt n e.0) (counted n es (sorted_tail nat_cmp e.0 (keys_of es) s))
+  where
+    one : count_by (above n) (e ∷ es) ≡ cond (nat_lt n e.0) 1 0 + count_by (above n) es
+    one = sum_by-cons (λ x. cond (above n x) 1 0) e es
+
+    by : (n < e.0) ⊎ (e.0 ≤ n) → count_by (above n) es ≡ length (from_on (n + 1) es) → count_by (above n) (e ∷ es) ≡ length (from_on (n + 1) (e ∷ es))
+    by (inl lt) behind =
+        let here : ◌≡◌ {A = ℕ} (cond (nat_lt n e.0) 1 0) 1 = ap (λ b. cond b 1 0) (below_so n e.0 lt) in
+        let all : length (from_on (n + 1) es) ≡ length es = ap length (kept (n + 1) e.0 es (omega arith) (sorted_head nat_cmp e.0 (keys_of es) s)) in
+        let these : length (from_on (n + 1) (e ∷ es)) ≡ length (e ∷ es) = ap (λ b. length (cond b (from_on (n + 1) es) (e ∷ es))) (not_below e.0 (n + 1) (omega arith)) in
+        omega (arith, one, behind, here, all, these)
+    by (inr le) behind =
+        let here : ◌≡◌ {A = ℕ} (cond (nat_lt n e.0) 1 0) 0 = ap (λ b. cond b 1 0) (not_below n e.0 le) in
+        let these : length (from_on (n + 1) (e ∷ es)) ≡ length (from_on (n + 1) es) = ap (λ b. length (cond b (from_on (n + 1) es) (e ∷ es))) (below_so e.0 (n + 1) (omega arith)) in
+        omega (arith, one, behind, here, these)
+
+-- all that are left before the first is counted
+pub all_unsent : (m : FateMap) (sent : ℕ) → unsent m sent ≡ length (entries_from (sent + 1) m)
+all_unsent m sent = counted sent (fin.entries m) (map_sorted nat_cmp m)
+
+-- one more is counted
+pub one_unsent : (m : FateMap) (n k : ℕ) (fate : Fate) → IsFirstFrom m n (Some (k, fate)) → length (entries_from n m) ≡ 1 + length (entries_from (k + 1) m)
+one_unsent m n k fate h =
+    let e = ap length (entry_from m n k fate h.0 h.1 h.2) in
+    omega (arith, e)
+
+-- none is left
+pub none_unsent : (m : FateMap) (n : ℕ) → IsFirstFrom m n None → length (entries_from n m) ≡ 0
+none_unsent m n h = ap length (no_entry_from m n h)

@@ -1,0 +1,5 @@
+pub mod Heads
+pub mod Sends
+pub mod Trace
+pub mod Tapes
+pub mod DryRuns

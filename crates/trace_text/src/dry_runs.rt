@@ -1,0 +1,115 @@
+ghost use Rattle.std.specs.Prelude.{◌≡◌, ◌≤◌, length, IfOk, OnOk};
+ghost use Rattle.job_world.specs.Worlds.{MayBegin};
+ghost use Rattle.trace_text.specs.DryRuns.{IsDryRun};
+
+use crate::trace::trace_text;
+use job_actor::Works;
+use job_model::{EndList, PickList, Script};
+use job_world::{Played, World};
+use s3_service::Service;
+use s3_types::{Journal, let_go};
+use std::alloc::{AllocError, Global};
+
+/// A run of a job that was kept nowhere: its script, all that was sent, the picks of its commit, the ends of its events, the
+/// exit status (0, 1, 8 or 9), and its trace.
+#[derive(Drop)]
+pub struct DryRun {
+    pub script: Script,
+    pub journal: Journal,
+    pub picks: PickList,
+    pub ends: EndList,
+    pub status: u8,
+    pub text: String,
+}
+
+/// Runs all events of a world's script that are left.
+fn run_all<W: Works>(world: &mut World<W>) -> Result<(), AllocError>
+    requires { length world.old.ends ≤ length world.old.script.events }
+    ensures script { world.new.script ≡ world.old.script }
+    ensures opening { world.new.opening ≡ world.old.opening }
+    ensures over { OnOk result (length world.new.ends ≡ length world.new.script.events) }
+{
+    'events: while let Some(event) = world.next() {
+        world.event(&event)?;
+    }
+    Ok(())
+}
+
+/// What a run leaves but its store, with its status and its trace.
+fn shown(played: Played, status: u8, text: String) -> DryRun
+    ensures { result ≡ record {
+      script = played.script;
+      journal = played.journal;
+      picks = played.picks;
+      ends = played.ends;
+      status = status;
+      text = text;
+    } }
+{
+    let Played {
+        script,
+        service,
+        journal,
+        picks,
+        ends,
+    } = played;
+    let_go(service);
+    DryRun {
+        script,
+        journal,
+        picks,
+        ends,
+        status,
+        text,
+    }
+}
+
+/// The run of a world whose events all have their ends, with its trace over the store that it began with.
+fn traced<W: Works>(alloc: Global, world: World<W>, opening: Service) -> Result<DryRun, AllocError>
+    requires over { length world.ends ≡ length world.script.events }
+    requires opening { world.opening ≡ opening }
+    requires store { MayBegin opening }
+    ensures { IfOk result (IsDryRun world.script opening) }
+{
+    let status = world.verdict();
+    let played = world.finish();
+    match trace_text(
+        alloc,
+        &played.script,
+        opening,
+        &played.journal,
+        &played.ends,
+        status,
+    ) {
+        Ok(text) => Ok(shown(played, status, text)),
+        Err(error) => {
+            let_go(played);
+            Err(error)
+        }
+    }
+}
+
+/// Runs a job over a store to the end of its script, keeps nothing, and gives the run with its trace. AllocError comes where
+/// memory ran out alone.
+pub fn dry_run<W: Works>(
+    alloc: Global,
+    script: Script,
+    service: Service,
+) -> Result<DryRun, AllocError>
+    requires store { MayBegin service }
+    ensures { IfOk result (IsDryRun script service) }
+{
+    let opening = service.copy()?;
+    let Ok(mut world) = World::<W>::new(alloc, script, service) else {
+        let_go(opening);
+        return Err(AllocError);
+    };
+    match run_all(&mut world) {
+        Ok(()) => traced(alloc, world, opening),
+        Err(error) => {
+            let_go(world);
+            let_go(opening);
+            Err(error)
+        }
+    }
+}

@@ -1,0 +1,82 @@
+ghost use Rattle.std.specs.Prelude.{◌≡◌, ◌++◌, ◌<◌, ◌^◌, string_bytes, IfOk, OnOk};
+ghost use Rattle.job_spec.specs.ReportText.{end_text};
+ghost use Rattle.job_spec.specs.States.{verdict};
+ghost use Rattle.job_model.specs.Words.{event_text};
+ghost use Rattle.trace_text.specs.Trace as lines;
+
+use crate::counts::{refused, unsent};
+use job_model::{Event, EventEnd, Script};
+use job_report::write_end;
+use std::alloc::{AllocError, Global};
+use trace_lines::Line;
+
+/// An event as scripts write it.
+fn text_of_event(alloc: Global, event: Event) -> Result<String, AllocError>
+    ensures { IfOk result (λ text. string_bytes text ≡ event_text event) }
+{
+    format!(in alloc; "{event}")
+}
+
+/// How an event ended, as reports write it.
+fn text_of_end(alloc: Global, end: &EventEnd) -> Result<String, AllocError>
+    ensures { IfOk result (λ text. string_bytes text ≡ end_text end.now) }
+{
+    let mut text = String::new(alloc);
+    write_end(&mut text, end)?;
+    Ok(text)
+}
+
+/// Writes the line of an event whose text and end are written so.
+fn write_line(
+    alloc: Global,
+    text: &mut String,
+    number: usize,
+    event: &str,
+    end: &str,
+) -> Result<(), AllocError>
+    ensures { OnOk result (string_bytes text.new ≡ string_bytes text.old ++ lines.event_words number event.now end.now) }
+{
+    let mut line = Line::new(alloc);
+    line.text("op", "Event")?;
+    line.whole("event", number as u64)?;
+    line.text("text", event)?;
+    line.text("end", end)?;
+    line.write(alloc, text)
+}
+
+/// Writes the line of an event that is over.
+pub fn write_event(
+    alloc: Global,
+    text: &mut String,
+    number: usize,
+    event: Event,
+    end: &EventEnd,
+) -> Result<(), AllocError>
+    ensures { OnOk result (string_bytes text.new ≡ string_bytes text.old ++ lines.event_line number (event, end.now)) }
+{
+    let event = text_of_event(alloc, event)?;
+    let end = text_of_end(alloc, end)?;
+    write_line(alloc, text, number, event.as_str(), end.as_str())
+}
+
+/// Writes the last line.
+pub fn write_last(
+    alloc: Global,
+    text: &mut String,
+    script: &Script,
+    sent: usize,
+    ends: &[EventEnd],
+    status: u8,
+) -> Result<(), AllocError>
+    requires few { sent < 2 ^ 62 }
+    requires status { status ≡ verdict script.now ends.now }
+    ensures { OnOk result (string_bytes text.new ≡ string_bytes text.old ++ lines.end_line script.now sent ends.now) }
+{
+    let mut line = Line::new(alloc);
+    line.text("op", "End")?;
+    line.whole("sent", sent as u64)?;
+    line.whole("status", u64::from(status))?;
+    line.whole("refused", refused(ends))?;
+    line.whole("unsent", unsent(&script.fates, sent as u64))?;
+    line.write(alloc, text)
+}

@@ -1,0 +1,127 @@
+ghost use Rattle.std.specs.Prelude.{◌≡◌, ◌+◌, ◌++◌, ◌<◌, ◌≤◌, ◌^◌, ◌||◌, Option, cond, length, not, ◌&&◌, string_bytes, true, [], IfOk, OnOk};
+ghost use Rattle.std.specs.List.{flat_map};
+ghost use Rattle.s3_types.specs.Answer.{answer};
+ghost use Rattle.s3_types.specs.Moment.{effect};
+ghost use Rattle.trace_lines.specs.Requests.{request_line};
+ghost use Rattle.trace_text.specs.Sends.{behind_event, commit_line, is_of_commit, send_lines, until_event};
+ghost use Rattle.trace_text.specs.Tapes.{left};
+
+use crate::replies::reply_to;
+use crate::tape::Tape;
+use s3_types::{Actor, Entry, let_go};
+use std::alloc::{AllocError, Global};
+use store_link::MemStore;
+use trace_lines::{Line, write_request};
+
+/// Whether the driver sends it in the event of the job's commit or in a later one.
+fn is_of_commit(commit: Option<u64>, entry: &Entry) -> bool
+    ensures { result ≡ is_of_commit commit entry.now }
+{
+    match commit {
+        Some(first) => match entry.actor {
+            Actor::Driver => first <= u64::from(entry.event),
+            _ => false,
+        },
+        None => false,
+    }
+}
+
+/// Writes the line before the first request of the job's commit.
+fn write_commit(alloc: Global, text: &mut String) -> Result<(), AllocError>
+    ensures { OnOk result (string_bytes text.new ≡ string_bytes text.old ++ commit_line) }
+{
+    let mut line = Line::new(alloc);
+    line.text("op", "Commit")?;
+    line.write(alloc, text)
+}
+
+/// Writes the line of the n-th send.
+fn write_line(
+    alloc: Global,
+    store: &mut MemStore,
+    text: &mut String,
+    number: u64,
+    entry: &Entry,
+) -> Result<(), AllocError>
+    requires { store.old.requests < 2 ^ 62 }
+    ensures text { OnOk result (string_bytes text.new ≡ string_bytes text.old
+        ++ request_line number entry.now (answer store.old.scene entry.now.request)) }
+    ensures scene { OnOk result (store.new.scene ≡ effect store.old.scene entry.now.request entry.now.outcome) }
+    ensures count { OnOk result (store.new.requests ≤ store.old.requests + 1) }
+{
+    let reply = reply_to(store, entry)?;
+    let written = write_request(alloc, text, number, entry, &reply);
+    let_go(reply);
+    written
+}
+
+/// Writes the lines of a send, which is the next one.
+fn write_send(
+    alloc: Global,
+    tape: &mut Tape,
+    commit: Option<u64>,
+    entry: &Entry,
+) -> Result<(), AllocError>
+    requires counted { tape.old.store.requests ≤ tape.old.at }
+    requires few { tape.old.at < 2 ^ 62 }
+    ensures text { OnOk result (string_bytes tape.new.text ≡ string_bytes tape.old.text
+        ++ (cond (not tape.old.begun && is_of_commit commit entry.now) commit_line []
+        ++ request_line (tape.old.at + 1) entry.now (answer tape.old.store.scene entry.now.request))) }
+    ensures at { OnOk result (tape.new.at ≡ tape.old.at + 1) }
+    ensures begun { OnOk result (tape.new.begun ≡ (tape.old.begun || is_of_commit commit entry.now)) }
+    ensures scene { OnOk result (tape.new.store.scene
+        ≡ effect tape.old.store.scene entry.now.request entry.now.outcome) }
+    ensures counted { OnOk result (tape.new.store.requests ≤ tape.new.at) }
+{
+    if !tape.begun && is_of_commit(commit, entry) {
+        write_commit(alloc, &mut tape.text)?;
+        tape.begun = true;
+    }
+    let number = tape.at as u64 + 1;
+    write_line(alloc, &mut tape.store, &mut tape.text, number, entry)?;
+    tape.at += 1;
+    Ok(())
+}
+
+/// Writes the lines of the next sends, up to the last of an event.
+pub fn write_until(
+    alloc: Global,
+    tape: &mut Tape,
+    commit: Option<u64>,
+    entries: &[Entry],
+    event: u64,
+) -> Result<(), AllocError>
+    requires counted { tape.old.store.requests ≤ tape.old.at }
+    requires few { length entries.now < 2 ^ 62 }
+    ensures text { OnOk result (string_bytes tape.new.text ≡ string_bytes tape.old.text
+        ++ flat_map send_lines (until_event event (left commit tape.old entries.now))) }
+    ensures left { OnOk result (left commit tape.new entries.now
+        ≡ behind_event event (left commit tape.old entries.now)) }
+    ensures counted { OnOk result (tape.new.store.requests ≤ tape.new.at) }
+{
+    'sends: while let Some(entry) = entries.get(tape.at) {
+        if u64::from(entry.event) > event {
+            return Ok(());
+        }
+        write_send(alloc, tape, commit, entry)?;
+    }
+    Ok(())
+}
+
+/// Writes the lines of all sends that are left.
+pub fn write_all(
+    alloc: Global,
+    tape: &mut Tape,
+    commit: Option<u64>,
+    entries: &[Entry],
+) -> Result<(), AllocError>
+    requires counted { tape.old.store.requests ≤ tape.old.at }
+    requires few { length entries.now < 2 ^ 62 }
+    ensures { OnOk result (string_bytes tape.new.text ≡ string_bytes tape.old.text
+        ++ flat_map send_lines (left commit tape.old entries.now)) }
+{
+    'sends: while let Some(entry) = entries.get(tape.at) {
+        write_send(alloc, tape, commit, entry)?;
+    }
+    Ok(())
+}
