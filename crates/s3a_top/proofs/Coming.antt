@@ -86,7 +86,13 @@ module _ {S : Type 0} (F : Sight S) (said : Option Command) (left rest : Option 
 -- for a command there was no memory
 module _ {S : Type 0} (F : Sight S) (left : Option (List ℕ)) (old : S) (c : Command) (timed : IsTimed F) where
   pub job_wanting : JobHalted F c left left old old NoMemory
-  job_wanting = record { cause = inl refl; same = refl; calls = inl (refl, refl); leaves = unmoved F old (MayHaveLeft (F.may_leave old) c (F.held old) left left) timed (λ h is. inl is) }
+  job_wanting = record {
+    cause = inl refl;
+    same = refl;
+    calls = inl (refl, refl);
+    leaves = unmoved F old
+        (MayHaveLeft (F.may_leave old) c (F.held old) left left) timed (λ h is. inl is);
+  }
 
   pub store_wanting : StoreHalted F c left left old old NoMemory
   store_wanting = record { reason = inl refl; same = refl; calls = inl refl; leaves = unmoved F old (F.may_leave old) timed (λ h is. is) }
@@ -117,8 +123,10 @@ module _ {S : Type 0} (F : Sight S) (said : Option Command) (left : Option (List
         due = told_due NoMemory due text stopped.told;
         read = told_counts 3 NoMemory due text i i (λ e. cc) (λ e. cc) (λ e. cc) stopped.told (tells_none 3 9 i i (λ e. cc) refl);
         shelf = told_counts 5 NoMemory due text n n (λ e. cc) (λ e. cc) (λ e. cc) stopped.told (tells_none 5 9 n n (λ e. cc) refl);
-        job = λ c e p. inr (halted_told F c left left old old NoMemory due text es work.told (job_wanting F left old c timed) stopped.told stopped.idle);
-        store = λ c e p. inr (store_halted F c left left old old NoMemory due text es work.told (store_wanting F left old c timed) stopped.told stopped.idle);
+        job = λ c e p. inr (halted_told F c left left old old NoMemory due text es work.told (job_wanting F left old c timed) stopped.told
+            stopped.idle);
+        store = λ c e p. inr (store_halted F c left left old old NoMemory due text es work.told (store_wanting F left old c timed)
+            stopped.told stopped.idle);
         quiet = λ c e p. stopped.idle.nothing;
         usage = λ e. no_command old old NoMemory due text es work.told (inr refl) refl stopped.told stopped.idle;
         command = λ e. let is : NoMemory ≡ Usage = told_usage NoMemory due text stopped.told e in absurd (cc);

@@ -81,6 +81,7 @@ pub ends_written : {S : Type 0} (F : Sight S) (words : List (List ℕ)) (left re
     work.answer.sent.entries work.told (IsWritten work.answer))
     → Ends F words left rest old new i j m n due work.answer.sent.entries work.told (Writes status before after)
 ends_written F words left rest old new i j m n work status due before after is written comes shows =
-    ends_either F words left rest old new i j m n due work.answer.sent.entries work.told (Writes status before after) (asks_trace words) refl
+    ends_either F words left rest old new i j m n due work.answer.sent.entries work.told (Writes status before after) (asks_trace words)
+    refl
     (λ e. comes_written F (command_of words) left rest old new i j m n work status due before after is written (comes e))
     (λ e. shows_written F (traced_in words) left rest old new i j m n work status due before after is written (shows e))

@@ -58,7 +58,8 @@ pub trace_no_command : (words : List (List ℕ)) → asks_trace words ≡ true �
 trace_no_command [] e = absurd (cc)
 trace_no_command (folder ∷ []) e = absurd (cc)
 trace_no_command (folder ∷ word ∷ words) e =
-    subst (λ (w : List ℕ). command_of (folder ∷ w ∷ words) ≡ None) (sym ((bytes_eq-Decides word (codes "trace")).0 e)) (trace_none folder words)
+    subst (λ (w : List ℕ). command_of (folder ∷ w ∷ words) ≡ None) (sym ((bytes_eq-Decides word (codes "trace")).0 e))
+    (trace_none folder words)
 
 -- ---- the words behind `trace`
 
@@ -70,7 +71,8 @@ asked_some (folder ∷ words) e = omega arith
 pub asked_word : (words : List (List ℕ)) (word : List ℕ) → slice_get words 1 ≡ Some word → asks_trace words ≡ bytes_eq word (codes "trace")
 asked_word [] word e = absurd (cc)
 asked_word (folder ∷ []) word e = absurd (cc)
-asked_word (folder ∷ second ∷ words) word e = let same : second ≡ word = cc in subst (λ (w : List ℕ). bytes_eq second (codes "trace") ≡ bytes_eq w (codes "trace")) same refl
+asked_word (folder ∷ second ∷ words) word e = let same : second ≡ word = cc in subst
+    (λ (w : List ℕ). bytes_eq second (codes "trace") ≡ bytes_eq w (codes "trace")) same refl
 
 pub asked_none : (words : List (List ℕ)) → slice_get words 1 ≡ None → asks_trace words ≡ false
 asked_none [] e = refl

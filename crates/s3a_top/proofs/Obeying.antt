@@ -59,7 +59,8 @@ module _ {S : Type 0} (F : Sight S) where
 
 -- ---- causes, where it is told what the shelf held
 
-pub reason_of : (stop : Stop) (command : Command) (told : Option Stored) (before : Held) (left rest : Option (List ℕ)) → IsFound told before → HasReasonIn stop command before left rest → HasReason stop command told left rest
+pub reason_of : (stop : Stop) (command : Command) (told : Option Stored) (before : Held) (left rest : Option (List ℕ)) → IsFound told before
+    → HasReasonIn stop command before left rest → HasReason stop command told left rest
 reason_of ReadFault command told before left rest f h = (sound_of told before f h.0, h.1)
 reason_of NoMemory command told before left rest f (inl h) = inl h
 reason_of NoMemory command told before left rest f (inr h) = inr (sound_of told before f h.0, h.1)

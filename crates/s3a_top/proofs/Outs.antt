@@ -119,7 +119,8 @@ module _ (A B : List ℕ → Type 0) (f : (t : List ℕ) → A t → B t) {S : T
       read = h.read;
       shelf = h.shelf;
       job = λ c e p. ⊎_elim (λ x. inl (job_traced_out c left rest old new x)) (λ x. inr (stopped_out c left rest old new x)) (h.job c e p);
-      store = λ c e p. ⊎_elim (λ x. inl (store_traced_out c left rest old new x)) (λ x. inr (halted_out c left rest old new x)) (h.store c e p);
+      store = λ c e p. ⊎_elim (λ x. inl (store_traced_out c left rest old new x)) (λ x. inr (halted_out c left rest old new x))
+          (h.store c e p);
       quiet = h.quiet;
       loaded = h.loaded;
       usage = λ e. let n = h.usage e in record { said = said_out _ _ _ _ _ _ (f _) (f _) n.said; idle = n.idle; untouched = n.untouched };

@@ -1,87 +1,27 @@
 -- What comes of words that ask for a trace, by what came of the command that they name.
 use Rattle.s3a_top.proofs.Common.{IsErrOf, IsWork, ShelfStop}
-use Rattle.s3a_top.proofs.Common.{AreJobsOf, Bool, Command, Content, Counted, CrashesLeave, Entry, Err, Held, IfOk, IsAnswered, IsFinal, IsFound}
-use Rattle.s3a_top.proofs.Common.{IsInput, IsQuiet, IsSound, IsStopped, IsTimed, IsVerdict, IsWorked, IsWritten, JobHalted, JobStopped, List, Load}
-use Rattle.s3a_top.proofs.Common.{MayHaveLeft, None, Ok, One, Opens, Option, Result, Script, Sight, Some, Status, Stop, Store, StoreHalted}
-use Rattle.s3a_top.proofs.Common.{StoreStopped, Stored, Tells, Told, Two, Work, ap, arith, code, false, inl, inr, is_sound, plays, reads_input, refl}
-use Rattle.s3a_top.proofs.Common.{subst, sym, true, verdict, written_text, ℕ, ◌^◌, ◌∙◌, ◌≡◌, ◌≢◌, ◌≤◌, ◌⊎◌}
-use Rattle.std.specs.Prelude.{string_bytes}
-use Rattle.durable_job.specs.Jobs.{KeepsOne}
+use Rattle.s3a_top.proofs.Common.{AreJobsOf, Bool, Command, Counted, CrashesLeave, Err, Held, IfOk, IsAnswered}
+use Rattle.s3a_top.proofs.Common.{IsSound, IsStopped, IsTimed, IsWorked, IsWritten, JobStopped, List, Load}
+use Rattle.s3a_top.proofs.Common.{None, Ok, Option, Result, Sight, Some, Status, Stop, Store}
+use Rattle.s3a_top.proofs.Common.{StoreStopped, Tells, Two, Work, ap, arith, code, false, inl, inr, plays, refl}
+use Rattle.s3a_top.proofs.Common.{subst, sym, true, written_text, ℕ, ◌^◌, ◌∙◌, ◌≡◌, ◌≢◌, ◌≤◌, ◌⊎◌}
 use Rattle.durable_store.proofs.Found.{few_ids}
 use Rattle.durable_store.specs.Works.{IsPlain, IsSaid, Says, Work as Doing}
 use Rattle.durable_store.specs.declared.held.Held.TheVariants.{Faulty, Nothing}
 use Rattle.durable_store.specs.declared.work.Answer.{Answer}
 use Rattle.exit_status.specs.declared.statuses.Status.TheVariants as statuses
-use Rattle.job_spec.specs.Prelude.{EventEnd, Pick}
-use Rattle.job_spec.specs.Promise.{Finished}
-use Rattle.job_world.specs.Worlds.{Keeps, Run}
 use Rattle.s3a_words.specs.declared.command.Command.TheVariants.{Twins}
 use Rattle.shelf.specs.declared.kept.ShelfStop.TheVariants as shelves
-use Rattle.trace_text.specs.DryRuns.{IsDryRun}
-use Rattle.trace_text.specs.Trace.{requests_text, trace_text}
 use Rattle.twin_script.specs.TwinScripts as twin_scripts
-use Rattle.s3a_top.specs.Commands.{HasReason}
-use Rattle.s3a_top.specs.Traces.{IsLoaded, JobTraced, Shows, StoreTraced, shown_sends, shown_status, shown_text, store_in}
-use Rattle.s3a_top.specs.Tracings.{AnswerShown, IsShownOf, JobShows, JobTraces, RunShown, StoreShows, StoreTraces, Traces, told_alone}
+use Rattle.s3a_top.specs.Traces.{IsLoaded, JobTraced, Shows, StoreTraced, shown_status, store_in}
+use Rattle.s3a_top.specs.Tracings.{AnswerShown, IsShownOf, JobShows, JobTraces, StoreShows, StoreTraces, Traces}
 use Rattle.s3a_top.specs.declared.stop.Stop.TheVariants.{Usage, NoMemory}
 use Rattle.s3a_top.proofs.Coming.{job_wanting, not_both, not_said, store_wanting}
-use Rattle.s3a_top.proofs.Crashing.{loaded_alone, unmoved}
+use Rattle.s3a_top.proofs.Crashing.{loaded_alone}
 use Rattle.s3a_top.proofs.Telling.{counted_done, tells_none, worked_usage, worked_due}
 use Rattle.s3a_top.proofs.Halting.{halted_told, store_halted, no_command, told_counts, told_due, told_usage}
 
--- ---- a run that was made to be shown
-
--- a job's run keeps what is promised of a job alone
-one_kept : (r : Run) → Keeps r → KeepsOne r.script r.opening r.journal (told_alone r.picks r.ends)
-one_kept r k = record {
-  promised = k.promised;
-  whole = k.whole;
-  sent = k.sent;
-  own = k.own;
-  alone = record { picks = refl; ends = refl };
-  readers_safe = k.readers_safe;
-}
-
--- what holds of a run holds of one of which the same is told
-told_so : (P : Script → Content → List Entry → List Pick → List EventEnd → Type 0) (w v : Script) (c d : Content) (es fs : List Entry)
-    (ps qs : List Pick) (xs ys : List EventEnd) → w ≡ v → c ≡ d → es ≡ fs → ps ≡ qs → xs ≡ ys → P w c es ps xs → P v d fs qs ys
-told_so P w v c d es fs ps qs xs ys a b e p x h =
-    subst (λ (s : Script). P s d fs qs ys) a
-    (subst (λ (o : Content). P w o fs qs ys) b
-    (subst (λ (l : List Entry). P w c l qs ys) e
-    (subst (λ (l : List Pick). P w c es l ys) p
-    (subst (λ (l : List EventEnd). P w c es ps l) x h))))
-
-module _ (w : Script) (c : Content) (es : List Entry) (ps : List Pick) (xs : List EventEnd) (r : Run) (script : r.script ≡ w)
-    (opening : r.opening ≡ c) (journal : es ≡ r.journal) (picks : ps ≡ r.picks) (ends : xs ≡ r.ends) where
-  kept_so : Keeps r → KeepsOne w c es (told_alone ps xs)
-  kept_so k = told_so (λ v d fs qs ys. KeepsOne v d fs (told_alone qs ys)) r.script w r.opening c r.journal es r.picks ps r.ends xs
-      script opening (sym journal) (sym picks) (sym ends) (one_kept r k)
-
-  finished_so : Finished r.script r.opening r.journal r.picks r.ends → Finished w c es ps xs
-  finished_so f = told_so Finished r.script w r.opening c r.journal es r.picks ps r.ends xs
-      script opening (sym journal) (sym picks) (sym ends) f
-
--- its text is written, and its status is due
-module _ (w : Script) (c : Content) (work : Work) where
-  pub run_shown : (es : List Entry) (ps : List Pick) (xs : List EventEnd) (status : ℕ) (text : List ℕ) (r : Run) → Keeps r
-      → Finished r.script r.opening r.journal r.picks r.ends → r.script ≡ w → r.opening ≡ c → es ≡ r.journal → ps ≡ r.picks → xs ≡ r.ends
-      → status ≡ verdict w xs → text ≡ trace_text w c es xs
-      → work.answer.sent.entries ≡ es → work.told ≡ told_alone ps xs → code work.answer.due ≡ status → IsWritten work.answer text
-      → RunShown w c work
-  run_shown es ps xs status text r keeps finished script opening journal picks ends is_status is_text sent told due said =
-      let said_so : IsWritten work.answer (trace_text w c es xs) = said ∙ is_text in
-      let kept = kept_so w c es ps xs r script opening journal picks ends keeps in
-      let over = finished_so w c es ps xs r script opening journal picks ends finished in
-      record {
-        promised = subst (λ (l : List Entry). KeepsOne w c l work.told) (sym sent)
-            (subst (λ (t : Told). KeepsOne w c es t) (sym told) kept);
-        finished = subst (λ (l : List Entry). Finished w c l work.told.picks work.told.ends) (sym sent)
-            (subst (λ (t : Told). Finished w c es t.picks t.ends) (sym told) over);
-        status = due ∙ is_status ∙ ap (λ (t : Told). verdict w t.ends) (sym told);
-        said = subst (λ (l : List Entry). IsWritten work.answer (trace_text w c l work.told.ends)) (sym sent)
-            (subst (λ (t : Told). IsWritten work.answer (trace_text w c es t.ends)) (sym told) said_so);
-      }
+-- ---- what a command does on what is held
 
 -- a command that is not `twins` plays no two jobs
 pub not_two : (command : Command) (left rest : Option (List ℕ)) (t : twin_scripts.Twins) → (command ≡ Twins → ⊥)
@@ -89,19 +29,11 @@ pub not_two : (command : Command) (left rest : Option (List ℕ)) (t : twin_scri
 not_two Twins left rest t single h = single refl
 not_two _ left rest t single h = h
 
--- ---- what a command does on what is held
-
 -- the store on which a command is done has ids left
 pub few_in : (held : Held) → IsSound held → (store_in held).next ≤ 2 ^ 62
 few_in (Store c) sound = few_ids c sound
 few_in Nothing sound = omega arith
 few_in (Faulty number place) sound = omega arith
-
--- what did not end with Done says its own text
-pub own_text : (before : Held) (due : Status) (text : Option (List ℕ)) (sent : List Entry) → (due ≡ statuses.Done → ⊥)
-    → written_text due text ≡ shown_text before (Says due text sent)
-own_text before statuses.Done text sent other = absurd (other refl)
-own_text before _ text sent other = refl
 
 -- the statuses with which it ends
 pub shown_own : (work : Doing) → IsPlain work → IsWorked (shown_status work) × (code (shown_status work) ≢ 5)
@@ -280,8 +212,10 @@ module _ {S : Type 0} (F : Sight S) (named : Option Command) (left : Option (Lis
         due = told_due NoMemory due text stopped.told;
         read = told_counts 3 NoMemory due text i i (λ e. cc) (λ e. cc) (λ e. cc) stopped.told (tells_none 3 9 i i (λ e. cc) refl);
         shelf = told_counts 5 NoMemory due text n n (λ e. cc) (λ e. cc) (λ e. cc) stopped.told (tells_none 5 9 n n (λ e. cc) refl);
-        job = λ c e p. inr (halted_told F c left left old old NoMemory due text es work.told (job_wanting F left old c timed) stopped.told stopped.idle);
-        store = λ c e p. inr (store_halted F c left left old old NoMemory due text es work.told (store_wanting F left old c timed) stopped.told stopped.idle);
+        job = λ c e p. inr (halted_told F c left left old old NoMemory due text es work.told (job_wanting F left old c timed) stopped.told
+            stopped.idle);
+        store = λ c e p. inr (store_halted F c left left old old NoMemory due text es work.told (store_wanting F left old c timed)
+            stopped.told stopped.idle);
         quiet = λ c e p. stopped.idle.nothing;
         loaded = inl refl;
         usage = λ e. no_command old old NoMemory due text es work.told (inr refl) refl stopped.told stopped.idle;

@@ -1,5 +1,5 @@
 -- A command that changes nothing leaves the shelf as it was loaded.
-use Rattle.std.specs.Prelude.{◌≡◌, ◌⊎◌, ℕ, Bool, true, false, List, Option, Some, None}
+use Rattle.std.specs.Prelude.{◌≡◌, ◌⊎◌, ℕ, Bool, true, false, List, Option, Some}
 use Rattle.basics.proofs.Common.{false≢true}
 use Rattle.s3a_top.proofs.Common.{CallsBy, Command, Entry, Faulty, Held, IsAnswer, IsWork, Nothing, Sight, Status, Store, ap, inl, inr}
 use Rattle.s3a_top.proofs.Common.{refl, subst, sym, ◌∙◌}

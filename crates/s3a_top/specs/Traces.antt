@@ -1,16 +1,16 @@
 -- What comes of `trace`: what a command would send is shown, and nothing is kept.
-use Rattle.std.specs.Prelude.{◌≡◌, ◌⊎◌, ℕ, Bool, true, false, cond, List, [], ◌∷◌, bytes_eq, codes, Option, Some, None, option_and_then}
+use Rattle.std.specs.Prelude.{◌≡◌, ◌⊎◌, ℕ, Bool, true, false, cond, List, ◌∷◌, bytes_eq, codes, Option, Some, None, option_and_then}
 use Rattle.job_spec.specs.Prelude.{Content, Entry, MOST_MINIMUM, Script, new_content}
 use Rattle.job_spec.specs.Promise.{Finished}
 use Rattle.job_spec.specs.States.{verdict}
-use Rattle.journal_log.specs.Prelude.{Load, Sight, Stored}
+use Rattle.journal_log.specs.Prelude.{Load, Sight}
 use Rattle.durable_job.specs.Jobs.{KeepsOne, nothing_told}
 use Rattle.durable_job.specs.declared.jobs.Jobs.TheVariants.{One}
 use Rattle.durable_job.specs.declared.jobs.Told.{Told}
 use Rattle.durable_store.specs.Outcomes.{Tells}
 use Rattle.durable_store.specs.Works.{Work, Says, Saves}
 use Rattle.durable_store.specs.declared.held.Held.{Held}
-use Rattle.durable_store.specs.declared.held.Held.TheVariants.{Nothing, Store, Faulty}
+use Rattle.durable_store.specs.declared.held.Held.TheVariants.{Store}
 use Rattle.exit_status.specs.Statuses.{code, written_text}
 use Rattle.exit_status.specs.declared.statuses.Status.{Status}
 use Rattle.exit_status.specs.declared.statuses.Status.TheVariants as statuses
@@ -37,7 +37,7 @@ if_traceable (Init minimum) = None
 if_traceable Twins = None
 if_traceable command = Some command
 
--- The command that stands behind the word `trace`, if there is one that can be traced.
+-- The command that follows the word `trace`, if there is one that can be traced.
 abbrev pub traced_in : List (List ℕ) → Option Command
 traced_in (folder ∷ words) = option_and_then if_traceable (command_of words)
 traced_in _ = None

@@ -1,5 +1,5 @@
 -- What the tracing of a command gives before its text is written.
-use Rattle.std.specs.Prelude.{◌≡◌, ℕ, [], true, false, List, Option, Some, None, Result, Ok, Err}
+use Rattle.std.specs.Prelude.{◌≡◌, ℕ, [], true, false, List, Option, Result, Ok, Err}
 use Rattle.job_spec.specs.Prelude.{Content, EventEnd, Pick, Script}
 use Rattle.job_spec.specs.Promise.{Finished}
 use Rattle.job_spec.specs.States.{verdict}

@@ -79,7 +79,7 @@ fn if_traceable(command: Command) -> Result<Command, WordFault>
     }
 }
 
-/// The command that stands behind the word `trace`, where it can be traced.
+/// The command that follows the word `trace`, where it can be traced.
 fn read_traced(alloc: Global, words: &[Text]) -> Result<Command, WordFault>
     requires { asks_trace words.now ≡ true }
     ensures exact { Reads (traced_in words.now) result }

@@ -28,7 +28,7 @@ pub(crate) struct Member<'a> {
     pub(crate) value: MemberValue<'a>,
 }
 
-/// How many members there is room for at first, as many as the line of a request has at most.
+/// How many members there is room for at first. No line of a request has more.
 const ROOM: usize = 16;
 
 /// Adds a member at a place among others. Those behind it move on.

@@ -1,8 +1,7 @@
-ghost use Rattle.std.specs.Prelude.{◌≡◌, ◌∷◌, ◌++◌, IfOk, IfSome, OnErr, OnOk, codes, option_map, string_bytes};
-ghost use Rattle.serde_json.specs.Data.{string};
+ghost use Rattle.std.specs.Prelude.{◌≡◌, ◌++◌, IfOk, IfSome, OnErr, OnOk, option_map, string_bytes};
 ghost use Rattle.s3_types.specs.Spelling.{actor_text, tag_text};
 ghost use Rattle.s3_types.specs.Tags.{plain_tag};
-ghost use Rattle.trace_lines.specs.Lines.{put_all, whole};
+ghost use Rattle.trace_lines.specs.Lines.{put_all};
 ghost use Rattle.trace_lines.specs.Members.{members_of};
 ghost use Rattle.trace_lines.specs.Requests.{TellsTag, part_tag, request_line, request_members, send_members, sent_bytes, stored_tag};
 

@@ -1,5 +1,6 @@
 -- The parts of a file that is longer than one of them.
-use Rattle.std.proofs.Common.{ℕ, ◌*◌, ◌+◌, ◌-◌, ◌/◌, ◌<◌, ◌≤◌, ◌≡◌, ◌∷◌, ◌∙◌, ◌++◌, [], append_assoc, List, length, take, drop, suc, ap, sym, arith, length-drop, map}
+use Rattle.std.proofs.Common.{ℕ, ◌*◌, ◌+◌, ◌-◌, ◌/◌, ◌<◌, ◌≤◌, ◌≡◌, ◌∷◌, ◌∙◌, ◌++◌, [], append_assoc, List, length, take, drop, suc, ap}
+use Rattle.std.proofs.Common.{sym, arith, length-drop, map}
 use Rattle.std.proofs.Math.Nat.{add-div_right, div-lt_iff_lt-mul}
 use Rattle.basics.proofs.Common.{cases_lt, inl, inr}
 use Rattle.std.proofs.lemmas.Bool.Decides.{nat_tests}
@@ -24,7 +25,8 @@ some_behind n size some longer =
 greater_one : (q : ℕ) → 1 ≤ q → greater 1 (q + 1) ≡ suc (greater 1 q)
 greater_one q h = grind (arith, nat_tests)
 
-pub more_parts : (size : ℕ) (bytes : List ℕ) → 1 ≤ size → size < length bytes → parts_of size bytes ≡ take size bytes ∷ parts_of size (drop size bytes)
+pub more_parts : (size : ℕ) (bytes : List ℕ) → 1 ≤ size → size < length bytes
+    → parts_of size bytes ≡ take size bytes ∷ parts_of size (drop size bytes)
 more_parts size bytes some longer =
     let n = length bytes in
     let count : greater 1 (quotient_up n size) ≡ suc (greater 1 (quotient_up (n - size) size)) =

@@ -15,6 +15,7 @@ none_told (PutObject bucket key bytes header) = tt
 none_told (UploadPart bucket key upload n bytes) = tt
 none_told _ = tt
 
-pub due_told : {E : Type 0} (z : Scene) (r : Request) (reply : Result Reply E) → IfOk reply (λ x. x ≡ answer z r) → IfOk reply (λ x. TellsTag r x)
+pub due_told : {E : Type 0} (z : Scene) (r : Request) (reply : Result Reply E) → IfOk reply (λ x. x ≡ answer z r)
+    → IfOk reply (λ x. TellsTag r x)
 due_told z r (Ok x) h = answer_tells z r x (sym h)
 due_told z r (Err e) h = tt

@@ -31,15 +31,17 @@ counted n (e ∷ es) s = by (cases_lt n e.0) (counted n es (sorted_tail nat_cmp 
     one : count_by (above n) (e ∷ es) ≡ cond (nat_lt n e.0) 1 0 + count_by (above n) es
     one = sum_by-cons (λ x. cond (above n x) 1 0) e es
 
-    by : (n < e.0) ⊎ (e.0 ≤ n) → count_by (above n) es ≡ length (from_on (n + 1) es) → count_by (above n) (e ∷ es) ≡ length (from_on (n + 1) (e ∷ es))
+    by : (n < e.0) ⊎ (e.0 ≤ n) → count_by (above n) es ≡ length (from_on (n + 1) es)
+        → count_by (above n) (e ∷ es) ≡ length (from_on (n + 1) (e ∷ es))
     by (inl lt) behind =
         let here : ◌≡◌ {A = ℕ} (cond (nat_lt n e.0) 1 0) 1 = ap (λ b. cond b 1 0) (below_so n e.0 lt) in
-        let all : length (from_on (n + 1) es) ≡ length es = ap length (kept (n + 1) e.0 es (omega arith) (sorted_head nat_cmp e.0 (keys_of es) s)) in
-        let these : length (from_on (n + 1) (e ∷ es)) ≡ length (e ∷ es) = ap (λ b. length (cond b (from_on (n + 1) es) (e ∷ es))) (not_below e.0 (n + 1) (omega arith)) in
+        let above_e = sorted_head nat_cmp e.0 (keys_of es) s in
+        let all : length (from_on (n + 1) es) ≡ length es = ap length (kept (n + 1) e.0 es (omega arith) above_e) in
+        let these = ap (λ b. length (cond b (from_on (n + 1) es) (e ∷ es))) (not_below e.0 (n + 1) (omega arith)) in
         omega (arith, one, behind, here, all, these)
     by (inr le) behind =
         let here : ◌≡◌ {A = ℕ} (cond (nat_lt n e.0) 1 0) 0 = ap (λ b. cond b 1 0) (not_below n e.0 le) in
-        let these : length (from_on (n + 1) (e ∷ es)) ≡ length (from_on (n + 1) es) = ap (λ b. length (cond b (from_on (n + 1) es) (e ∷ es))) (below_so e.0 (n + 1) (omega arith)) in
+        let these = ap (λ b. length (cond b (from_on (n + 1) es) (e ∷ es))) (below_so e.0 (n + 1) (omega arith)) in
         omega (arith, one, behind, here, these)
 
 -- all that are left before the first is counted
@@ -47,7 +49,8 @@ pub all_unsent : (m : FateMap) (sent : ℕ) → unsent m sent ≡ length (entrie
 all_unsent m sent = counted sent (fin.entries m) (map_sorted nat_cmp m)
 
 -- one more is counted
-pub one_unsent : (m : FateMap) (n k : ℕ) (fate : Fate) → IsFirstFrom m n (Some (k, fate)) → length (entries_from n m) ≡ 1 + length (entries_from (k + 1) m)
+pub one_unsent : (m : FateMap) (n k : ℕ) (fate : Fate) → IsFirstFrom m n (Some (k, fate))
+    → length (entries_from n m) ≡ 1 + length (entries_from (k + 1) m)
 one_unsent m n k fate h =
     let e = ap length (entry_from m n k fate h.0 h.1 h.2) in
     omega (arith, e)

@@ -14,18 +14,21 @@ use Rattle.trace_text.specs.Sends.{Send}
 use Rattle.trace_text.specs.Trace.{event_lines}
 
 -- the objects of the bucket of a path
-pub bucket_written : (dest : Path) (name prefix : List ℕ) (b : List ℕ × BucketContent) (left next : List (List ℕ × BucketContent)) (text now all : List ℕ)
+pub bucket_written : (dest : Path) (name prefix : List ℕ) (b : List ℕ × BucketContent) (left next : List (List ℕ × BucketContent))
+    (text now all : List ℕ)
     → name ≡ dest.bucket → prefix ≡ below dest.key [] → left ≡ b ∷ next → true ≡ text_eq b.0 name
     → now ≡ text ++ flat_map (object_line name) (filter (λ o. begins prefix o.0) (fin.entries b.1.objects))
     → text ++ flat_map (bucket_lines dest) left ≡ all → now ++ flat_map (bucket_lines dest) next ≡ all
 bucket_written dest name prefix b left next text now all named below_dest goes_on same written so_far =
-    let lines = flat_map (object_line dest.bucket) (filter (λ o. begins (below dest.key []) o.0) (fin.entries b.1.objects)) in
+    let lines = λ (bucket begin : List ℕ). flat_map (object_line bucket) (filter (λ o. begins begin o.0) (fin.entries b.1.objects)) in
+    let rest = flat_map (bucket_lines dest) next in
     let passed : true ≡ text_eq b.0 dest.bucket = same ∙ ap (text_eq b.0) named in
-    let here : lines ≡ bucket_lines dest b = ap (λ (t : Bool). cond t lines []) passed in
-    (λ i. written i ++ flat_map (bucket_lines dest) next)
-    ∙ (λ i. (text ++ flat_map (object_line (named i)) (filter (λ o. begins (below_dest i) o.0) (fin.entries b.1.objects))) ++ flat_map (bucket_lines dest) next)
-    ∙ (λ i. (text ++ here i) ++ flat_map (bucket_lines dest) next)
-    ∙ append_assoc text (bucket_lines dest b) (flat_map (bucket_lines dest) next)
+    let here : lines dest.bucket (below dest.key []) ≡ bucket_lines dest b =
+    ap (λ (t : Bool). cond t (lines dest.bucket (below dest.key [])) []) passed in
+    (λ i. written i ++ rest)
+    ∙ (λ i. (text ++ lines (named i) (below_dest i)) ++ rest)
+    ∙ (λ i. (text ++ here i) ++ rest)
+    ∙ append_assoc text (bucket_lines dest b) rest
     ∙ ap (λ (l : List (List ℕ × BucketContent)). text ++ flat_map (bucket_lines dest) l) (sym goes_on)
     ∙ so_far
 
@@ -37,10 +40,11 @@ no_pairs (e ∷ es) = refl
 pub all_events : (n place : ℕ) (events : List Event) (ends : List EventEnd) (sends : List Send) (text all : List ℕ) → length ends ≤ place
     → text ++ event_lines n (zip (drop place events) (drop place ends)) sends ≡ all → text ≡ all
 all_events n place events ends sends text all over so_far =
-    let none : zip (drop place events) (drop place ends) ≡ [] = ap (zip (drop place events)) (drop_all place ends over) ∙ no_pairs (drop place events) in
-    sym (append-nil text) ∙ ap (λ (l : List (Event × EventEnd)). text ++ event_lines n l sends) (sym none) ∙ so_far
+    let no_end = ap (zip (drop place events)) (drop_all place ends over) ∙ no_pairs (drop place events) in
+    sym (append-nil text) ∙ ap (λ (l : List (Event × EventEnd)). text ++ event_lines n l sends) (sym no_end) ∙ so_far
 
 -- three texts behind another
-pub three_written : (none first second all x y z : List ℕ) → first ≡ none ++ x → second ≡ first ++ y → all ≡ second ++ z → all ≡ none ++ (x ++ (y ++ z))
+pub three_written : (none first second all x y z : List ℕ) → first ≡ none ++ x → second ≡ first ++ y → all ≡ second ++ z
+    → all ≡ none ++ (x ++ (y ++ z))
 three_written none first second all x y z one two three =
     three ∙ ap (λ l. l ++ z) (two ∙ ap (λ l. l ++ y) one) ∙ append_assoc (none ++ x) y z ∙ append_assoc none x (y ++ z)

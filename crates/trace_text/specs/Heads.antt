@@ -6,7 +6,7 @@ use Rattle.serde_json.specs.Data.{string}
 use Rattle.basics.specs.Order.{text_eq}
 use Rattle.s3_types.specs.Pages.{begins}
 use Rattle.s3_types.specs.Store.{BucketContent, Content}
-use Rattle.s3_types.specs.Tags.{plain_tag}
+use Rattle.s3_types.specs.Tags.{Spelled, plain_tag}
 use Rattle.s3_types.specs.declared.object.Object.{Object}
 use Rattle.path_keys.specs.Paths.{Path, below}
 use Rattle.pending_json.specs.Committers.{committer_word}
@@ -44,26 +44,30 @@ job_line w = line (
 abbrev pub attempt_line : Who → List ℕ
 attempt_line a = line ((codes "op", string (codes "Attempt")) ∷ (codes "task", whole a.task) ∷ (codes "attempt", whole a.attempt) ∷ [])
 
--- The line of a file of an attempt: its path below the destination, and the MD5 of each part that it is cut into.
+-- The line of a file of an attempt, by its path and the tags of its parts.
+abbrev pub file_words : (path : List ℕ) → List Spelled → List ℕ
+file_words path tags = line ((codes "op", string (codes "File")) ∷ (codes "path", string path) ∷ (codes "etags", etags tags) ∷ [])
+
+-- The same line: its path below the destination, and the MD5 of each part that it is cut into.
 abbrev pub file_line : Script → (minimum : ℕ) → File → List ℕ
-file_line w minimum f = line (
-    (codes "op", string (codes "File"))
-    ∷ (codes "path", string f.0)
-    ∷ (codes "etags", etags (map plain_tag (file_parts w minimum f)))
-    ∷ [])
+file_line w minimum f = file_words f.0 (map plain_tag (file_parts w minimum f))
 
 -- The lines of an attempt and of its files.
 abbrev pub attempt_lines : Script → (minimum : ℕ) → Declared → List ℕ
 attempt_lines w minimum a = attempt_line a.0 ++ flat_map (file_line w minimum) (placed w.unique w.job a.1)
 
--- The line of an object: its place, and the MD5 of all its bytes.
-abbrev pub object_line : List ℕ → List ℕ × Object → List ℕ
-object_line bucket o = line (
+-- The line of an object, by its place and its tags.
+abbrev pub object_words : (bucket key : List ℕ) → List Spelled → List ℕ
+object_words bucket key tags = line (
     (codes "op", string (codes "Object"))
     ∷ (codes "bucket", string bucket)
-    ∷ (codes "key", string o.0)
-    ∷ (codes "etags", etags (plain_tag o.1.bytes ∷ []))
+    ∷ (codes "key", string key)
+    ∷ (codes "etags", etags tags)
     ∷ [])
+
+-- The same line: its place, and the MD5 of all its bytes.
+abbrev pub object_line : List ℕ → List ℕ × Object → List ℕ
+object_line bucket o = object_words bucket o.0 (plain_tag o.1.bytes ∷ [])
 
 -- The lines of a bucket's objects below a path, by their keys.
 abbrev pub bucket_lines : Path → List ℕ × BucketContent → List ℕ

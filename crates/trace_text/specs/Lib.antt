@@ -2,4 +2,5 @@ pub mod Heads
 pub mod Sends
 pub mod Trace
 pub mod Tapes
+pub mod Texts
 pub mod DryRuns

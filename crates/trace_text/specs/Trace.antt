@@ -28,13 +28,15 @@ event_line n e = event_words n (event_text e.0) (end_text e.1)
 -- Of events that are numbered from n on, each one's sends and behind them its line.
 abbrev pub event_lines : ℕ → List (Event × EventEnd) → List Send → List ℕ
 event_lines n [] sends = []
-event_lines n (e ∷ es) sends = flat_map send_lines (until_event n sends) ++ (event_line n e ++ event_lines (n + 1) es (behind_event n sends))
+event_lines n (e ∷ es) sends =
+    flat_map send_lines (until_event n sends) ++ (event_line n e ++ event_lines (n + 1) es (behind_event n sends))
 
 -- How many sends that a script's `loss` lines name were never sent, of a run of so many.
 abbrev pub unsent : FateMap → ℕ → ℕ
 unsent fates sent = count_by (λ loss. nat_lt sent loss.0) (fin.entries fates)
 
--- The last line: how many requests were sent, the exit status, how many events were refused, and how many planned losses were never reached.
+-- The last line: how many requests were sent, the exit status, how many events were refused, and how many planned losses
+-- were never reached.
 abbrev pub end_line : Script → (sent : ℕ) → List EventEnd → List ℕ
 end_line w sent ends = line (
     (codes "op", string (codes "End"))
@@ -48,7 +50,8 @@ end_line w sent ends = line (
 unfoldable pub trace_text : Script → Content → List Entry → List EventEnd → List ℕ
 trace_text w c journal ends =
     head_lines w c
-    ++ (event_lines 1 (zip w.events ends) (sends_from (commit_event w ends) 1 false (opening c) journal) ++ end_line w (length journal) ends)
+    ++ (event_lines 1 (zip w.events ends) (sends_from (commit_event w ends) 1 false (opening c) journal)
+    ++ end_line w (length journal) ends)
 
 -- The trace of a command's requests alone, over a store.
 unfoldable pub requests_text : Content → List Entry → List ℕ

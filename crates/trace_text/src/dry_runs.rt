@@ -10,8 +10,8 @@ use s3_service::Service;
 use s3_types::{Journal, let_go};
 use std::alloc::{AllocError, Global};
 
-/// A run of a job that was kept nowhere: its script, all that was sent, the picks of its commit, the ends of its events, the
-/// exit status (0, 1, 8 or 9), and its trace.
+/// A run of a job that was kept nowhere: its script, the journal of its sends, the attempts that its commit chose, the ends of
+/// its events, the exit status (0, 1, 8 or 9), and its trace.
 #[derive(Drop)]
 pub struct DryRun {
     pub script: Script,
@@ -89,21 +89,17 @@ fn traced<W: Works>(alloc: Global, world: World<W>, opening: Service) -> Result<
     }
 }
 
-/// Runs a job over a store to the end of its script, keeps nothing, and gives the run with its trace. AllocError comes where
-/// memory ran out alone.
-pub fn dry_run<W: Works>(
+/// Runs all events of a world that are left, and gives the run with its trace over the store that it began with.
+fn run_traced<W: Works>(
     alloc: Global,
-    script: Script,
-    service: Service,
+    mut world: World<W>,
+    opening: Service,
 ) -> Result<DryRun, AllocError>
-    requires store { MayBegin service }
-    ensures { IfOk result (IsDryRun script service) }
+    requires within { length world.ends ≤ length world.script.events }
+    requires opening { world.opening ≡ opening }
+    requires store { MayBegin opening }
+    ensures { IfOk result (IsDryRun world.script opening) }
 {
-    let opening = service.copy()?;
-    let Ok(mut world) = World::<W>::new(alloc, script, service) else {
-        let_go(opening);
-        return Err(AllocError);
-    };
     match run_all(&mut world) {
         Ok(()) => traced(alloc, world, opening),
         Err(error) => {
@@ -112,4 +108,28 @@ pub fn dry_run<W: Works>(
             Err(error)
         }
     }
+}
+
+/// Runs a job over a store to the end of its script, keeps nothing, and returns the run with its trace. Fails with
+/// `AllocError` only if memory runs out.
+pub fn dry_run<W: Works>(
+    alloc: Global,
+    script: Script,
+    service: Service,
+) -> Result<DryRun, AllocError>
+    // The store's next upload id is at most 2^62.
+    requires store { MayBegin service }
+    // It is a run of this script over this store, of which all is kept that is promised of a job, with its trace.
+    ensures { IfOk result (IsDryRun script service) }
+{
+    let Ok(opening) = service.copy() else {
+        let_go(script);
+        let_go(service);
+        return Err(AllocError);
+    };
+    let Ok(world) = World::<W>::new(alloc, script, service) else {
+        let_go(opening);
+        return Err(AllocError);
+    };
+    run_traced(alloc, world, opening)
 }

@@ -2,6 +2,9 @@ ghost use Rattle.std.specs.Prelude.{◌≡◌, ◌++◌, ◌<◌, ◌^◌, strin
 ghost use Rattle.job_spec.specs.ReportText.{end_text};
 ghost use Rattle.job_spec.specs.States.{verdict};
 ghost use Rattle.job_model.specs.Words.{event_text};
+ghost use Rattle.serde_json.specs.Data.{no_members};
+ghost use Rattle.trace_lines.specs.Members.{members_of};
+ghost use Rattle.trace_text.specs.Texts.{text_of};
 ghost use Rattle.trace_text.specs.Trace as lines;
 
 use crate::counts::{refused, unsent};
@@ -26,6 +29,22 @@ fn text_of_end(alloc: Global, end: &EventEnd) -> Result<String, AllocError>
     Ok(text)
 }
 
+/// Puts the members of the line of an event whose text and end are written so.
+fn put_event<'a>(
+    line: &mut Line<'a>,
+    number: usize,
+    event: &'a str,
+    end: &'a str,
+) -> Result<(), AllocError>
+    requires { members_of line.old ≡ no_members }
+    ensures { OnOk result (text_of line.new ≡ lines.event_words number event.now end.now) }
+{
+    line.text("op", "Event")?;
+    line.whole("event", number as u64)?;
+    line.text("text", event)?;
+    line.text("end", end)
+}
+
 /// Writes the line of an event whose text and end are written so.
 fn write_line(
     alloc: Global,
@@ -37,10 +56,7 @@ fn write_line(
     ensures { OnOk result (string_bytes text.new ≡ string_bytes text.old ++ lines.event_words number event.now end.now) }
 {
     let mut line = Line::new(alloc);
-    line.text("op", "Event")?;
-    line.whole("event", number as u64)?;
-    line.text("text", event)?;
-    line.text("end", end)?;
+    put_event(&mut line, number, event, end)?;
     line.write(alloc, text)
 }
 
@@ -59,6 +75,26 @@ pub fn write_event(
     write_line(alloc, text, number, event.as_str(), end.as_str())
 }
 
+/// Puts the members of the last line.
+fn put_last(
+    line: &mut Line<'_>,
+    script: &Script,
+    sent: usize,
+    ends: &[EventEnd],
+    status: u8,
+) -> Result<(), AllocError>
+    requires empty { members_of line.old ≡ no_members }
+    requires few { sent < 2 ^ 62 }
+    requires status { status ≡ verdict script.now ends.now }
+    ensures { OnOk result (text_of line.new ≡ lines.end_line script.now sent ends.now) }
+{
+    line.text("op", "End")?;
+    line.whole("sent", sent as u64)?;
+    line.whole("status", u64::from(status))?;
+    line.whole("refused", refused(ends))?;
+    line.whole("unsent", unsent(&script.fates, sent as u64))
+}
+
 /// Writes the last line.
 pub fn write_last(
     alloc: Global,
@@ -73,10 +109,6 @@ pub fn write_last(
     ensures { OnOk result (string_bytes text.new ≡ string_bytes text.old ++ lines.end_line script.now sent ends.now) }
 {
     let mut line = Line::new(alloc);
-    line.text("op", "End")?;
-    line.whole("sent", sent as u64)?;
-    line.whole("status", u64::from(status))?;
-    line.whole("refused", refused(ends))?;
-    line.whole("unsent", unsent(&script.fates, sent as u64))?;
+    put_last(&mut line, script, sent, ends, status)?;
     line.write(alloc, text)
 }

@@ -3,7 +3,10 @@ ghost use Rattle.std.specs.List.{flat_map};
 ghost use Rattle.job_model.specs.Placed.{path_of, placed};
 ghost use Rattle.job_script.specs.HeadLines.{path_text};
 ghost use Rattle.job_soundness.specs.Claim.{keeps_by};
+ghost use Rattle.serde_json.specs.Data.{no_members};
+ghost use Rattle.trace_lines.specs.Members.{members_of};
 ghost use Rattle.trace_text.specs.Heads as lines;
+ghost use Rattle.trace_text.specs.Texts.{text_of};
 
 use crate::parts::part_tags;
 use block_stream::block_of;
@@ -12,7 +15,7 @@ use job_plans::unique_name;
 use job_script::mode_word;
 use path_keys::S3Path;
 use pending_json::committer_word;
-use s3_types::{Bytes, Committer, Mode, Text, let_go};
+use s3_types::{Bytes, Committer, Mode, Tag, Text, let_go};
 use std::alloc::{AllocError, Global};
 use trace_lines::Line;
 
@@ -36,6 +39,21 @@ fn path_text(alloc: Global, path: &S3Path) -> Result<String, AllocError>
     format!(in alloc; "s3a://{bucket}/{key}")
 }
 
+/// Puts the members of the line of a job whose destination is written so.
+fn put_job<'a>(line: &mut Line<'a>, script: &'a Script, dest: &'a str) -> Result<(), AllocError>
+    requires empty { members_of line.old ≡ no_members }
+    requires dest { dest.now ≡ path_text script.now.dest }
+    ensures { OnOk result (text_of line.new ≡ lines.job_line script.now) }
+{
+    line.text("op", "Job")?;
+    line.text("job", script.job.as_str())?;
+    line.text("dest", dest)?;
+    line.text("committer", committer_word(script.committer))?;
+    line.text("mode", mode_word(script.mode))?;
+    line.whole("tasks", u64::from(script.tasks))?;
+    line.text("keeps", keeps_word(script.committer, script.mode))
+}
+
 /// Writes the line of a job whose destination is written so.
 fn write_job_at(
     alloc: Global,
@@ -47,13 +65,7 @@ fn write_job_at(
     ensures { OnOk result (string_bytes text.new ≡ string_bytes text.old ++ lines.job_line script.now) }
 {
     let mut line = Line::new(alloc);
-    line.text("op", "Job")?;
-    line.text("job", script.job.as_str())?;
-    line.text("dest", dest)?;
-    line.text("committer", committer_word(script.committer))?;
-    line.text("mode", mode_word(script.mode))?;
-    line.whole("tasks", u64::from(script.tasks))?;
-    line.text("keeps", keeps_word(script.committer, script.mode))?;
+    put_job(&mut line, script, dest)?;
     line.write(alloc, text)
 }
 
@@ -67,14 +79,22 @@ pub fn write_job(alloc: Global, text: &mut String, script: &Script) -> Result<()
     written
 }
 
+/// Puts the members of the line of an attempt.
+fn put_attempt(line: &mut Line<'_>, name: AttemptName) -> Result<(), AllocError>
+    requires { members_of line.old ≡ no_members }
+    ensures { OnOk result (text_of line.new ≡ lines.attempt_line name) }
+{
+    line.text("op", "Attempt")?;
+    line.whole("task", u64::from(name.task))?;
+    line.whole("attempt", u64::from(name.attempt))
+}
+
 /// Writes the line of an attempt.
 fn write_attempt(alloc: Global, text: &mut String, name: AttemptName) -> Result<(), AllocError>
     ensures { OnOk result (string_bytes text.new ≡ string_bytes text.old ++ lines.attempt_line name) }
 {
     let mut line = Line::new(alloc);
-    line.text("op", "Attempt")?;
-    line.whole("task", u64::from(name.task))?;
-    line.whole("attempt", u64::from(name.attempt))?;
+    put_attempt(&mut line, name)?;
     line.write(alloc, text)
 }
 
@@ -87,6 +107,30 @@ fn placed_path(alloc: Global, script: &Script, path: &Text) -> Result<Text, Allo
     } else {
         path.clone()
     }
+}
+
+/// Puts the members of the line of a file, by its path and the tags of its parts.
+fn put_file<'a>(line: &mut Line<'a>, path: &'a str, tags: &'a [Tag]) -> Result<(), AllocError>
+    requires { members_of line.old ≡ no_members }
+    ensures { OnOk result (text_of line.new ≡ lines.file_words path.now tags.now) }
+{
+    line.text("op", "File")?;
+    line.text("path", path)?;
+    line.tags("etags", tags)
+}
+
+/// Writes the line of a file, by its path and the tags of its parts.
+fn write_tagged(
+    alloc: Global,
+    text: &mut String,
+    path: &str,
+    tags: &[Tag],
+) -> Result<(), AllocError>
+    ensures { OnOk result (string_bytes text.new ≡ string_bytes text.old ++ lines.file_words path.now tags.now) }
+{
+    let mut line = Line::new(alloc);
+    put_file(&mut line, path, tags)?;
+    line.write(alloc, text)
 }
 
 /// Writes the line of a file that stands at this path below the destination.
@@ -104,11 +148,9 @@ fn write_placed(
     let bytes = bytes.as_slice();
     let size = block_of(bytes.len() as u64, script.block, minimum);
     let tags = part_tags(alloc, bytes, size as usize)?;
-    let mut line = Line::new(alloc);
-    line.text("op", "File")?;
-    line.text("path", path.as_str())?;
-    line.tags("etags", tags.as_slice())?;
-    line.write(alloc, text)
+    let written = write_tagged(alloc, text, path.as_str(), tags.as_slice());
+    let_go(tags);
+    written
 }
 
 /// Writes the line of a file of an attempt.

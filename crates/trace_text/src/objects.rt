@@ -3,14 +3,33 @@ ghost use Rattle.std.specs.List.{filter, flat_map};
 ghost use Rattle.std.specs.FinMap as fin;
 ghost use Rattle.s3_types.specs.Pages.{begins};
 ghost use Rattle.path_keys.specs.Paths.{below};
+ghost use Rattle.serde_json.specs.Data.{no_members};
+ghost use Rattle.trace_lines.specs.Members.{members_of};
 ghost use Rattle.trace_text.specs.Heads as lines;
+ghost use Rattle.trace_text.specs.Texts.{text_of};
 
 use object_store::Objects;
 use path_keys::S3Path;
 use s3_service::Service;
-use s3_types::{Bucket, Key, Object, Text, let_go, part_tag};
+use s3_types::{Bucket, Key, Object, Tag, Text, let_go, part_tag};
 use std::alloc::{AllocError, Global};
 use trace_lines::Line;
+
+/// Puts the members of the line of an object, by its place and its tags.
+fn put_object<'a>(
+    line: &mut Line<'a>,
+    bucket: &'a Bucket,
+    key: &'a Key,
+    tags: &'a [Tag],
+) -> Result<(), AllocError>
+    requires { members_of line.old ≡ no_members }
+    ensures { OnOk result (text_of line.new ≡ lines.object_words bucket.now key.now tags.now) }
+{
+    line.text("op", "Object")?;
+    line.text("bucket", bucket.as_text().as_str())?;
+    line.text("key", key.as_text().as_str())?;
+    line.tags("etags", tags)
+}
 
 /// Writes the line of an object.
 fn write_object(
@@ -25,10 +44,7 @@ fn write_object(
 {
     let tags = [part_tag(object.bytes.as_slice())];
     let mut line = Line::new(alloc);
-    line.text("op", "Object")?;
-    line.text("bucket", bucket.as_text().as_str())?;
-    line.text("key", key.as_text().as_str())?;
-    line.tags("etags", &tags)?;
+    put_object(&mut line, bucket, key, &tags)?;
     line.write(alloc, text)
 }
 

@@ -96,8 +96,8 @@ fn write_run(
     )
 }
 
-/// The trace of a job's run, of which each event has its end: the script, the store that it began with, all that was sent,
-/// the ends of the events, and the exit status. AllocError comes where memory ran out alone.
+/// Writes the trace of a job's run whose events all have their ends, from the script, the store that the run began with,
+/// the journal of its sends, the ends of the events, and the exit status. Fails with `AllocError` only if memory runs out.
 #[tactic(auto, unfolding(crate::specs::Trace::trace_text))]
 pub fn trace_text(
     alloc: Global,
@@ -107,8 +107,11 @@ pub fn trace_text(
     ends: &EndList,
     status: u8,
 ) -> Result<String, AllocError>
+    // The next upload's id is at most 2^62.
     requires store { opening.next ≤ 2 ^ 62 }
+    // The status is the one that the ends of the events lead to.
     requires status { status ≡ states.verdict script.now ends.now }
+    // The text is the trace of this run.
     ensures { IfOk result (λ text. string_bytes text
         ≡ traces.trace_text script.now opening journal.now.entries ends.now) }
 {
@@ -127,14 +130,17 @@ pub fn trace_text(
     }
 }
 
-/// The trace of requests alone, that were sent over a store. AllocError comes where memory ran out alone.
+/// Writes the lines of requests alone, from the store that they were sent to and their journal. Fails with `AllocError` only
+/// if memory runs out.
 #[tactic(auto, unfolding(crate::specs::Trace::requests_text))]
 pub fn requests_text(
     alloc: Global,
     opening: Service,
     journal: &Journal,
 ) -> Result<String, AllocError>
+    // The next upload's id is at most 2^62.
     requires { opening.next ≤ 2 ^ 62 }
+    // The text is the lines of these requests.
     ensures { IfOk result (λ text. string_bytes text ≡ traces.requests_text opening journal.now.entries) }
 {
     let mut tape = begun(alloc, String::new(alloc), opening);

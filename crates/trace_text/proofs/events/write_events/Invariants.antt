@@ -7,6 +7,7 @@ use Rattle.trace_text.proofs.events.write_events.Given as goal
 abbrev pub invariant-loop-place : goal.invariant-loop-place
 invariant-loop-place l = record {
   counted : l.tape.store.requests ≤ l.tape.at;
-  text : string_bytes l.tape.text ++ event_lines (l.place + 1) (zip (drop l.place l.events) (drop l.place l.ends)) (left l.commit l.tape l.entries)
+  text : string_bytes l.tape.text ++ event_lines (l.place + 1) (zip (drop l.place l.events) (drop l.place l.ends))
+      (left l.commit l.tape l.entries)
       ≡ string_bytes l.fn.tape.text ++ event_lines 1 (zip l.events l.ends) (left l.commit l.fn.tape l.entries);
 }

@@ -13,4 +13,5 @@ returns c =
     ∙ ap (λ (m : ℕ). string_bytes c.write_job.new.text ++ flat_map (attempt_lines c.args.script.now m) c.args.script.now.attempts)
     c.minimum.ensures.minimum in
     let objects = ap (λ (s : Script). string_bytes c.write_attempts.new.text ++ object_lines s.dest c.args.service.now) c.script.view_is in
-    on_ok_weaker c.write_objects.result (λ e. three_written _ _ _ _ _ _ _ c.in_ok-write_job.ensures attempts (e ∙ objects)) c.write_objects.ensures
+    on_ok_weaker c.write_objects.result (λ e. three_written _ _ _ _ _ _ _ c.in_ok-write_job.ensures attempts (e ∙ objects))
+    c.write_objects.ensures
