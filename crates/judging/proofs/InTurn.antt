@@ -1,7 +1,7 @@
 -- A judge may look at one moment at a time.
-use Rattle.soundness.proofs.Common.{All, All-pop, All-push, Any, Attempts, Unchanged, Claim, OthersFit, AttemptExplains, InTurn}
-use Rattle.soundness.proofs.Common.{StillExplains, Judged, JudgedNext, List, Moment, Shown, Some, [], get_or, inl, inr, refl, ◌++◌, ◌∷◌}
-use Rattle.soundness.proofs.ByTask.{by_task}
+use Rattle.judging.proofs.Common.{All, All-pop, All-push, Any, Attempts, Unchanged, Claim, OthersFit, AttemptExplains, InTurn}
+use Rattle.judging.proofs.Common.{StillExplains, Judged, JudgedNext, List, Moment, Shown, Some, [], get_or, inl, inr, refl, ◌++◌, ◌∷◌}
+use Rattle.judging.proofs.ByTask.{by_task}
 
 pub both_of : {X : Type 0} (P : X → Type 0) (xs : List X) (x : X) → All P (xs ++ x ∷ []) → All P xs × P x
 both_of P xs x h = let r = All-pop P (xs ++ x ∷ []) xs (Some x) refl h in (r.0, r.1)

@@ -1,8 +1,8 @@
 -- A judge may look at each task on its own.
-use Rattle.soundness.proofs.Common.{All, All-from_recursion, Any, Apart, Attempts, ByTask, Chooses, EachTask, Claim, Explains, Files}
-use Rattle.soundness.proofs.Common.{StillExplains, List, MayShow, Moment, Option, Shown, chosen_at, false, get_or, inl, inr, is_claimed}
-use Rattle.soundness.proofs.Common.{length, recursion_from_All, subst, sym, true, ℕ, ◌<◌, ◌≡◌, ◌⊎◌}
-use Rattle.soundness.proofs.Owned.{Right, RightChoice, each_right, either, none_chosen, some_choice}
+use Rattle.judging.proofs.Common.{All, All-from_recursion, Any, Apart, Attempts, ByTask, Chooses, EachTask, Claim, Explains, Files}
+use Rattle.judging.proofs.Common.{StillExplains, List, MayShow, Moment, Option, Shown, chosen_at, false, get_or, inl, inr, is_claimed}
+use Rattle.judging.proofs.Common.{length, recursion_from_All, subst, sym, true, ℕ, ◌<◌, ◌≡◌, ◌⊎◌}
+use Rattle.judging.proofs.Owned.{Right, RightChoice, each_right, either, none_chosen, some_choice}
 
 -- at each of the moments f may be written at the path
 abbrev Stands : {I : Type 0} → Claim I → Shown I → List (Moment I) → List ℕ → Option I → Type 0

@@ -1,8 +1,9 @@
 -- How a judge may look at the moments of a run: at each task by itself, and at one moment after another.
-use Rattle.std.specs.Prelude.{ℕ, List, true, false, None, ◌≡◌, ◌⊎◌, ◌≢◌}
-use Rattle.std.specs.List.{All, Any}
+use Rattle.std.specs.Prelude.{ℕ, List, true, false, None, ◌≡◌, ◌⊎◌}
+use Rattle.std.specs.List.{All, Any, Contains}
 use Rattle.soundness.specs.Claims.{Claim, Files, Attempts, file_at, writes, is_claimed}
-use Rattle.soundness.specs.Moments.{Shown, Moment, MayShow, Unchanged}
+use Rattle.soundness.specs.Moments.{Shown, Moment, MayShow, Same, Unchanged}
+use Rattle.soundness.specs.declared.marker.Marker.TheVariants as markers
 
 -- The attempt with these files explains what readers see of its task at this moment: at each path that the task writes.
 abbrev pub AttemptExplains : {I : Type 0} → Claim I → Shown I → Attempts I → Moment I → Files I → Type 0
@@ -35,8 +36,16 @@ pub record EachTaskNext {I : Type 0} (w : Claim I) (opening : Shown I) (moments 
 abbrev pub JudgedNext : {I : Type 0} → Claim I → Shown I → List (Moment I) → Moment I → Type 0
 JudgedNext w opening moments m = (All (Unchanged opening) moments × Unchanged opening m) ⊎ EachTaskNext w opening moments m
 
--- Two moments have the same marker and the same commit, and readers see the same at each path but this one.
-pub record DifferAt {I : Type 0} (p : List ℕ) (m n : Moment I) : Type 0 where
+-- A moment and the next one: the commit has begun at both or at neither, an old marker existed before if it does now, and readers see
+-- the same at each path but these.
+pub record DifferAt {I : Type 0} (changed : List (List ℕ)) (m n : Moment I) : Type 0 where
   pub begun : n.begun ≡ m.begun
+  pub old : n.marker ≡ markers.Old → m.marker ≡ markers.Old
+  pub shown : (q : List ℕ) → (Contains changed q → ⊥) → n.shown q ≡ m.shown q
+
+-- A moment at which readers see the opening files, and the next one, at which the commit has begun and nothing else has changed.
+pub record Begins {I : Type 0} (opening : Shown I) (m n : Moment I) : Type 0 where
+  pub begun : n.begun ≡ true
   pub marker : n.marker ≡ m.marker
-  pub shown : (q : List ℕ) → q ≢ p → n.shown q ≡ m.shown q
+  pub shown : Same n.shown m.shown
+  pub before : Same m.shown opening

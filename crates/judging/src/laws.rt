@@ -1,4 +1,4 @@
-ghost use Rattle.soundness.specs.Laws.{ByTask, InTurn, OpeningFits, WhereChanged};
+ghost use Rattle.judging.specs.Laws.{ByTask, InTurn, ListedClaims, OpeningFits, ReasonsTell, WhereChanged};
 
 /// Where readers see the opening files, every choice explains that.
 pub fn opening_fits<I>()
@@ -15,7 +15,17 @@ pub fn judged_in_turn<I>()
     ensures { InTurn I }
 {}
 
-/// Where one path alone has changed, only that path needs to be looked at.
+/// From one moment to the next only the changed paths need to be looked at, unless a new marker has been put.
 pub fn judged_where_changed<I>()
     ensures { WhereChanged I }
+{}
+
+/// Each reason of `Reasons` tells that a run is not sound with one more moment.
+pub fn reasons_tell<I>()
+    ensures { ReasonsTell I }
+{}
+
+/// What a claim says of its tasks and paths can be read off the list of its attempts.
+pub fn listed_claims<I>()
+    ensures { ListedClaims I }
 {}

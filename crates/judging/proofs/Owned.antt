@@ -1,7 +1,7 @@
 -- Where no two tasks write one path, what a choice writes at a path is what its task's attempt writes there.
-use Rattle.soundness.proofs.Common.{AllByRecursion, Any, Apart, Attempts, Bool, Chooses, Contains, Files, List, None, Option, Some, [], ap}
-use Rattle.soundness.proofs.Common.{chosen_at, false, file_at, inl, inr, is_claimed, is_some, list_any_at, or_else, refl, subst, sym, true}
-use Rattle.soundness.proofs.Common.{true≢false, writes, ℕ, ◌∙◌, ◌∷◌, ◌≡◌, ◌⊎◌, ◌||◌}
+use Rattle.judging.proofs.Common.{AllByRecursion, Any, Apart, Attempts, Bool, Chooses, Contains, Files, List, None, Option, Some, [], ap}
+use Rattle.judging.proofs.Common.{chosen_at, false, file_at, inl, inr, is_claimed, is_some, list_any_at, or_else, refl, subst, sym, true}
+use Rattle.judging.proofs.Common.{true≢false, writes, ℕ, ◌∙◌, ◌∷◌, ◌≡◌, ◌⊎◌, ◌||◌}
 
 -- ---- tests
 
