@@ -1,5 +1,5 @@
 -- What comes of words that ask for a trace, by what came of the command that they name.
-use Rattle.s3a_top.proofs.Common.{IsErrOf, IsWork, ShelfStop}
+use Rattle.s3a_top.proofs.Common.{Content, IsErrOf, IsWork, MOST_MINIMUM, ShelfStop, new_content}
 use Rattle.s3a_top.proofs.Common.{AreJobsOf, Bool, Command, Counted, CrashesLeave, Err, Held, IfOk, IsAnswered}
 use Rattle.s3a_top.proofs.Common.{IsSound, IsStopped, IsTimed, IsWorked, IsWritten, JobStopped, List, Load}
 use Rattle.s3a_top.proofs.Common.{None, Ok, Option, Result, Sight, Some, Status, Stop, Store}
@@ -10,10 +10,13 @@ use Rattle.durable_store.specs.Works.{IsPlain, IsSaid, Says, Work as Doing}
 use Rattle.durable_store.specs.declared.held.Held.TheVariants.{Faulty, Nothing}
 use Rattle.durable_store.specs.declared.work.Answer.{Answer}
 use Rattle.exit_status.specs.declared.statuses.Status.TheVariants as statuses
-use Rattle.s3a_words.specs.declared.command.Command.TheVariants.{Twins}
+use Rattle.s3_types.specs.Moment.{IsHonest}
+use Rattle.s3a_shell.specs.Commanded.{Done, DoneOn, init_work, work_said}
+use Rattle.s3a_shell.specs.Sendings.{has_changed}
+use Rattle.s3a_words.specs.declared.command.Command.TheVariants.{Init, Twins}
 use Rattle.shelf.specs.declared.kept.ShelfStop.TheVariants as shelves
 use Rattle.twin_script.specs.TwinScripts as twin_scripts
-use Rattle.s3a_top.specs.Traces.{IsLoaded, JobTraced, Shows, StoreTraced, shown_status, store_in}
+use Rattle.s3a_top.specs.Traces.{IsLoaded, JobTraced, Shows, StoreTraced, shown_sends, shown_status, store_in}
 use Rattle.s3a_top.specs.Tracings.{AnswerShown, IsShownOf, JobShows, JobTraces, StoreShows, StoreTraces, Traces}
 use Rattle.s3a_top.specs.declared.stop.Stop.TheVariants.{Usage, NoMemory}
 use Rattle.s3a_top.proofs.Coming.{job_wanting, not_both, not_said, store_wanting}
@@ -34,6 +37,36 @@ pub few_in : (held : Held) → IsSound held → (store_in held).next ≤ 2 ^ 62
 few_in (Store c) sound = few_ids c sound
 few_in Nothing sound = omega arith
 few_in (Faulty number place) sound = omega arith
+
+-- what a command sends was answered as was due
+done_honest : (command : Command) (bytes : List ℕ) (c : Content) (work : Doing) → Done command bytes c work → IsHonest c (shown_sends work)
+done_honest command bytes c work d =
+    subst (IsHonest c) (sym (ap shown_sends d.is ∙ by d.what.refused (has_changed d.sent) d.what.text)) d.honest
+  where
+    by : (refused changed : Bool) (text : List ℕ) → shown_sends (work_said refused changed c text d.sent) ≡ d.sent
+    by true changed text = refl
+    by false true text = refl
+    by false false text = refl
+
+-- where none is sent, there is none to be answered
+init_honest : (minimum : Option ℕ) (before : Held) → IsHonest (store_in before) (shown_sends (init_work minimum before))
+unfolding init_work
+init_honest minimum Nothing = tt
+init_honest minimum (Store c) = tt
+init_honest minimum (Faulty number place) = tt
+
+held_honest : (command : Command) (bytes : List ℕ) (before : Held) (work : Doing) → DoneOn command bytes before work
+    → IsHonest (store_in before) (shown_sends work)
+held_honest command bytes Nothing work d = done_honest command bytes (new_content MOST_MINIMUM) work d
+held_honest command bytes (Store c) work d = done_honest command bytes c work d
+held_honest command bytes (Faulty number place) work d =
+    subst (λ (w : Doing). IsHonest (new_content MOST_MINIMUM) (shown_sends w)) (sym d) tt
+
+pub sends_honest : (command : Command) (bytes : List ℕ) (before : Held) (work : Doing) → IsWork command bytes before work
+    → IsHonest (store_in before) (shown_sends work)
+sends_honest (Init minimum) bytes before work is =
+    subst (λ (w : Doing). IsHonest (store_in before) (shown_sends w)) (sym is) (init_honest minimum before)
+sends_honest command bytes before work is = held_honest command bytes before work is
 
 -- the statuses with which it ends
 pub shown_own : (work : Doing) → IsPlain work → IsWorked (shown_status work) × (code (shown_status work) ≢ 5)

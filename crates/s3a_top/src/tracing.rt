@@ -6,6 +6,7 @@ ghost use Rattle.durable_store.specs.Works as works;
 ghost use Rattle.exit_status.specs.Statuses.{code};
 ghost use Rattle.job_model.specs.JobScript as scripts;
 ghost use Rattle.job_world.specs.Worlds.{MayBegin};
+ghost use Rattle.s3_types.specs.Moment.{IsHonest};
 ghost use Rattle.s3_types.specs.Store.{Content};
 ghost use Rattle.s3a_words.specs.Words.{IsBounded, Reads};
 ghost use Rattle.s3a_shell.specs.Commanded.{plays, takes_input};
@@ -16,6 +17,7 @@ ghost use Rattle.s3a_top.specs.Commands.{may_read};
 ghost use Rattle.s3a_top.specs.Openings.{IsFound};
 ghost use Rattle.s3a_top.specs.Plays.{IsFinal, IsVerdict};
 ghost use Rattle.s3a_top.specs.Traces.{Shows, asks_trace, if_traceable, store_in, traced_in};
+ghost use Rattle.s3a_top.specs.Traces.{shown_sends as sends_in};
 ghost use Rattle.s3a_top.specs.Tracings.{AnswerShown, IsShownOf, JobShows, RunShown, StoreShows, Traces};
 ghost use Rattle.s3a_top.specs.Workings.{Counted, MayDo};
 ghost use Rattle.s3a_top.specs.Works.{IsWritten};
@@ -205,7 +207,8 @@ fn store_of(alloc: Global, held: &Held) -> Result<Service, AllocError>
 
 /// What is answered of what a command sent: the trace of it.
 fn shown_sends(alloc: Global, opening: Service, sent: Journal) -> Result<Answer, AllocError>
-    requires { opening.next ≤ 2 ^ 62 }
+    requires next { opening.next ≤ 2 ^ 62 }
+    requires honest { IsHonest opening sent.entries }
     ensures due { IfOk result (λ answer. answer.due ≡ Status.Done) }
     ensures sent { IfOk result (λ answer. answer.sent ≡ sent) }
     ensures said { IfOk result (λ answer. IsWritten answer (traces.requests_text opening sent.entries)) }
@@ -230,7 +233,8 @@ fn shown_sends(alloc: Global, opening: Service, sent: Journal) -> Result<Answer,
 /// What is answered of what a command was to say: the trace of what it sent, or what it says itself where it did not end with
 /// Done.
 fn shown_answer(alloc: Global, opening: Service, answer: Answer) -> Result<Answer, AllocError>
-    requires { opening.next ≤ 2 ^ 62 }
+    requires next { opening.next ≤ 2 ^ 62 }
+    requires honest { IsHonest opening answer.sent.entries }
     ensures { (before : Held) → store_in before ≡ opening
         → IfOk result (IsShownOf before (works.Says answer.due answer.text answer.sent.entries)) }
 {
@@ -250,7 +254,8 @@ fn shown_answer(alloc: Global, opening: Service, answer: Answer) -> Result<Answe
 /// What is answered of what a command was to do: the trace of what it sent, or what it says itself where it did not end with
 /// Done.
 fn shown_work(alloc: Global, opening: Service, work: Doing) -> Result<Answer, AllocError>
-    requires { opening.next ≤ 2 ^ 62 }
+    requires next { opening.next ≤ 2 ^ 62 }
+    requires honest { IsHonest opening (sends_in (work_in work)) }
     ensures { (before : Held) → store_in before ≡ opening → IfOk result (IsShownOf before (work_in work)) }
 {
     match work {

@@ -2,4 +2,5 @@ pub mod Cutting
 pub mod Firsts
 pub mod Unsent
 pub mod Due
+pub mod Following
 pub mod Written

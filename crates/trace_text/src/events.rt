@@ -1,7 +1,8 @@
-ghost use Rattle.std.specs.Prelude.{◌≡◌, ◌++◌, ◌<◌, ◌≤◌, ◌^◌, length, string_bytes, OnOk};
+ghost use Rattle.std.specs.Prelude.{◌≡◌, ◌++◌, string_bytes, OnOk};
 ghost use Rattle.std.specs.List.{zip};
+ghost use Rattle.s3_types.specs.Store.{Content};
 ghost use Rattle.trace_text.specs.Trace.{event_lines};
-ghost use Rattle.trace_text.specs.Tapes.{left};
+ghost use Rattle.trace_text.specs.Tapes.{Follows, left};
 
 use crate::ends::write_event;
 use crate::sends::write_until;
@@ -19,10 +20,10 @@ pub fn write_events(
     events: &[Event],
     ends: &[EventEnd],
 ) -> Result<(), AllocError>
-    requires counted { tape.old.store.requests ≤ tape.old.at }
-    requires few { length entries.now < 2 ^ 62 }
+    ghost opening: { Content }
+    requires { Follows opening tape.old entries.now }
     ensures { OnOk result (string_bytes tape.new.text ≡ string_bytes tape.old.text
-        ++ event_lines 1 (zip events.now ends.now) (left commit tape.old entries.now)) }
+        ++ event_lines 1 (zip events.now ends.now) (left commit opening tape.old entries.now)) }
 {
     for (place, end) in ends.iter().enumerate() {
         let Some(event) = events.get(place) else {

@@ -7,6 +7,9 @@
 //!
 //! `requests_text`: Exactly the lines of the requests alone, of any journal over a store.
 //!
+//! Both ask that each answer in the journal is the one that was due. So the requests are made once more, on the store that
+//! the run began with, only up to the last one whose reply was lost.
+//!
 //! `dry_run`: It runs a job over a store to the end of its script, keeps nothing, and gives the trace of what was sent. The run
 //! keeps all that is promised of a job (`IsDryRun`), so what the trace shows is a run of which the promise holds.
 #![tactic(auto)]

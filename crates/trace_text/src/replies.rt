@@ -2,10 +2,34 @@ ghost use Rattle.std.specs.Prelude.{◌≡◌, ◌+◌, ◌<◌, ◌≤◌, ◌^
 ghost use Rattle.s3_types.specs.Answer.{answer};
 ghost use Rattle.s3_types.specs.Moment.{effect};
 ghost use Rattle.trace_lines.specs.Requests.{TellsTag, has_reached};
+ghost use Rattle.trace_text.specs.Tapes.{NoneLostBehind, is_reply_lost};
 
 use s3_types::{Entry, Outcome, Reply};
 use std::alloc::AllocError;
 use store_link::MemStore;
+
+/// Whether a send took effect, and its reply was lost.
+fn is_reply_lost(outcome: &Outcome) -> bool
+    ensures { result ≡ is_reply_lost outcome.now }
+{
+    match outcome {
+        Outcome::ReplyLost => true,
+        _ => false,
+    }
+}
+
+/// How many sends there are up to the last one whose reply was lost, or 0 if no reply was lost.
+pub fn up_to_lost(entries: &[Entry]) -> usize
+    ensures { NoneLostBehind result entries.now }
+{
+    let mut lost = 0;
+    for (place, entry) in entries.iter().enumerate() {
+        if is_reply_lost(&entry.outcome) {
+            lost = place + 1;
+        }
+    }
+    lost
+}
 
 /// Whether a send reached the store.
 fn has_reached(outcome: &Outcome) -> bool

@@ -1,14 +1,15 @@
-ghost use Rattle.std.specs.Prelude.{◌≡◌, ◌+◌, ◌++◌, ◌<◌, ◌≤◌, ◌^◌, ◌||◌, Option, cond, length, not, ◌&&◌, string_bytes, true, [], IfOk, OnOk};
+ghost use Rattle.std.specs.Prelude.{◌≡◌, ◌+◌, ◌++◌, ◌<◌, ◌≤◌, ◌^◌, Option, cond, string_bytes, true, IfOk, OnOk};
 ghost use Rattle.std.specs.List.{flat_map};
 ghost use Rattle.s3_types.specs.Answer.{answer};
 ghost use Rattle.s3_types.specs.Moment.{effect};
-ghost use Rattle.trace_lines.specs.Requests.{request_line};
+ghost use Rattle.s3_types.specs.Store.{Content};
+ghost use Rattle.trace_lines.specs.Requests.{TellsTag, request_line};
 ghost use Rattle.trace_text.specs.Sends.{behind_event, commit_line, is_of_commit, send_lines, until_event};
-ghost use Rattle.trace_text.specs.Tapes.{left};
+ghost use Rattle.trace_text.specs.Tapes.{Follows, HasWritten, left, reply_told};
 
 use crate::replies::reply_to;
 use crate::tape::Tape;
-use s3_types::{Actor, Entry, let_go};
+use s3_types::{Actor, Entry, Outcome, Reply, let_go};
 use std::alloc::{AllocError, Global};
 use store_link::MemStore;
 use trace_lines::{Line, write_request};
@@ -35,8 +36,8 @@ fn write_commit(alloc: Global, text: &mut String) -> Result<(), AllocError>
     line.write(alloc, text)
 }
 
-/// Writes the line of the n-th send.
-fn write_line(
+/// Writes the line of the n-th send by what a store answers, on which it is made.
+fn write_made(
     alloc: Global,
     store: &mut MemStore,
     text: &mut String,
@@ -55,6 +56,47 @@ fn write_line(
     written
 }
 
+/// Writes the line of the n-th send by the reply that its sender was told, or by any where it was told none.
+fn write_told(
+    alloc: Global,
+    text: &mut String,
+    number: u64,
+    entry: &Entry,
+) -> Result<(), AllocError>
+    requires { TellsTag entry.now.request (reply_told entry.now.outcome) }
+    ensures { OnOk result (string_bytes text.new ≡ string_bytes text.old
+        ++ request_line number entry.now (reply_told entry.now.outcome)) }
+{
+    match &entry.outcome {
+        Outcome::Answered(reply) => write_request(alloc, text, number, entry, reply),
+        _ => write_request(alloc, text, number, entry, &Reply::Deleted),
+    }
+}
+
+/// Writes the line of the n-th send: by what the store answers, where the send is to be made on it, or else by what its sender was told.
+fn write_line(
+    alloc: Global,
+    store: &mut MemStore,
+    text: &mut String,
+    number: u64,
+    entry: &Entry,
+    made: bool,
+) -> Result<(), AllocError>
+    requires few { store.old.requests < 2 ^ 62 }
+    requires tag { TellsTag entry.now.request (reply_told entry.now.outcome) }
+    ensures text { OnOk result (string_bytes text.new ≡ string_bytes text.old ++ request_line number entry.now
+        (cond made (answer store.old.scene entry.now.request) (reply_told entry.now.outcome))) }
+    ensures scene { OnOk result (made ≡ true
+        → store.new.scene ≡ effect store.old.scene entry.now.request entry.now.outcome) }
+    ensures count { OnOk result (store.new.requests ≤ store.old.requests + 1) }
+{
+    if made {
+        write_made(alloc, store, text, number, entry)
+    } else {
+        write_told(alloc, text, number, entry)
+    }
+}
+
 /// Writes the lines of a send, which is the next one.
 fn write_send(
     alloc: Global,
@@ -64,21 +106,16 @@ fn write_send(
 ) -> Result<(), AllocError>
     requires counted { tape.old.store.requests ≤ tape.old.at }
     requires few { tape.old.at < 2 ^ 62 }
-    ensures text { OnOk result (string_bytes tape.new.text ≡ string_bytes tape.old.text
-        ++ (cond (not tape.old.begun && is_of_commit commit entry.now) commit_line []
-        ++ request_line (tape.old.at + 1) entry.now (answer tape.old.store.scene entry.now.request))) }
-    ensures at { OnOk result (tape.new.at ≡ tape.old.at + 1) }
-    ensures begun { OnOk result (tape.new.begun ≡ (tape.old.begun || is_of_commit commit entry.now)) }
-    ensures scene { OnOk result (tape.new.store.scene
-        ≡ effect tape.old.store.scene entry.now.request entry.now.outcome) }
-    ensures counted { OnOk result (tape.new.store.requests ≤ tape.new.at) }
+    requires tag { TellsTag entry.now.request (reply_told entry.now.outcome) }
+    ensures { OnOk result (HasWritten commit entry.now tape.old tape.new) }
 {
     if !tape.begun && is_of_commit(commit, entry) {
         write_commit(alloc, &mut tape.text)?;
         tape.begun = true;
     }
     let number = tape.at as u64 + 1;
-    write_line(alloc, &mut tape.store, &mut tape.text, number, entry)?;
+    let made = tape.at < tape.lost;
+    write_line(alloc, &mut tape.store, &mut tape.text, number, entry, made)?;
     tape.at += 1;
     Ok(())
 }
@@ -91,13 +128,13 @@ pub fn write_until(
     entries: &[Entry],
     event: u64,
 ) -> Result<(), AllocError>
-    requires counted { tape.old.store.requests ≤ tape.old.at }
-    requires few { length entries.now < 2 ^ 62 }
+    ghost opening: { Content }
+    requires { Follows opening tape.old entries.now }
     ensures text { OnOk result (string_bytes tape.new.text ≡ string_bytes tape.old.text
-        ++ flat_map send_lines (until_event event (left commit tape.old entries.now))) }
-    ensures left { OnOk result (left commit tape.new entries.now
-        ≡ behind_event event (left commit tape.old entries.now)) }
-    ensures counted { OnOk result (tape.new.store.requests ≤ tape.new.at) }
+        ++ flat_map send_lines (until_event event (left commit opening tape.old entries.now))) }
+    ensures left { OnOk result (left commit opening tape.new entries.now
+        ≡ behind_event event (left commit opening tape.old entries.now)) }
+    ensures follows { OnOk result (Follows opening tape.new entries.now) }
 {
     'sends: while let Some(entry) = entries.get(tape.at) {
         if u64::from(entry.event) > event {
@@ -115,10 +152,10 @@ pub fn write_all(
     commit: Option<u64>,
     entries: &[Entry],
 ) -> Result<(), AllocError>
-    requires counted { tape.old.store.requests ≤ tape.old.at }
-    requires few { length entries.now < 2 ^ 62 }
+    ghost opening: { Content }
+    requires { Follows opening tape.old entries.now }
     ensures { OnOk result (string_bytes tape.new.text ≡ string_bytes tape.old.text
-        ++ flat_map send_lines (left commit tape.old entries.now)) }
+        ++ flat_map send_lines (left commit opening tape.old entries.now)) }
 {
     'sends: while let Some(entry) = entries.get(tape.at) {
         write_send(alloc, tape, commit, entry)?;

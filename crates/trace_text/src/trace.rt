@@ -1,9 +1,11 @@
-ghost use Rattle.std.specs.Prelude.{◌≡◌, ◌++◌, ◌≤◌, ◌^◌, false, length, string_bytes, IfOk, OnOk};
+ghost use Rattle.std.specs.Prelude.{◌≡◌, ◌++◌, ◌<◌, ◌≤◌, ◌^◌, false, length, string_bytes, IfOk, OnOk};
 ghost use Rattle.std.specs.List.{zip};
+ghost use Rattle.s3_types.specs.Moment.{IsHonest};
 ghost use Rattle.s3_types.specs.Store as stores;
+ghost use Rattle.s3_types.specs.Store.{Content};
 ghost use Rattle.job_spec.specs.States as states;
 ghost use Rattle.trace_text.specs.Heads.{head_lines};
-ghost use Rattle.trace_text.specs.Tapes.{left};
+ghost use Rattle.trace_text.specs.Tapes.{Follows, left};
 ghost use Rattle.trace_text.specs.Trace as traces;
 
 use crate::commits::commit_event;
@@ -11,11 +13,12 @@ use crate::ends::write_last;
 use crate::events::write_events;
 use crate::heads::{write_attempts, write_job};
 use crate::objects::write_objects;
+use crate::replies::up_to_lost;
 use crate::sends::write_all;
 use crate::tape::Tape;
 use job_model::{EndList, Script};
 use s3_service::Service;
-use s3_types::{Journal, let_go};
+use s3_types::{Entry, Journal, let_go};
 use std::alloc::{AllocError, Global};
 use store_link::MemStore;
 
@@ -34,17 +37,19 @@ fn write_heads(
 }
 
 /// A tape at the beginning of a run over a store, behind the first lines of the trace.
-fn begun(alloc: Global, text: String, opening: Service) -> Tape
-    requires { opening.next ≤ 2 ^ 62 }
-    ensures { result ≡ record {
-      store = record { scene = stores.opening opening; requests = 0 };
-      text = text;
-      at = 0;
-      begun = false;
-    } }
+fn begun(alloc: Global, text: String, opening: Service, entries: &[Entry]) -> Tape
+    requires next { opening.next ≤ 2 ^ 62 }
+    requires honest { IsHonest opening entries.now }
+    requires few { length entries.now < 2 ^ 62 }
+    ensures text { result.text ≡ text }
+    ensures at { result.at ≡ 0 }
+    ensures begun { result.begun ≡ false }
+    ensures opening { result.store.scene ≡ stores.opening opening }
+    ensures follows { Follows opening result entries.now }
 {
     Tape {
         store: MemStore::new(alloc, opening),
+        lost: up_to_lost(entries),
         text,
         at: 0,
         begun: false,
@@ -69,11 +74,12 @@ fn write_run(
     ends: &EndList,
     status: u8,
 ) -> Result<(), AllocError>
-    requires counted { tape.old.store.requests ≤ tape.old.at }
+    ghost opening: { Content }
+    requires follows { Follows opening tape.old journal.now.entries }
     requires status { status ≡ states.verdict script.now ends.now }
     ensures { OnOk result (string_bytes tape.new.text ≡ string_bytes tape.old.text
         ++ (traces.event_lines 1 (zip script.now.events ends.now)
-        (left (states.commit_event script.now ends.now) tape.old journal.now.entries)
+        (left (states.commit_event script.now ends.now) opening tape.old journal.now.entries)
         ++ traces.end_line script.now (length journal.now.entries) ends.now)) }
 {
     let events = script.events.as_slice();
@@ -109,6 +115,8 @@ pub fn trace_text(
 ) -> Result<String, AllocError>
     // The next upload's id is at most 2^62.
     requires store { opening.next ≤ 2 ^ 62 }
+    // Each answer in the journal is the one that was due.
+    requires honest { IsHonest opening journal.now.entries }
     // The status is the one that the ends of the events lead to.
     requires status { status ≡ states.verdict script.now ends.now }
     // The text is the trace of this run.
@@ -120,7 +128,7 @@ pub fn trace_text(
         let_go(opening);
         return Err(AllocError);
     };
-    let mut tape = begun(alloc, text, opening);
+    let mut tape = begun(alloc, text, opening, journal.as_slice());
     match write_run(alloc, &mut tape, script, journal, ends, status) {
         Ok(()) => Ok(text_of(tape)),
         Err(error) => {
@@ -139,11 +147,13 @@ pub fn requests_text(
     journal: &Journal,
 ) -> Result<String, AllocError>
     // The next upload's id is at most 2^62.
-    requires { opening.next ≤ 2 ^ 62 }
+    requires store { opening.next ≤ 2 ^ 62 }
+    // Each answer in the journal is the one that was due.
+    requires honest { IsHonest opening journal.now.entries }
     // The text is the lines of these requests.
     ensures { IfOk result (λ text. string_bytes text ≡ traces.requests_text opening journal.now.entries) }
 {
-    let mut tape = begun(alloc, String::new(alloc), opening);
+    let mut tape = begun(alloc, String::new(alloc), opening, journal.as_slice());
     match write_all(alloc, &mut tape, None, journal.as_slice()) {
         Ok(()) => Ok(text_of(tape)),
         Err(error) => {

@@ -1,16 +1,17 @@
-use Rattle.std.proofs.Common.{◌++◌, ◌-◌, ◌≡◌, ◌≤◌, length, string_bytes}
+use Rattle.std.proofs.Common.{◌++◌, ◌-◌, ◌≡◌, length, string_bytes}
 use Rattle.std.specs.List.{flat_map}
 use Rattle.trace_text.specs.Sends.{behind_event, send_lines, until_event}
-use Rattle.trace_text.specs.Tapes.{left}
+use Rattle.trace_text.specs.Tapes.{Follows, left}
 use Rattle.trace_text.proofs.sends.write_until.Given as goal
 
 abbrev pub invariant-sends : goal.invariant-sends
-invariant-sends l = record {
-  counted : l.tape.store.requests ≤ l.tape.at;
-  text : string_bytes l.tape.text ++ flat_map send_lines (until_event l.event (left l.commit l.tape l.entries))
-      ≡ string_bytes l.fn.tape.text ++ flat_map send_lines (until_event l.event (left l.commit l.fn.tape l.entries));
-  behind : behind_event l.event (left l.commit l.tape l.entries) ≡ behind_event l.event (left l.commit l.fn.tape l.entries);
+invariant-sends g l = record {
+  follows : Follows g.opening l.tape l.entries;
+  text : string_bytes l.tape.text ++ flat_map send_lines (until_event l.event (left l.commit g.opening l.tape l.entries))
+      ≡ string_bytes l.fn.tape.text ++ flat_map send_lines (until_event l.event (left l.commit g.opening l.fn.tape l.entries));
+  behind : behind_event l.event (left l.commit g.opening l.tape l.entries)
+      ≡ behind_event l.event (left l.commit g.opening l.fn.tape l.entries);
 }
 
 abbrev pub decreases-sends : goal.decreases-sends
-decreases-sends l = length l.entries - l.tape.at
+decreases-sends g l = length l.entries - l.tape.at
