@@ -1,0 +1,9 @@
+use Rattle.std.proofs.Common.{drop, option_map, ◌++◌, ◌≡◌}
+use Rattle.serde_json.specs.View.{items_view}
+use Rattle.pending_json.specs.Fields.{all_of}
+use Rattle.trace_reader.specs.Reading.{as_part}
+use Rattle.trace_reader.proofs.texts.part_tags.Given as goal
+
+abbrev pub invariant-loop-value : goal.invariant-loop-value
+invariant-loop-value l =
+    option_map (λ ts. l.tags ++ ts) (all_of as_part (items_view (drop l.value-index l.list))) ≡ all_of as_part (items_view l.list)

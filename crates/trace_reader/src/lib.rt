@@ -1,0 +1,31 @@
+//! Reading the lines of a trace, each a JSON object in the words of the Amazon S3 API, as an audit needs them.
+//!
+//! # What is proved
+//!
+//! `read_line`: It gives what the line says, or the line's first fault, as `line_of` of `specs/Reading.antt` has it. It may
+//! give NoMemory in place of either.
+//!
+//! `Field::name`, `Stage::may_come`: They are `name_of` and `may_come` of `specs/`.
+//!
+//! Left open: that NoMemory comes only if memory runs out.
+#![tactic(auto)]
+
+mod changes;
+mod claims;
+mod fault;
+mod fields;
+mod kinds;
+mod line;
+mod operation;
+mod paths;
+mod reading;
+mod stage;
+#[cfg(test)]
+mod tests;
+mod texts;
+
+pub use fault::{Field, TraceFault};
+pub use line::TraceLine;
+pub use operation::Operation;
+pub use reading::read_line;
+pub use stage::Stage;

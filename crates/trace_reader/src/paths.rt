@@ -1,0 +1,51 @@
+ghost use Rattle.std.specs.Prelude.{◌≡◌};
+ghost use Rattle.std.specs.List.{list_all};
+ghost use Rattle.basics.specs.Parts.{parts_of};
+ghost use Rattle.soundness.specs.Paths.{hides, is_visible};
+ghost use Rattle.trace_reader.specs.Reading.{is_file_path, is_some_text};
+
+use basics::next_part;
+
+fn hides(b: u8) -> bool
+    ensures { result ≡ hides b }
+{
+    b == b'_' || b == b'.'
+}
+
+/// Whether readers see a path below the destination.
+fn is_visible(path: &[u8]) -> bool
+    ensures { result ≡ is_visible path.now }
+{
+    let mut begins = true;
+    for b in path {
+        if begins && hides(*b) {
+            return false;
+        }
+        begins = *b == b'/';
+    }
+    !begins
+}
+
+/// Whether no element of a path is empty.
+fn are_some(path: &[u8]) -> bool
+    ensures { result ≡ list_all is_some_text (parts_of 47 path.now) }
+{
+    let mut rest = path;
+    loop {
+        let (element, more) = next_part(b'/', rest);
+        if element.is_empty() {
+            return false;
+        }
+        match more {
+            Some(after) => rest = after,
+            None => return true,
+        }
+    }
+}
+
+/// Whether an attempt may write a file at this path below the destination.
+pub fn is_file_path(path: &[u8]) -> bool
+    ensures { result ≡ is_file_path path.now }
+{
+    is_visible(path) && are_some(path)
+}

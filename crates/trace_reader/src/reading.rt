@@ -1,0 +1,101 @@
+ghost use Rattle.std.specs.Prelude.{◌≡◌};
+ghost use Rattle.basics.specs.Reading.{need};
+ghost use Rattle.serde_json.specs.View.{view};
+ghost use Rattle.trace_reader.specs.declared.fault.TraceFault.TheVariants.{NotJson};
+ghost use Rattle.trace_reader.specs.Faults.{Gives, GivesBy};
+ghost use Rattle.trace_reader.specs.Reading.{line_in, line_of, said_by, tree_of, turn_in};
+
+use crate::changes::{complete_in, copy_in, delete_all_in, delete_in, put_in};
+use crate::claims::{attempt_in, file_in, job_in, object_in};
+use crate::fault::{Field, TraceFault};
+use crate::fields::str_member;
+use crate::line::TraceLine;
+use crate::operation::{Operation, operation_of};
+use crate::stage::Stage;
+use s3_types::let_go;
+use serde_json::Value;
+use std::alloc::Global;
+
+const MOST_BYTES: usize = 8_388_608;
+
+/// The JSON tree of a line. Else NotJson.
+fn tree(alloc: Global, line: &[u8]) -> Result<Value, TraceFault>
+    ensures { GivesBy view result (need (tree_of line.now) NotJson) }
+{
+    match Value::from_slice(alloc, line) {
+        Ok(value) => Ok(value),
+        Err(e) => {
+            if e.is_memory() {
+                Err(TraceFault::NoMemory)
+            } else {
+                Err(TraceFault::NotJson)
+            }
+        }
+    }
+}
+
+/// What a line of this operation says in a job of so many tasks, or its first fault.
+fn said_by(
+    alloc: Global,
+    tasks: Option<u32>,
+    operation: Operation,
+    value: &Value,
+) -> Result<TraceLine, TraceFault>
+    ensures { Gives result (said_by tasks operation (view value.now)) }
+{
+    match operation {
+        Operation::Job => job_in(alloc, value),
+        Operation::Attempt => attempt_in(tasks, value),
+        Operation::File => file_in(alloc, value),
+        Operation::Object => object_in(alloc, value),
+        Operation::Commit => Ok(TraceLine::Commit),
+        Operation::PutObject => put_in(alloc, value),
+        Operation::CopyObject => copy_in(alloc, value),
+        Operation::DeleteObject => delete_in(alloc, value),
+        Operation::DeleteObjects => delete_all_in(alloc, value),
+        Operation::CompleteMultipartUpload => complete_in(alloc, value),
+        Operation::Other => Ok(TraceLine::Still),
+    }
+}
+
+/// The operation of a line that may come at this stage.
+fn turn_in(stage: Stage, value: &Value) -> Result<Operation, TraceFault>
+    ensures { Gives result (turn_in stage (view value.now)) }
+{
+    if value.as_object().is_none() {
+        return Err(TraceFault::NotJson);
+    }
+    let name = str_member(value, Field::Op)?;
+    let Some(operation) = operation_of(name) else {
+        return Err(TraceFault::UnknownOp);
+    };
+    if stage.may_come(operation) {
+        Ok(operation)
+    } else {
+        Err(TraceFault::OutOfOrder)
+    }
+}
+
+/// What a tree says at this stage, or its first fault.
+fn line_in(alloc: Global, stage: Stage, value: &Value) -> Result<TraceLine, TraceFault>
+    ensures { Gives result (line_in stage (view value.now)) }
+{
+    let operation = turn_in(stage, value)?;
+    said_by(alloc, stage.tasks, operation, value)
+}
+
+/// What a line of a trace says, given without its line feed, at the stage that the trace has come to. Else the first fault of
+/// the line, in the order in which `TraceFault` lists them, unless memory runs out.
+#[tactic(auto, unfolding(crate::specs::Reading::line_of))]
+pub fn read_line(alloc: Global, stage: Stage, line: &[u8]) -> Result<TraceLine, TraceFault>
+    // What the line says, or its first fault, unless memory runs out.
+    ensures { Gives result (line_of stage line.now) }
+{
+    if line.len() > MOST_BYTES {
+        return Err(TraceFault::TooLong);
+    }
+    let value = tree(alloc, line)?;
+    let said = line_in(alloc, stage, &value);
+    let_go(value);
+    said
+}
