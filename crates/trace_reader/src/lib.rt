@@ -2,10 +2,10 @@
 //!
 //! # What is proved
 //!
-//! `read_line`: It gives what the line says, or the line's first fault, as `line_of` of `specs/Reading.antt` has it. It may
-//! give NoMemory in place of either.
+//! `read_line`: It gives what the line says, or the line's first fault, as `line_of` has it (`Reading.antt`). It may give
+//! NoMemory in place of either.
 //!
-//! `Field::name`, `Stage::may_come`: They are `name_of` and `may_come` of `specs/`.
+//! `Field::name`, `Stage::may_come`: They are `name_of` (`Reading.antt`) and `may_come` (`Operations.antt`).
 //!
 //! Left open: that NoMemory comes only if memory runs out.
 #![tactic(auto)]
