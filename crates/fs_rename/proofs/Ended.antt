@@ -1,10 +1,16 @@
 -- What the renaming of a path has done.
-use Rattle.fs_rename.proofs.Common.{Actor, AlwaysIn, Err, GivesBetween, IfOk, List, NoSuchBucket, Ok, OtherBucket, Performed, Result, Route, Scene, Seen, SendsIn, after_all, always, gives, is_key, sends, subst, take, true, ℕ, ◌≡◌}
+use Rattle.fs_rename.proofs.Common.{Actor, AlwaysIn, Err, GivesBetween, IfOk, List, NoSuchBucket, None, Objects, Ok, Option, OtherBucket}
+use Rattle.fs_rename.proofs.Common.{Performed, Result, Route, Scene, Seen, SendsIn, Some, after_all, always, arith, gives, is_key, left}
+use Rattle.fs_rename.proofs.Common.{length, objects_at, prefix_of, sends, subst, take, true, ℕ, ◌+◌, ◌≡◌, ◌≤◌}
+use Rattle.std.specs.Prelude.{◌*◌}
 use Rattle.bucket_ops.specs.Prelude.{DriveStop}
+use Rattle.bucket_ops.specs.Phases.{left_at}
+use Rattle.bucket_ops.specs.Walking.{all_below}
+use Rattle.fs_rename.specs.Between.{most_in}
 use Rattle.fs_rename.specs.code.Rename.{Renaming, Answer, first as first_stage, asks}
 use Rattle.fs_ops.proofs.Asking.{asked_in, each_asked}
 use Rattle.fs_rename.specs.code.Meaning.{Asks}
-use Rattle.fs_rename.specs.Public.{RenamesIn, StandsWhole, RenameSends}
+use Rattle.fs_rename.specs.Public.{RenamesIn, StandsWhole, RenameSends, most_moves}
 use Rattle.fs_rename.proofs.Told.{renames_in, whole_in}
 
 -- what a renaming is kept as
@@ -39,3 +45,17 @@ module _ {A : Type 0} {actor : Actor} {event retries : ℕ} {old new : Seen} {re
         foretold = h.foretold;
         counts = h.counts;
       })
+
+-- ---- how many requests it sends
+
+-- what is left at its beginning
+most_left : (o : Renaming) (x : Option Objects)
+    → left_at x left o (first_stage o) + 1 ≡ most_in x (λ m. 13 + 4 * length (all_below (prefix_of o.source) m))
+most_left o None = omega arith
+most_left o (Some m) = omega arith
+
+pub few_in : (b : List ℕ) (o : Renaming) (c : List ℕ) (r : Route) (z : Scene) (n retries : ℕ) → kept b o c ≡ r
+    → n ≤ (left_at (objects_at z b) left o (first_stage o) + 1) * (retries + 1) → n ≤ most_moves r z * (retries + 1)
+few_in b o c r z n retries e h =
+    let l = subst (λ (k : ℕ). n ≤ k * (retries + 1)) (most_left o (objects_at z b)) h in
+    subst (λ (r : Route). n ≤ most_moves r z * (retries + 1)) e l

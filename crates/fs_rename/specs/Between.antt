@@ -1,5 +1,5 @@
 -- Operations from one path to another, which work in one bucket.
-use Rattle.std.specs.Prelude.{◌≡◌, ℕ, List}
+use Rattle.std.specs.Prelude.{◌≡◌, ℕ, List, Option, Some, None}
 use Rattle.fs_ops.specs.Prelude.{Objects, Scene, GivesIn}
 
 -- two paths, each by its bucket and its key
@@ -13,3 +13,8 @@ pub record Route : Type 0 where
 pub record GivesBetween {A : Type 0} (b c : List ℕ) (gives : Objects → A → Objects → Type 0) (absent refused : A) (z : Scene) (a : A) (s : Scene) : Type 0 where
   pub one : b ≡ c → GivesIn b gives absent z a s
   pub other : (b ≡ c → ⊥) → (a ≡ refused) × (s ≡ z)
+
+-- a bound on an operation's requests: `most` of its bucket's objects, or one where the bucket does not exist
+abbrev pub most_in : Option Objects → (Objects → ℕ) → ℕ
+most_in None most = 1
+most_in (Some m) most = most m

@@ -1,8 +1,8 @@
 -- What the renaming of a path to another one answers, and leaves (Hadoop FileSystem specification, rename).
-use Rattle.std.specs.Prelude.{Err}
-use Rattle.fs_ops.specs.Prelude.{Scene, Request, AlwaysIn, SendsIn, MayStand, Renames}
+use Rattle.std.specs.Prelude.{ℕ, ◌+◌, ◌*◌, length, Err}
+use Rattle.fs_ops.specs.Prelude.{Scene, Request, AlwaysIn, SendsIn, MayStand, Renames, objects_at, all_below, prefix_of}
 use Rattle.fs_tree.specs.declared.rename.RenameRefusal.TheVariants.{OtherBucket, NoSuchBucket}
-use Rattle.fs_rename.specs.Between.{Route, GivesBetween}
+use Rattle.fs_rename.specs.Between.{Route, GivesBetween, most_in}
 use Rattle.fs_rename.specs.code.Rename.{Renaming, Answer, first, asks}
 use Rattle.fs_rename.specs.code.Meaning.{Asks}
 
@@ -18,6 +18,10 @@ renaming_of r = record { source = r.source; target = r.target }
 -- batches, and the put of the marker above it
 abbrev pub RenameSends : Route → Scene → Request → Type 0
 RenameSends r z e = SendsIn r.bucket (asks (renaming_of r) (first (renaming_of r))) (Asks (renaming_of r)) z e
+
+-- a bound on the requests of a rename, each counted once however often it is retried: thirteen, and four for each key below the source
+abbrev pub most_moves : Route → Scene → ℕ
+most_moves r z = most_in (objects_at z r.bucket) (λ m. 13 + 4 * length (all_below (prefix_of r.source) m))
 
 -- at any moment each object of the source stands whole at its old or at its new place, and all else is as it was
 abbrev pub StandsWhole : Route → Scene → Scene → Type 0

@@ -1,6 +1,8 @@
-ghost use Rattle.std.specs.Prelude.{◌≡◌, ℕ, ◌<◌, ◌≤◌, length, IfOk, IsErrOf};
+ghost use Rattle.std.specs.Prelude.{◌≡◌, ℕ, ◌+◌, ◌*◌, ◌<◌, ◌≤◌, List, ◌++◌, length, IfOk, IsErrOf};
+ghost use Rattle.s3_types.specs.declared.journal.Entry.{Entry};
 ghost use Rattle.operations.specs.Performed.{Performed, seen};
-ghost use Rattle.bucket_ops.specs.Phases.{AlwaysIn, SendsIn};
+ghost use Rattle.bucket_ops.specs.Asks.{objects_at};
+ghost use Rattle.bucket_ops.specs.Phases.{AlwaysIn, SendsIn, left_at};
 ghost use Rattle.fs_rename.specs.Between.{GivesBetween};
 
 use bucket_ops::{Phases, perform_in};
@@ -30,6 +32,8 @@ pub fn perform_between<O: Phases, S: ObjectStore>(
         (seen S.scene S.requests S.losses S.foretold store.old journal.old.entries)
         (seen S.scene S.requests S.losses S.foretold store.new journal.new.entries) result }
     ensures fault { IsErrOf result DriveStop.StoreFault → S.losses store.old < S.losses store.new }
+    ensures few { (part : List Entry) → journal.new.entries ≡ journal.old.entries ++ part → length part
+        ≤ (left_at (objects_at (S.scene store.old) bucket) O.left names (O.first names) + 1) * (retries + 1) }
     ensures unsent { (bucket ≡ to_bucket → ⊥) → journal.new.entries ≡ journal.old.entries }
 {
     if bucket != to_bucket {

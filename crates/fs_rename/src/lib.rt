@@ -9,7 +9,8 @@
 //! there. Keys are copied one by one in their order; at each moment the first ones stand at both places, and all else is
 //! as it was (`IsCopying`).
 //! `perform_between`: An operation that names two paths does what it does in one bucket, and is refused, and sends
-//! nothing, where they are in two.
+//! nothing, where they are in two. It sends at most `retries + 1` requests for each stage that the operation may come to,
+//! and as many again (`few`).
 //! `Rename`: Refused, with nothing changed, by the first that is so: OtherBucket, with nothing sent, NoSuchBucket,
 //! SourceRoot, SourceMissing, UnderSource, TargetFile, TargetExists, ParentIsFile, ParentMissing, TooLong with the first
 //! key that would be over its limit. At Ok the file, or the directory with all below it, stands at the new place with the
@@ -19,7 +20,8 @@
 //! there in the order of their keys, and only when all are there does one leave; and every other file is as it was,
 //! header included, and every other marker, but that the one above the source is put where none stood. Nothing is
 //! sent but looks, and, where the source may be moved, copies of its keys to their new keys, the deletion of its keys in
-//! batches, and the put of that marker (`performed`).
+//! batches, and the put of that marker (`performed`). It sends at most `retries + 1` times as many requests as
+//! `most_moves` gives: thirteen, and four for each key below the source (`few`).
 #![tactic(auto)]
 
 mod base;

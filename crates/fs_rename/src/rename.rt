@@ -1,6 +1,7 @@
-ghost use Rattle.std.specs.Prelude.{◌≡◌, ℕ, ◌<◌, ◌≤◌, length, IfOk, IsErrOf};
+ghost use Rattle.std.specs.Prelude.{◌≡◌, ℕ, ◌+◌, ◌*◌, ◌<◌, ◌≤◌, List, ◌++◌, length, IfOk, IsErrOf};
+ghost use Rattle.s3_types.specs.declared.journal.Entry.{Entry};
 ghost use Rattle.operations.specs.Performed.{Performed, seen};
-ghost use Rattle.fs_rename.specs.Public.{RenamesIn, StandsWhole, RenameSends};
+ghost use Rattle.fs_rename.specs.Public.{RenamesIn, StandsWhole, RenameSends, most_moves};
 
 use crate::names::RenameNames;
 use crate::perform_between;
@@ -74,8 +75,8 @@ impl Rename {
     ///
     /// At any moment, whatever the store loses and wherever it stops, each file of the source stands whole at its
     /// old or at its new place, and each other file is as it was. Six looks at most, a page and a batch for each 1,000
-    /// keys, a copy for each key, and two requests more; memory for the keys and the new keys. (Hadoop FileSystem
-    /// specification, rename.)
+    /// keys, a copy for each key, and two requests more; what is proved is the looser bound `most_moves`. Memory for
+    /// the keys and the new keys. (Hadoop FileSystem specification, rename.)
     pub fn perform<S: ObjectStore>(
         self,
         alloc: Global,
@@ -92,6 +93,8 @@ impl Rename {
             (seen S.scene S.requests S.losses S.foretold store.old journal.old.entries)
             (seen S.scene S.requests S.losses S.foretold store.new journal.new.entries) result }
         ensures fault { IsErrOf result DriveStop.StoreFault → S.losses store.old < S.losses store.new }
+        ensures few { (part : List Entry) → journal.new.entries ≡ journal.old.entries ++ part
+            → length part ≤ most_moves self (S.scene store.old) * (retries + 1) }
         ensures unsent { (self.bucket ≡ self.to_bucket → ⊥) → journal.new.entries ≡ journal.old.entries }
     {
         let Rename {
