@@ -1,9 +1,13 @@
 -- What the copy of a tree has done.
-use Rattle.copy_tree.proofs.Common.{Actor, AlwaysIn, Err, IfOk, List, NoSuchBucket, OtherBucket, Performed, Result, Scene, Seen, SendsIn, always, gives, sends, subst, ℕ, ◌≡◌}
+use Rattle.copy_tree.proofs.Common.{Actor, AlwaysIn, Err, IfOk, List, NoSuchBucket, None, Objects, OtherBucket, Performed, Result, Scene}
+use Rattle.copy_tree.proofs.Common.{Seen, SendsIn, all_below, always, arith, climb, gives, left, length, prefix_of, sends, subst, ℕ, ◌≡◌}
+use Rattle.std.specs.Prelude.{◌+◌, ◌*◌, ◌≤◌, Option, Some}
 use Rattle.bucket_ops.specs.Prelude.{DriveStop}
-use Rattle.fs_rename.specs.Between.{Route, GivesBetween}
+use Rattle.bucket_ops.specs.Asks.{objects_at}
+use Rattle.bucket_ops.specs.Phases.{left_at}
+use Rattle.fs_rename.specs.Between.{Route, GivesBetween, most_in}
 use Rattle.copy_tree.specs.code.Copy.{CopyPaths, Answer, first as first_stage, asks}
-use Rattle.copy_tree.specs.Public.{CopiesIn, StandsCopied, CopySends}
+use Rattle.copy_tree.specs.Public.{CopiesIn, StandsCopied, CopySends, most_copies}
 
 -- what a copy is kept as
 abbrev kept : List ℕ → CopyPaths → List ℕ → Route
@@ -18,3 +22,19 @@ module _ {A : Type 0} {actor : Actor} {event retries : ℕ} {old new : Seen} {re
       → Performed actor event retries (AlwaysIn b (always o) old.scene) (SendsIn b (asks o (first_stage o)) (sends o) old.scene) old new result
       → Performed actor event retries (StandsCopied r old.scene) (CopySends r old.scene) old new result
   performed_in b o c r e h = subst (λ (r : Route). Performed actor event retries (StandsCopied r old.scene) (CopySends r old.scene) old new result) e h
+
+-- ---- how many requests it sends
+
+-- what is left at its beginning
+most_left : (o : CopyPaths) (x : Option Objects)
+    → left_at x left o (first_stage o) + 1
+    ≡ most_in x (λ m. 8 + length (climb o.target) + 4 * length (all_below (prefix_of o.source) m) + 2 * length
+    (all_below (prefix_of o.target) m))
+most_left o None = omega arith
+most_left o (Some m) = omega arith
+
+pub few_in : (b : List ℕ) (o : CopyPaths) (c : List ℕ) (r : Route) (z : Scene) (n retries : ℕ) → kept b o c ≡ r
+    → n ≤ (left_at (objects_at z b) left o (first_stage o) + 1) * (retries + 1) → n ≤ most_copies r z * (retries + 1)
+few_in b o c r z n retries e h =
+    let l = subst (λ (k : ℕ). n ≤ k * (retries + 1)) (most_left o (objects_at z b)) h in
+    subst (λ (r : Route). n ≤ most_copies r z * (retries + 1)) e l

@@ -1,9 +1,9 @@
 -- What the copy of all that is below a path to another one answers, and leaves (Hadoop FileSystem shell, cp).
-use Rattle.std.specs.Prelude.{Err}
-use Rattle.fs_ops.specs.Prelude.{Scene, Request, AlwaysIn, SendsIn, OtherBucket, Copies, MayStandCopied}
+use Rattle.std.specs.Prelude.{ℕ, ◌+◌, ◌*◌, length, Err}
+use Rattle.fs_ops.specs.Prelude.{Scene, Request, AlwaysIn, SendsIn, OtherBucket, Copies, MayStandCopied, objects_at, all_below, prefix_of}
 use Rattle.fs_tree.specs.declared.copy.CopyRefusal.TheVariants.{NoSuchBucket}
-use Rattle.fs_rename.specs.Between.{Route, GivesBetween}
-use Rattle.copy_tree.specs.code.Copy.{CopyPaths, Answer, first, asks}
+use Rattle.fs_rename.specs.Between.{Route, GivesBetween, most_in}
+use Rattle.copy_tree.specs.code.Copy.{CopyPaths, Answer, first, asks, climb}
 use Rattle.copy_tree.specs.code.Meaning.{sends}
 
 -- in one bucket it is what it is among the bucket's objects, and nothing else changes; between two buckets it is refused, before anything else, and nothing changes
@@ -17,6 +17,12 @@ paths_of r = record { source = r.source; target = r.target }
 -- what it may send: looks and reads, and copies of keys to their new keys, which are absent, where the source may be copied
 abbrev pub CopySends : Route → Scene → Request → Type 0
 CopySends r z e = SendsIn r.bucket (asks (paths_of r) (first (paths_of r))) (sends (paths_of r)) z e
+
+-- a bound on the requests of a copy, each counted once however often it is retried: eight, one for the target's path and for each path
+-- above it, four for each key below the source, and two for each key below the target
+abbrev pub most_copies : Route → Scene → ℕ
+most_copies r z = most_in (objects_at z r.bucket)
+    (λ m. 8 + length (climb r.target) + 4 * length (all_below (prefix_of r.source) m) + 2 * length (all_below (prefix_of r.target) m))
 
 -- at any moment each new key that was absent is so or is its source's copy, whole, and all else is as it was
 abbrev pub StandsCopied : Route → Scene → Scene → Type 0

@@ -1,6 +1,7 @@
-ghost use Rattle.std.specs.Prelude.{◌≡◌, ℕ, ◌<◌, ◌≤◌, length, IfOk, IsErrOf};
+ghost use Rattle.std.specs.Prelude.{◌≡◌, ℕ, ◌+◌, ◌*◌, ◌<◌, ◌≤◌, List, ◌++◌, length, IfOk, IsErrOf};
+ghost use Rattle.s3_types.specs.declared.journal.Entry.{Entry};
 ghost use Rattle.operations.specs.Performed.{Performed, seen};
-ghost use Rattle.copy_tree.specs.Public.{CopiesIn, StandsCopied, CopySends};
+ghost use Rattle.copy_tree.specs.Public.{CopiesIn, StandsCopied, CopySends, most_copies};
 
 use crate::names::CopyNames;
 use fs_rename::perform_between;
@@ -70,8 +71,9 @@ impl CopyTree {
     /// At any moment, whatever the store loses and wherever it stops, each new key that was absent is so or is the
     /// whole copy of its source, and all else is as it was: the same copy can be made again, and ends as one that was
     /// never stopped. A look at the source, a page for each 1,000 keys below both paths, a look at each path above
-    /// the target and its own, two reads for each new key that stood, and a copy for each other; memory for the keys
-    /// and the new keys, and no bytes are copied. (Hadoop FileSystem shell, cp.)
+    /// the target and its own, two reads for each new key that stood, and a copy for each other; what is proved is the
+    /// looser bound `most_copies`. Memory for the keys and the new keys, and no bytes are copied. (Hadoop FileSystem
+    /// shell, cp.)
     pub fn perform<S: ObjectStore>(
         self,
         alloc: Global,
@@ -88,6 +90,8 @@ impl CopyTree {
             (seen S.scene S.requests S.losses S.foretold store.old journal.old.entries)
             (seen S.scene S.requests S.losses S.foretold store.new journal.new.entries) result }
         ensures fault { IsErrOf result DriveStop.StoreFault → S.losses store.old < S.losses store.new }
+        ensures few { (part : List Entry) → journal.new.entries ≡ journal.old.entries ++ part
+            → length part ≤ most_copies self (S.scene store.old) * (retries + 1) }
         ensures unsent { (self.bucket ≡ self.to_bucket → ⊥) → journal.new.entries ≡ journal.old.entries }
     {
         let CopyTree {

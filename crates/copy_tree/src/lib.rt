@@ -9,8 +9,10 @@
 //! At Ok each key below the source has its copy behind the same rest, header included, so many of which were
 //! absent and the rest stood, and every other key is as it was (`copies`). At any moment, whatever is lost and
 //! wherever it stops, each new key that was absent is so or is its source's copy, whole; they come in the order of
-//! their keys; and every other key is as it was; and nothing is sent but looks, reads, and copies of keys to new keys that were absent, of a source that
-//! may be copied (`performed`).
+//! their keys; and every other key is as it was; and nothing is sent but looks, reads, and copies of keys to new keys
+//! that were absent, of a source that may be copied (`performed`). It sends at most `retries + 1` times as many requests
+//! as `most_copies` gives: eight, one for the target's path and each path above it, four for each key below the source,
+//! and two for each key below the target (`few`).
 //! `copies_resume`: After a stop anywhere a second copy is not refused, and ends with the objects of one that was
 //! never stopped.
 #![tactic(auto)]
