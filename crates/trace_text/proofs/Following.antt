@@ -1,7 +1,7 @@
 -- One more send of a run is written.
-use Rattle.std.proofs.Common.{ℕ, zero, suc, ◌+◌, ◌≡◌, ◌≤◌, ◌<◌, ◌∷◌, ◌∙◌, ◌++◌, ◌⊎◌, ◌&&◌, ◌||◌, Bool, true, false, cond, not, nat_lt}
-use Rattle.std.proofs.Common.{List, [], length, drop, take, Option, Some, IfSome, slice_get, string_bytes, refl, ap, subst, sym, append_assoc, arith}
-use Rattle.std.proofs.lemmas.Option.{none-some, same_Some, slice_get_within}
+use Rattle.std.proofs.Common.{ℕ, zero, suc, ◌+◌, ◌≡◌, ◌≤◌, ◌<◌, ◌∷◌, ◌∙◌, ◌++◌, ◌⊎◌, ◌&&◌, true, false, cond, not, arith}
+use Rattle.std.proofs.Common.{List, [], drop, take, append_assoc, slice_get, string_bytes, Option, Some, IfSome, refl, ap, subst, sym}
+use Rattle.std.proofs.lemmas.Option.{none-some, same_Some}
 use Rattle.std.specs.List.{flat_map}
 use Rattle.basics.proofs.Common.{cases_lt, inl, inr, le-leb}
 use Rattle.basics.proofs.Naturals.{below_so, not_below}
