@@ -18,6 +18,7 @@ use Rattle.fs_files.specs.code.Create as create
 use Rattle.fs_files.specs.declared.create.CreateFile.{CreateFile}
 use Rattle.fs_files.specs.declared.create.CreateStage.TheVariants.{Here}
 use Rattle.s3a_shell.specs.Asking.{LooksIn, DeleteSends, PutSendsUnless, file_of, IsLiveIn, OnOne, UploadSends, MaySend}
+use Rattle.s3a_shell.specs.Doings.{MayStandAt}
 use Rattle.s3a_shell.proofs.Joining.{sent_as}
 use Rattle.s3a_shell.proofs.Performing.{sent_of}
 
@@ -163,6 +164,10 @@ in_take i us front x e = subst (IsIn x) (take-append-drop i us)
 pub asked_by : {T E : Type 0} (r : Result T E) (command is : Command) (bytes : List ℕ) (z : Scene) (a b : Session) → command ≡ is
     → OnOk r (Asked (MaySend is bytes z) a b) → OnOk r (Asked (MaySend command bytes z) a b)
 asked_by r command is bytes z a b e h = subst (λ (v : Command). OnOk r (Asked (MaySend v bytes z) a b)) (sym e) h
+
+pub stands_by : {T E : Type 0} (r : Result T E) (command is : Command) (bytes : List ℕ) (z : Scene) (a b : Session) → command ≡ is
+    → OnOk r (Sent (MayStandAt is bytes z) a b) → OnOk r (Sent (MayStandAt command bytes z) a b)
+stands_by r command is bytes z a b e h = subst (λ (v : Command). OnOk r (Sent (MayStandAt v bytes z) a b)) (sym e) h
 
 -- ---- from the beginning
 

@@ -1,5 +1,6 @@
 -- A command that the shell did on a store, by what the shell says of it.
 use Rattle.s3a_shell.specs.Asking.{MaySend}
+use Rattle.s3a_shell.specs.Most.{most_requests}
 use Rattle.s3a_shell.proofs.Common.{AllByRecursion, AreAnswered, AreBy, Bool, Command, Content, Does, Done, Entry, IsHonest, List}
 use Rattle.s3a_shell.proofs.Common.{MayStandAt, None, OnlyIn, Shell, Store, Work, bucket_in, ended_by, false, has_changed, length, moment}
 use Rattle.s3a_shell.proofs.Common.{only_looks, opening, subst, sym, true, upload_at, work_said, ℕ, ◌^◌, ◌∙◌, ◌≡◌, ◌≤◌}
@@ -12,11 +13,12 @@ few_of c is = few_ids c is
 
 pub done_of : (command : Command) (bytes : List ℕ) (c service : Content) (refused changed : Bool) (text : List ℕ) (es : List Entry) (work : Work) → Does command bytes (opening c) (record { refused = refused; text = text }) (moment c es (length es)) → service ≡ (moment c es (length es)).content → AreBy Shell 0 es → AreAnswered es
     → IsHonest c es → AllByRecursion (λ e. MaySend command bytes (opening c) e.request) es
-    → ((m : ℕ) → MayStandAt command bytes (opening c) (moment c es m)) → changed ≡ has_changed es → (changed ≡ false → service ≡ c)
+    → length es ≤ most_requests command bytes (opening c) → ((m : ℕ) → MayStandAt command bytes (opening c) (moment c es m))
+    → changed ≡ has_changed es → (changed ≡ false → service ≡ c)
     → (refused ≡ true → service ≡ c) → ((id : ℕ) → c.next ≤ id → upload_at service (bucket_in command) id ≡ None)
     → (only_looks command ≡ true → changed ≡ false) → OnlyIn (bucket_in command) (ended_by command c) c service
     → work ≡ work_said refused changed c text es → Done command bytes c work
-done_of command bytes c service refused changed text es work did content by answered honest asked moments tells same kept ended reads
+done_of command bytes c service refused changed text es work did content by answered honest asked few moments tells same kept ended reads
     stays is = record {
       what = record { refused = refused; text = text };
       sent = es;
@@ -25,6 +27,7 @@ done_of command bytes c service refused changed text es work did content by answ
       answered = answered;
       honest = honest;
       asked = asked;
+      few = few;
       moments = moments;
       stays = subst (λ (d : Content). OnlyIn (bucket_in command) (ended_by command c) c d) content stays;
       ended = subst (λ (d : Content). (id : ℕ) → c.next ≤ id → upload_at d (bucket_in command) id ≡ None) content ended;

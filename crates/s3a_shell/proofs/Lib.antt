@@ -9,6 +9,7 @@ mod Aborting
 mod Listing
 mod Looking
 mod Asking
+mod Few
 pub mod Doing
 pub mod Plain
 mod Common

@@ -8,6 +8,7 @@ use Rattle.s3a_words.specs.Kinds.{kind_of, is_put, is_play}
 use Rattle.store_frame.specs.Held.{upload_at}
 use Rattle.s3a_shell.specs.declared.said.Said.{Said}
 use Rattle.s3a_shell.specs.Asking.{MaySend}
+use Rattle.s3a_shell.specs.Most.{most_requests}
 use Rattle.s3a_shell.specs.Doings.{only_looks, Does, MayStandAt}
 use Rattle.s3a_shell.specs.Sendings.{has_changed}
 use Rattle.s3a_shell.specs.Stays.{OnlyIn, bucket_in, ended_by}
@@ -55,6 +56,8 @@ pub record Done (command : Command) (bytes : List ℕ) (c : Content) (work : Wor
   pub honest : IsHonest c sent
   -- each request is one that the command may send
   pub asked : AllByRecursion (λ e. MaySend command bytes (opening c) e.request) sent
+  -- it sent no more requests than the command may
+  pub few : length sent ≤ most_requests command bytes (opening c)
   -- at each moment, wherever it stops, there stands what may stand then of the command
   pub moments : (m : ℕ) → MayStandAt command bytes (opening c) (moment c sent m)
   -- other buckets stand, and so do the uploads that it does not end

@@ -5,4 +5,5 @@ pub mod Uploading
 pub mod Doings
 pub mod Stays
 pub mod Asking
+pub mod Most
 pub mod Commanded

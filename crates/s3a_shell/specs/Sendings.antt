@@ -1,5 +1,5 @@
 -- What the shell sends.
-use Rattle.std.specs.Prelude.{◌≡◌, ◌⊎◌, ℕ, ◌≤◌, ◌&&◌, Bool, true, false, not, List, ◌++◌, length, take}
+use Rattle.std.specs.Prelude.{◌≡◌, ◌⊎◌, ℕ, ◌≤◌, ◌+◌, ◌&&◌, Bool, true, false, not, List, ◌++◌, length, take}
 use Rattle.fs_ops.specs.Prelude.{AllByRecursion, list_any, Scene, AreHonest, after_all, apply, Shell, Request, Reply, Refused, Outcome, Answered, Entry}
 use Rattle.journal_log.specs.Prelude.{Slow, RequestLost, ReplyLost, is_changing}
 use Rattle.bucket_ops.specs.Prelude.{AreAnswered, AreBy}
@@ -30,6 +30,10 @@ pub record Asked (sends : Request → Type 0) (a b : Session) : Type 0 where
   pub part : List Entry
   pub appended : b.journal.entries ≡ a.journal.entries ++ part
   pub each : AllByRecursion (λ e. sends e.request) part
+
+-- a session sent at most n requests
+abbrev pub AtMost : ℕ → Session → Session → Type 0
+AtMost n a b = length b.journal.entries ≤ length a.journal.entries + n
 
 -- a request has had its effect, or not yet
 abbrev pub AppliedOrNot : Request → Scene → Scene → Type 0

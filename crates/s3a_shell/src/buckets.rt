@@ -1,6 +1,6 @@
 ghost use Rattle.std.specs.Prelude.{◌≡◌, None, IfOk, OnOk, option_map};
 ghost use Rattle.s3_types.specs.Answer.{answer, apply};
-ghost use Rattle.s3a_shell.specs.Sendings.{IsCounted, Sent, Asked, AppliedOrNot};
+ghost use Rattle.s3a_shell.specs.Sendings.{IsCounted, Sent, Asked, AtMost, AppliedOrNot};
 ghost use Rattle.s3a_shell.specs.Doings.{refusal_word, refused_or_fine, DidMake};
 
 use crate::said::{Said, fine, refusing};
@@ -37,6 +37,7 @@ impl Session {
             (answer self.old.store.scene (Request.MakeBucket name.now))) }
         ensures scene { OnOk result (self.new.store.scene ≡ apply self.old.store.scene (Request.MakeBucket name.now)) }
         ensures asked { OnOk result (Asked (λ r. r ≡ Request.MakeBucket name.now) self.old self.new) }
+        ensures few { OnOk result (AtMost 1 self.old self.new) }
         ensures sent { OnOk result (Sent (AppliedOrNot (Request.MakeBucket name.now) self.old.store.scene)
             self.old self.new) }
     {
@@ -59,6 +60,7 @@ impl Session {
         requires { IsCounted self.old }
         ensures did { IfOk result (λ what. DidMake name.now self.old.store.scene what self.new.store.scene) }
         ensures asked { OnOk result (Asked (λ r. r ≡ Request.MakeBucket name.now) self.old self.new) }
+        ensures few { OnOk result (AtMost 1 self.old self.new) }
         ensures sent { OnOk result (Sent (AppliedOrNot (Request.MakeBucket name.now) self.old.store.scene)
             self.old self.new) }
     {

@@ -1,6 +1,7 @@
 ghost use Rattle.std.specs.Prelude.{◌≡◌, ◌≤◌, false, length, IfOk, OnOk};
 ghost use Rattle.s3a_shell.specs.Asking.{PutSends, PutSendsUnless};
-ghost use Rattle.s3a_shell.specs.Sendings.{IsCounted, Sent, Asked};
+ghost use Rattle.s3a_shell.specs.Most.{most_put};
+ghost use Rattle.s3a_shell.specs.Sendings.{IsCounted, Sent, Asked, AtMost};
 ghost use Rattle.s3a_shell.specs.Doings.{most_input, Created, FileOrNot, DidPut};
 
 use crate::said::{Said, nothing_said, refusing};
@@ -31,6 +32,7 @@ impl Session {
             what self.new.store.scene) }
         ensures asked { OnOk result (Asked (PutSendsUnless false path.now bytes.now overwrite policy self.old.store.scene)
             self.old self.new) }
+        ensures few { OnOk result (AtMost (most_put path.now bytes.now) self.old self.new) }
         ensures sent { OnOk result (Sent (FileOrNot policy path.now bytes.now self.old.store.scene) self.old self.new) }
     {
         let alloc = self.alloc;
@@ -60,6 +62,7 @@ impl Session {
             what self.new.store.scene) }
         ensures asked { OnOk result (Asked (PutSends path.now bytes.now overwrite policy self.old.store.scene)
             self.old self.new) }
+        ensures few { OnOk result (AtMost (most_put path.now bytes.now) self.old self.new) }
         ensures sent { OnOk result (Sent (FileOrNot policy path.now bytes.now self.old.store.scene) self.old self.new) }
     {
         if bytes.as_slice().len() > MOST_INPUT {

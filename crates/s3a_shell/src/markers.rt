@@ -1,10 +1,11 @@
-ghost use Rattle.std.specs.Prelude.{◌≡◌, ◌++◌, IfOk, OnOk, string_bytes};
+ghost use Rattle.std.specs.Prelude.{◌≡◌, ◌+◌, ◌*◌, ◌++◌, IfOk, OnOk, string_bytes};
 ghost use Rattle.bucket_ops.specs.Phases.{AlwaysIn};
 ghost use Rattle.fs_tree.specs.MarkerTool.{Audits, Cleans, Fills, IsCleaning, IsFilling};
 ghost use Rattle.bucket_ops.specs.Uploads.{IsStill};
 ghost use Rattle.s3a_shell.specs.Texts.{kind_word, marker_line, marker_lines, cleaned_line, filled_line, said};
 ghost use Rattle.s3a_shell.specs.Asking.{LooksIn, CleanMarkersSends, FillMarkersSends};
-ghost use Rattle.s3a_shell.specs.Sendings.{IsCounted, Sent, Asked, has_changed};
+ghost use Rattle.s3a_shell.specs.Most.{count_below, surplus_below, missing_below, most_on};
+ghost use Rattle.s3a_shell.specs.Sendings.{IsCounted, Sent, Asked, AtMost, has_changed};
 ghost use Rattle.s3a_shell.specs.Doings.{Did};
 
 use crate::said::{Said, fine, refused};
@@ -96,6 +97,8 @@ impl Session {
             what self.new.store.scene) }
         ensures looks { OnOk result (has_changed self.new.journal.entries ≡ has_changed self.old.journal.entries) }
         ensures asked { OnOk result (Asked (LooksIn path.now.bucket) self.old self.new) }
+        ensures few { OnOk result (AtMost (most_on path.now self.old.store.scene (λ m. 3 + 2 * count_below path.now.key m))
+            self.old self.new) }
         ensures sent { OnOk result (Sent (IsStill self.old.store.scene) self.old self.new) }
     {
         let audit = AuditMarkers::new(self.alloc, path)?;
@@ -109,6 +112,8 @@ impl Session {
         ensures did { IfOk result (λ what. Did path.now (Cleans path.now.key) cleaned_line self.old.store.scene
             what self.new.store.scene) }
         ensures asked { OnOk result (Asked (CleanMarkersSends path.now self.old.store.scene) self.old self.new) }
+        ensures few { OnOk result (AtMost (most_on path.now self.old.store.scene
+            (λ m. 3 + 2 * count_below path.now.key m + surplus_below path.now.key m)) self.old self.new) }
         ensures sent { OnOk result (Sent (AlwaysIn path.now.bucket (IsCleaning path.now.key) self.old.store.scene)
             self.old self.new) }
     {
@@ -123,6 +128,8 @@ impl Session {
         ensures did { IfOk result (λ what. Did path.now (Fills path.now.key) filled_line self.old.store.scene
             what self.new.store.scene) }
         ensures asked { OnOk result (Asked (FillMarkersSends path.now self.old.store.scene) self.old self.new) }
+        ensures few { OnOk result (AtMost (most_on path.now self.old.store.scene
+            (λ m. 3 + 2 * count_below path.now.key m + missing_below path.now.key m)) self.old self.new) }
         ensures sent { OnOk result (Sent (AlwaysIn path.now.bucket (IsFilling path.now.key) self.old.store.scene)
             self.old self.new) }
     {

@@ -1,9 +1,9 @@
 ghost use Rattle.std.specs.Prelude.{◌≡◌, IfOk, OnOk};
-ghost use Rattle.copy_tree.specs.Public.{StandsCopied};
-ghost use Rattle.fs_rename.specs.Public.{StandsWhole};
+ghost use Rattle.copy_tree.specs.Public.{StandsCopied, most_copies};
+ghost use Rattle.fs_rename.specs.Public.{StandsWhole, most_moves};
 ghost use Rattle.s3a_shell.specs.Moving.{route, refused_move, said_of_move, DidMove, refused_copy, copied_line, said_of_copy, DidCopy};
 ghost use Rattle.s3a_shell.specs.Asking.{MoveSends, CopyTreeSends};
-ghost use Rattle.s3a_shell.specs.Sendings.{IsCounted, Sent, Asked};
+ghost use Rattle.s3a_shell.specs.Sendings.{IsCounted, Sent, Asked, AtMost};
 
 use crate::said::{Said, fine, refusing};
 use crate::session::{EVENT, RETRIES, Session, wanting};
@@ -83,6 +83,7 @@ impl Session {
         requires { IsCounted self.old }
         ensures did { IfOk result (λ what. DidMove from.now to.now self.old.store.scene what self.new.store.scene) }
         ensures asked { OnOk result (Asked (MoveSends from.now to.now self.old.store.scene) self.old self.new) }
+        ensures few { OnOk result (AtMost (most_moves (route from.now to.now) self.old.store.scene) self.old self.new) }
         ensures sent { OnOk result (Sent (StandsWhole (route from.now to.now) self.old.store.scene)
             self.old self.new) }
     {
@@ -101,6 +102,7 @@ impl Session {
         requires { IsCounted self.old }
         ensures did { IfOk result (λ what. DidCopy from.now to.now self.old.store.scene what self.new.store.scene) }
         ensures asked { OnOk result (Asked (CopyTreeSends from.now to.now self.old.store.scene) self.old self.new) }
+        ensures few { OnOk result (AtMost (most_copies (route from.now to.now) self.old.store.scene) self.old self.new) }
         ensures sent { OnOk result (Sent (StandsCopied (route from.now to.now) self.old.store.scene)
             self.old self.new) }
     {

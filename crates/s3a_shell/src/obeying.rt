@@ -6,7 +6,8 @@ ghost use Rattle.s3_types.specs.declared.request.Actor.TheVariants as actors;
 ghost use Rattle.machine.specs.Counted.{AreAnswered};
 ghost use Rattle.machine.specs.Turns.{AreBy};
 ghost use Rattle.s3a_shell.specs.Asking.{MaySend};
-ghost use Rattle.s3a_shell.specs.Sendings.{IsCounted, Sent, Asked, is_refusal, is_taken, is_change, has_changed};
+ghost use Rattle.s3a_shell.specs.Most.{most_requests};
+ghost use Rattle.s3a_shell.specs.Sendings.{IsCounted, Sent, Asked, AtMost, is_refusal, is_taken, is_change, has_changed};
 ghost use Rattle.s3a_shell.specs.Doings.{is_of_shell, only_looks, Does, MayStandAt};
 ghost use Rattle.s3_service.specs.Ids.{AreBelow};
 ghost use Rattle.store_frame.specs.Held.{upload_at};
@@ -80,6 +81,7 @@ impl Session {
         ensures reads { OnOk result (only_looks command.now ≡ true
             → has_changed self.new.journal.entries ≡ has_changed self.old.journal.entries) }
         ensures asked { OnOk result (Asked (MaySend command.now bytes.now self.old.store.scene) self.old self.new) }
+        ensures few { OnOk result (AtMost (most_requests command.now bytes.now self.old.store.scene) self.old self.new) }
         ensures sent { OnOk result (Sent (MayStandAt command.now bytes.now self.old.store.scene) self.old self.new) }
     {
         match command {
@@ -142,8 +144,9 @@ impl Session {
 /// answered that is no read and no list and was not refused; where it is false, the store is as it was, and so it is
 /// where the command was refused. At any moment, wherever it stops, there stands what may stand then of the command
 /// (`MayStandAt`). Each request is one of the command's operation (`MaySend`): what a command does not want it does not
-/// send. One that only looks sends no change, and at the end no upload is live that the command began. Markers are kept,
-/// but by `put-drop`, and each request is sent once. (Hadoop FileSystem specification.)
+/// send. It sends at most as many requests as `most_requests` gives, by what its bucket holds. One that only looks sends
+/// no change, and at the end no upload is live that the command began. Markers are kept, but by `put-drop`, and each
+/// request is sent once. (Hadoop FileSystem specification.)
 pub fn shell(
     alloc: Global,
     command: &Command,
@@ -163,6 +166,7 @@ pub fn shell(
     ensures honest { IfOk result (λ end. IsHonest service end.journal.entries) }
     ensures asked { IfOk result (λ end.
         AllByRecursion (λ e. MaySend command.now bytes (opening service) e.request) end.journal.entries) }
+    ensures few { IfOk result (λ end. length end.journal.entries ≤ most_requests command.now bytes (opening service)) }
     ensures moments { IfOk result (λ end. (m : ℕ) →
         MayStandAt command.now bytes (opening service) (moment service end.journal.entries m)) }
     ensures changed { IfOk result (λ end. end.changed ≡ has_changed end.journal.entries) }

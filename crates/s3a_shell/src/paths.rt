@@ -1,11 +1,13 @@
-ghost use Rattle.std.specs.Prelude.{◌≡◌, ◌++◌, IfOk, OnOk, string_bytes};
+ghost use Rattle.std.specs.Prelude.{◌≡◌, ◌+◌, ◌*◌, ◌++◌, length, IfOk, OnOk, string_bytes};
+ghost use Rattle.dir_markers.specs.Markers.{keys_above};
 ghost use Rattle.bucket_ops.specs.Phases.{AlwaysIn};
 ghost use Rattle.fs_tree.specs.Answers.{Stats, Reads, Lists, Makes, Deletes};
 ghost use Rattle.fs_ops.specs.code.Make as make;
 ghost use Rattle.bucket_ops.specs.Uploads.{IsStill};
 ghost use Rattle.s3a_shell.specs.Texts.{status_line, entry_line, entry_lines, bytes_alone, nothing, said};
 ghost use Rattle.s3a_shell.specs.Asking.{LooksIn, MakeSends, DeleteSends};
-ghost use Rattle.s3a_shell.specs.Sendings.{IsCounted, Sent, Asked, has_changed};
+ghost use Rattle.s3a_shell.specs.Most.{children_below, count_below, most_on};
+ghost use Rattle.s3a_shell.specs.Sendings.{IsCounted, Sent, Asked, AtMost, has_changed};
 ghost use Rattle.s3a_shell.specs.Doings.{Did, DeletedSome};
 
 use crate::said::{Said, bytes_said, fine, nothing_said, refused};
@@ -78,6 +80,7 @@ impl Session {
             what self.new.store.scene) }
         ensures looks { OnOk result (has_changed self.new.journal.entries ≡ has_changed self.old.journal.entries) }
         ensures asked { OnOk result (Asked (LooksIn path.now.bucket) self.old self.new) }
+        ensures few { OnOk result (AtMost (most_on path.now self.old.store.scene (λ m. 2)) self.old self.new) }
         ensures sent { OnOk result (Sent (IsStill self.old.store.scene) self.old self.new) }
     {
         let stat = Stat::new(self.alloc, path)?;
@@ -92,6 +95,8 @@ impl Session {
             what self.new.store.scene) }
         ensures looks { OnOk result (has_changed self.new.journal.entries ≡ has_changed self.old.journal.entries) }
         ensures asked { OnOk result (Asked (LooksIn path.now.bucket) self.old self.new) }
+        ensures few { OnOk result (AtMost (most_on path.now self.old.store.scene (λ m. 2 + children_below path.now.key m))
+            self.old self.new) }
         ensures sent { OnOk result (Sent (IsStill self.old.store.scene) self.old self.new) }
     {
         let dir = ListDir::new(self.alloc, path)?;
@@ -106,6 +111,7 @@ impl Session {
             what self.new.store.scene) }
         ensures looks { OnOk result (has_changed self.new.journal.entries ≡ has_changed self.old.journal.entries) }
         ensures asked { OnOk result (Asked (LooksIn path.now.bucket) self.old self.new) }
+        ensures few { OnOk result (AtMost (most_on path.now self.old.store.scene (λ m. 2)) self.old self.new) }
         ensures sent { OnOk result (Sent (IsStill self.old.store.scene) self.old self.new) }
     {
         let file = ReadFile::new(self.alloc, path)?;
@@ -119,6 +125,8 @@ impl Session {
         ensures did { IfOk result (λ what. Did path.now (Makes path.now.key) nothing self.old.store.scene
             what self.new.store.scene) }
         ensures asked { OnOk result (Asked (MakeSends path.now self.old.store.scene) self.old self.new) }
+        ensures few { OnOk result (AtMost (most_on path.now self.old.store.scene (λ m. 3 + length (keys_above path.now.key)))
+            self.old self.new) }
         ensures sent { OnOk result (Sent (AlwaysIn path.now.bucket (make.always path.now.key) self.old.store.scene)
             self.old self.new) }
     {
@@ -133,6 +141,8 @@ impl Session {
         ensures did { IfOk result (λ what. Did path.now (Deletes recursive path.now.key) nothing self.old.store.scene
             what self.new.store.scene) }
         ensures asked { OnOk result (Asked (DeleteSends recursive path.now self.old.store.scene) self.old self.new) }
+        ensures few { OnOk result (AtMost (most_on path.now self.old.store.scene (λ m. 6 + 2 * count_below path.now.key m))
+            self.old self.new) }
         ensures sent { OnOk result (Sent (DeletedSome recursive path.now self.old.store.scene) self.old self.new) }
     {
         let deletion = DeletePath::new(self.alloc, path, recursive)?;

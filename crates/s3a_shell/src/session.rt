@@ -1,9 +1,10 @@
 ghost use Rattle.std.specs.Prelude.{◌≡◌, ◌≢◌, ◌≤◌, ◌<◌, ◌+◌, ◌^◌, ◌++◌, ◌∷◌, [], length, IfOk, OnOk};
 ghost use Rattle.s3_types.specs.Store.{opening};
 ghost use Rattle.s3_types.specs.Answer.{answer, apply};
-ghost use Rattle.bucket_ops.specs.Phases.{GivesIn, AlwaysIn, SendsIn};
+ghost use Rattle.bucket_ops.specs.Asks.{objects_at};
+ghost use Rattle.bucket_ops.specs.Phases.{GivesIn, AlwaysIn, SendsIn, left_at};
 ghost use Rattle.s3_service.specs.Ids.{AreBelow};
-ghost use Rattle.s3a_shell.specs.Sendings.{IsCounted, Sent, Asked, answered_by};
+ghost use Rattle.s3a_shell.specs.Sendings.{IsCounted, Sent, Asked, AtMost, answered_by};
 
 use bucket_ops::{Phases, perform_in};
 use machine::DriveStop;
@@ -63,6 +64,9 @@ impl Session {
             answer self.new.store.scene) }
         ensures asked { OnOk result (Asked
             (SendsIn path.now.bucket (O.asks operation (O.first operation)) (O.sends operation) self.old.store.scene)
+            self.old self.new) }
+        ensures few { OnOk result (AtMost
+            (left_at (objects_at self.old.store.scene path.now.bucket) O.left operation (O.first operation) + 1)
             self.old self.new) }
         ensures sent { OnOk result (Sent (AlwaysIn path.now.bucket (O.always operation) self.old.store.scene)
             self.old self.new) }

@@ -1,9 +1,10 @@
-ghost use Rattle.std.specs.Prelude.{◌≡◌, ◌++◌, [], None, IfOk, OnOk, string_bytes};
+ghost use Rattle.std.specs.Prelude.{◌≡◌, ◌+◌, ◌*◌, ◌++◌, [], length, None, IfOk, OnOk, string_bytes};
 ghost use Rattle.s3_types.specs.Answer.{apply};
 ghost use Rattle.path_keys.specs.Paths.{below};
 ghost use Rattle.bucket_ops.specs.Uploads.{uploads_from, IsStill, IsPageOf};
 ghost use Rattle.s3a_shell.specs.Asking.{lists, OnOne, UploadSends};
-ghost use Rattle.s3a_shell.specs.Sendings.{IsCounted, Sent, Asked, AppliedOrNot, has_changed};
+ghost use Rattle.s3a_shell.specs.Most.{uploads_at};
+ghost use Rattle.s3a_shell.specs.Sendings.{IsCounted, Sent, Asked, AtMost, AppliedOrNot, has_changed};
 ghost use Rattle.s3a_shell.specs.Uploading.{bytes_in, upload_line, aborted_line, sizes_in, asked_line, asked_lines};
 ghost use Rattle.s3a_shell.specs.Uploading.{aborts, after_aborts, AfterSome, DidList, DidAbort, AbortedSome};
 
@@ -74,6 +75,7 @@ impl Session {
         ensures same { OnOk result (self.new.store.scene ≡ self.old.store.scene) }
         ensures looks { OnOk result (has_changed self.new.journal.entries ≡ has_changed self.old.journal.entries) }
         ensures asked { OnOk result (Asked (IsPageOf path.now.bucket (below path.now.key [])) self.old self.new) }
+        ensures few { OnOk result (AtMost (1 + uploads_at path.now self.old.store.scene) self.old self.new) }
         ensures sent { OnOk result (Sent (IsStill self.old.store.scene) self.old self.new) }
     {
         let bucket = path.bucket().clone()?;
@@ -106,6 +108,7 @@ impl Session {
         ensures same { OnOk result (self.new.store.scene ≡ self.old.store.scene) }
         ensures looks { OnOk result (has_changed self.new.journal.entries ≡ has_changed self.old.journal.entries) }
         ensures asked { OnOk result (Asked (λ r. r ≡ lists bucket.now upload.now) self.old self.new) }
+        ensures few { OnOk result (AtMost 1 self.old self.new) }
         ensures sent { OnOk result (Sent (IsStill self.old.store.scene) self.old self.new) }
     {
         let request = Request::list_parts(bucket, &upload.key, upload.upload)?;
@@ -129,6 +132,7 @@ impl Session {
         ensures same { OnOk result (self.new.store.scene ≡ self.old.store.scene) }
         ensures looks { OnOk result (has_changed self.new.journal.entries ≡ has_changed self.old.journal.entries) }
         ensures asked { OnOk result (Asked (OnOne lists bucket.now uploads.now) self.old self.new) }
+        ensures few { OnOk result (AtMost (length uploads.now) self.old self.new) }
         ensures sent { OnOk result (Sent (IsStill self.old.store.scene) self.old self.new) }
     {
         let mut lines = String::new(self.alloc);
@@ -144,6 +148,7 @@ impl Session {
         ensures did { IfOk result (λ what. DidList path.now self.old.store.scene what self.new.store.scene) }
         ensures looks { OnOk result (has_changed self.new.journal.entries ≡ has_changed self.old.journal.entries) }
         ensures asked { OnOk result (Asked (UploadSends lists path.now self.old.store.scene) self.old self.new) }
+        ensures few { OnOk result (AtMost (1 + 2 * uploads_at path.now self.old.store.scene) self.old self.new) }
         ensures sent { OnOk result (Sent (IsStill self.old.store.scene) self.old self.new) }
     {
         match self.live_uploads(path)? {
@@ -158,6 +163,7 @@ impl Session {
         ensures scene { OnOk result (self.new.store.scene ≡ apply self.old.store.scene
             (Request.AbortUpload bucket.now upload.now.key upload.now.upload)) }
         ensures asked { OnOk result (Asked (λ r. r ≡ aborts bucket.now upload.now) self.old self.new) }
+        ensures few { OnOk result (AtMost 1 self.old self.new) }
         ensures sent { OnOk result (Sent (AppliedOrNot (aborts bucket.now upload.now) self.old.store.scene)
             self.old self.new) }
     {
@@ -179,6 +185,7 @@ impl Session {
         requires { IsCounted self.old }
         ensures scene { OnOk result (self.new.store.scene ≡ after_aborts self.old.store.scene bucket.now uploads.now) }
         ensures asked { OnOk result (Asked (OnOne aborts bucket.now uploads.now) self.old self.new) }
+        ensures few { OnOk result (AtMost (length uploads.now) self.old self.new) }
         ensures sent { OnOk result (Sent (AfterSome bucket.now uploads.now self.old.store.scene) self.old self.new) }
     {
         for upload in uploads {
@@ -192,6 +199,7 @@ impl Session {
         requires { IsCounted self.old }
         ensures did { IfOk result (λ what. DidAbort path.now self.old.store.scene what self.new.store.scene) }
         ensures asked { OnOk result (Asked (UploadSends aborts path.now self.old.store.scene) self.old self.new) }
+        ensures few { OnOk result (AtMost (1 + 2 * uploads_at path.now self.old.store.scene) self.old self.new) }
         ensures sent { OnOk result (Sent (AbortedSome path.now self.old.store.scene) self.old self.new) }
     {
         match self.live_uploads(path)? {

@@ -4,6 +4,8 @@ use Rattle.s3a_shell.proofs.Common.{upload_at, ℕ, ◌∙◌, ◌≡◌, ◌≤
 use Rattle.s3a_shell.specs.declared.obeying.ShellEnd.{ShellEnd}
 use Rattle.s3a_shell.proofs.Ending.{all_moments, all_by, all_answered, all_honest, did_at, only_at, ended_at, undone_at, same_at, content_at}
 use Rattle.s3a_shell.specs.Asking.{MaySend}
+use Rattle.s3a_shell.specs.Most.{most_requests}
+use Rattle.s3a_shell.proofs.Few.{all_few}
 use Rattle.s3a_shell.proofs.Asking.{all_asked}
 use Rattle.s3a_shell.proofs.obeying.shell.Goals as goal
 
@@ -70,3 +72,10 @@ returns-in-Ok-clause-asked c =
     end.journal.entries) (sym c.ended.ensures.end)
     (all_asked c.args.command.now c.args.bytes c.args.service c.new-session.result c.obey.new.self c.new-session.ensures.entries
     c.new-session.ensures.scene c.in-Ok.ensures.asked)
+
+pub returns-in-Ok-clause-few : goal.returns-in-Ok-clause-few
+returns-in-Ok-clause-few c =
+    subst (λ (end : ShellEnd). length end.journal.entries ≤ most_requests c.args.command.now c.args.bytes (opening c.args.service))
+    (sym c.ended.ensures.end)
+    (all_few c.args.command.now c.args.bytes c.args.service c.new-session.result c.obey.new.self c.new-session.ensures.entries
+    c.new-session.ensures.scene c.in-Ok.ensures.few)

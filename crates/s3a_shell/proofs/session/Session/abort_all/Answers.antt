@@ -2,6 +2,7 @@ use Rattle.s3a_shell.proofs.Common.{UploadRef, [], ap, sym, take, take_more, ◌
 use Rattle.s3a_shell.specs.Uploading.{aborts}
 use Rattle.s3a_shell.proofs.Asking.{in_take, one_more}
 use Rattle.s3a_shell.proofs.Aborting.{more_aborted, sent_more}
+use Rattle.s3a_shell.proofs.Few.{few_more}
 use Rattle.s3a_shell.proofs.session.Session.abort_all.Goals as goal
 
 pub loop-upload-preserved : goal.loop-upload-preserved
@@ -16,6 +17,7 @@ loop-upload-preserved c =
     let scene = more_aborted z c.loop-upload.self.store.scene c.abort.new.self.store.scene c.args.bucket.now us i x front e.scene v.scene in
     record {
       scene = scene;
+      few = few_more i _ _ _ v.few e.few;
       asked = one_more aborts c.args.bucket.now us x _ _ _ (in_take (i + 1) us (take i us) x front) v.asked
           e.asked;
       sent = sent_more z c.args.bucket.now us i x _ _ _ front v.scene v.sent e.sent;

@@ -1,4 +1,5 @@
 use Rattle.s3a_shell.specs.Asking.{OnOne}
+use Rattle.s3a_shell.specs.Sendings.{AtMost}
 use Rattle.s3a_shell.specs.Uploading.{aborts}
 use Rattle.s3a_shell.proofs.Common.{AfterSome, Asked, Sent, after_aborts, take, ◌≡◌}
 use Rattle.s3a_shell.proofs.session.Session.abort_all.Given as goal
@@ -6,6 +7,7 @@ use Rattle.s3a_shell.proofs.session.Session.abort_all.Given as goal
 abbrev pub invariant-loop-upload : goal.invariant-loop-upload
 invariant-loop-upload l = record {
   scene : l.self.store.scene ≡ after_aborts l.fn.self.store.scene l.bucket (take l.upload-index l.uploads);
+  few : AtMost l.upload-index l.fn.self l.self;
   asked : Asked (OnOne aborts l.bucket l.uploads) l.fn.self l.self;
   sent : Sent (AfterSome l.bucket l.uploads l.fn.self.store.scene) l.fn.self l.self;
 }

@@ -5,6 +5,8 @@ use Rattle.s3a_shell.proofs.Performing.{between_if, sent, on_ok}
 use Rattle.s3a_shell.proofs.Asking.{between_asked}
 use Rattle.copy_tree.specs.Public.{CopySends}
 use Rattle.s3a_shell.proofs.Performing.{asked}
+use Rattle.s3a_shell.proofs.Few.{between_few}
+use Rattle.copy_tree.specs.Public.{most_copies}
 use Rattle.s3a_shell.proofs.session.Session.copy.Goals as goal
 
 pub returns-in-Ok-clause-did : goal.returns-in-Ok-clause-did
@@ -26,3 +28,10 @@ returns-in-Ok-clause-asked c =
     on_ok c.copy_said.result
     (between_asked CopySends c.args.from.now c.args.to.now c.in_ok-copy.copy c.args.self.now.store.scene _ _ c.in_ok-copy.ensures
     (asked _ _ _ _ _ c.in-Ok.ensures.performed) c.in-Ok.ensures.unsent)
+
+pub returns-in-Ok-clause-few : goal.returns-in-Ok-clause-few
+returns-in-Ok-clause-few c =
+    let done = c.in-Ok.ensures.performed in
+    on_ok c.copy_said.result
+    (between_few most_copies c.args.from.now c.args.to.now c.in_ok-copy.copy c.args.self.now.store.scene _ _ c.in_ok-copy.ensures
+    c.in-Ok.ensures.few done.part done.appended)

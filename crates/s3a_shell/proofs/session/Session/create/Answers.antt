@@ -5,6 +5,7 @@ use Rattle.s3a_shell.proofs.Performing.{answered, sent, on_ok, file_if, file_sta
 use Rattle.s3a_shell.proofs.Asking.{file_asked}
 use Rattle.s3_types.specs.Blocks.{block_of}
 use Rattle.s3a_shell.proofs.Performing.{asked}
+use Rattle.s3a_shell.proofs.Few.{file_few}
 use Rattle.s3a_shell.proofs.session.Session.create.Goals as goal
 
 pub new-requires-clause-some : goal.new-requires-clause-some
@@ -42,3 +43,11 @@ returns-in-Ok-clause-asked c =
     c.in_ok-file.ensures.file c.in_ok-file.ensures.starts.1
     (c.block_of-block.ensures ∙ (λ i. block_of (length (c.as_slice.ensures i)) 0 (least i)))
     (asked _ _ _ _ _ c.in-Ok.ensures.performed))
+
+pub returns-in-Ok-clause-few : goal.returns-in-Ok-clause-few
+returns-in-Ok-clause-few c =
+    let done = c.in-Ok.ensures.performed in
+    on_ok c.nothing_said.result
+    (file_few c.args.path.now c.args.bytes.now c.in_ok-bytes.bytes c.block_of-block.result c.args.overwrite c.args.policy
+    c.args.self.now.store.scene _ _ c.in_ok-file.file c.in_ok-bytes.ensures.cases
+    c.in_ok-file.ensures.file c.in_ok-file.ensures.starts.1 c.in-Ok.ensures.few done.part done.appended)

@@ -3,6 +3,9 @@ use Rattle.fs_ops.specs.code.Make as make
 use Rattle.s3a_shell.proofs.Performing.{did_at, on_ok, sent_of}
 use Rattle.s3a_shell.proofs.Asking.{asked_of}
 use Rattle.fs_ops.specs.Prelude.{look_asks}
+use Rattle.s3a_shell.proofs.Few.{few_at, make_left}
+use Rattle.fs_ops.specs.Prelude.{keys_above}
+use Rattle.s3a_shell.proofs.Common.{length, ◌+◌}
 use Rattle.s3a_shell.proofs.session.Session.mkdir.Goals as goal
 
 pub returns-clause-did : goal.returns-clause-did
@@ -15,3 +18,8 @@ pub returns-clause-asked : goal.returns-clause-asked
 returns-clause-asked c = on_ok c.nothing_said.result
     (asked_of c.args.path.now.bucket look_asks make.sends c.args.self.now.store.scene _ _ _ _ c.in_ok-dirs.ensures
     c.in_ok-answer.ensures.asked)
+
+pub returns-clause-few : goal.returns-clause-few
+returns-clause-few c = on_ok c.nothing_said.result
+    (few_at make.left make.first (λ k m. 3 + length (keys_above k)) c.args.path.now.bucket c.args.self.now.store.scene _ _ _ _
+    (make_left c.in_ok-dirs.dirs) c.in_ok-dirs.ensures c.in_ok-answer.ensures.few)

@@ -1,5 +1,6 @@
 use Rattle.s3a_shell.proofs.Common.{AlwaysIn, Ask, Asked, List, Objects, Scene, SendsIn, Sent, Session, subst, ℕ, ◌∙◌, ◌≡◌}
 use Rattle.s3a_shell.proofs.Performing.{sent, asked}
+use Rattle.s3a_shell.proofs.Few.{few_in}
 use Rattle.s3a_shell.proofs.session.Session.perform_at.Goals as goal
 
 in_bucket : (b c : List ℕ) (always : Objects → Objects → Type 0) (z : Scene) (a d : Session) → b ≡ c → Sent (AlwaysIn b always z) a d → Sent (AlwaysIn c always z) a d
@@ -15,3 +16,9 @@ asked_in b c look sends z a d e h = subst (λ (b : List ℕ). Asked (SendsIn b l
 pub returns-in-Ok-clause-asked : goal.returns-in-Ok-clause-asked
 returns-in-Ok-clause-asked g c =
     asked_in _ _ (g.O.Phases.asks c.args.operation (g.O.Phases.first c.args.operation)) (g.O.Phases.sends c.args.operation) c.args.self.now.store.scene _ _ (c.in_ok-bucket.ensures.cases ∙ c.bucket.ensures) (asked _ _ _ _ _ c.in-Ok.ensures.performed)
+
+pub returns-in-Ok-clause-few : goal.returns-in-Ok-clause-few
+returns-in-Ok-clause-few g c =
+    let done = c.in-Ok.ensures.performed in
+    few_in _ _ g.O.Phases.left c.args.operation (g.O.Phases.first c.args.operation) c.args.self.now.store.scene _ _
+    (c.in_ok-bucket.ensures.cases ∙ c.bucket.ensures) c.in-Ok.ensures.few done.part done.appended

@@ -6,6 +6,8 @@ use Rattle.s3a_shell.proofs.Performing.{on_ok, none_stands}
 use Rattle.s3a_shell.proofs.Asking.{asked_none}
 use Rattle.s3a_shell.specs.Asking.{PutSends, PutSendsUnless}
 use Rattle.std.proofs.Common.{refl, arith, subst, sym}
+use Rattle.s3a_shell.proofs.Few.{few_none}
+use Rattle.s3a_shell.specs.Most.{most_put}
 use Rattle.s3a_shell.proofs.session.Session.put.Goals as goal
 
 -- an input of no more bytes than the most is not refused
@@ -31,3 +33,8 @@ returns-clause-asked c =
     in
     subst (λ (b : Bool). OnOk c.create.result (Asked (sends b) c.args.self.now c.create.new.self))
     (is_small c.args.bytes.now c.as_slice.result.now c.as_slice.ensures c.if-as_slice-gt-MOST_INPUT.false) c.create.ensures.asked
+
+pub returns-then-as_slice-gt-MOST_INPUT-clause-few :
+    goal.returns-then-as_slice-gt-MOST_INPUT-clause-few
+returns-then-as_slice-gt-MOST_INPUT-clause-few c =
+    on_ok c.refusing.result (few_none (most_put c.args.path.now c.args.bytes.now) c.args.self.now.journal.entries)

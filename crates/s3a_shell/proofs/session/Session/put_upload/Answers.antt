@@ -3,6 +3,7 @@ use Rattle.s3a_shell.proofs.Looking.{read_same}
 use Rattle.s3a_shell.proofs.Performing.{on_ok}
 use Rattle.s3a_shell.proofs.Joining.{sent_read, sent_one}
 use Rattle.s3a_shell.proofs.Asking.{asked_one}
+use Rattle.s3a_shell.proofs.Few.{few_one}
 use Rattle.s3a_shell.proofs.session.Session.put_upload.Goals as goal
 
 pub returns-in-Ok-clause-same : goal.returns-in-Ok-clause-same
@@ -27,5 +28,12 @@ pub returns-in-Ok-clause-asked : goal.returns-in-Ok-clause-asked
 returns-in-Ok-clause-asked c =
     on_ok c.put_reply-put.result
     (asked_one _ c.args.self.now c.write_down.new.self c.in_ok-request.request c.in-Ok.reply c.in_ok-request.ensures
+    (c.write_down.ensures.entries
+    ∙ ap (λ (l : List Entry). l ++ answered_by c.in_ok-request.request c.in-Ok.reply ∷ []) c.in-Ok.ensures.entries))
+
+pub returns-in-Ok-clause-few : goal.returns-in-Ok-clause-few
+returns-in-Ok-clause-few c =
+    on_ok c.put_reply-put.result
+    (few_one c.args.self.now.journal.entries c.write_down.new.self.journal.entries (answered_by c.in_ok-request.request c.in-Ok.reply)
     (c.write_down.ensures.entries
     ∙ ap (λ (l : List Entry). l ++ answered_by c.in_ok-request.request c.in-Ok.reply ∷ []) c.in-Ok.ensures.entries))

@@ -5,6 +5,8 @@ use Rattle.s3a_shell.proofs.Performing.{between_if, sent, on_ok}
 use Rattle.s3a_shell.proofs.Asking.{between_asked}
 use Rattle.fs_rename.specs.Public.{RenameSends}
 use Rattle.s3a_shell.proofs.Performing.{asked}
+use Rattle.s3a_shell.proofs.Few.{between_few}
+use Rattle.fs_rename.specs.Public.{most_moves}
 use Rattle.s3a_shell.proofs.session.Session.rename.Goals as goal
 
 pub returns-in-Ok-clause-did : goal.returns-in-Ok-clause-did
@@ -26,3 +28,10 @@ returns-in-Ok-clause-asked c =
     on_ok c.move_said.result
     (between_asked RenameSends c.args.from.now c.args.to.now c.in_ok-rename.rename c.args.self.now.store.scene _ _ c.in_ok-rename.ensures
     (asked _ _ _ _ _ c.in-Ok.ensures.performed) c.in-Ok.ensures.unsent)
+
+pub returns-in-Ok-clause-few : goal.returns-in-Ok-clause-few
+returns-in-Ok-clause-few c =
+    let done = c.in-Ok.ensures.performed in
+    on_ok c.move_said.result
+    (between_few most_moves c.args.from.now c.args.to.now c.in_ok-rename.rename c.args.self.now.store.scene _ _ c.in_ok-rename.ensures
+    c.in-Ok.ensures.few done.part done.appended)

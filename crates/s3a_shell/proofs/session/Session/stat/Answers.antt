@@ -2,6 +2,8 @@ use Rattle.s3a_shell.proofs.Common.{Stats, looks_there, status_line}
 use Rattle.s3a_shell.proofs.Looking.{looked_same}
 use Rattle.s3a_shell.proofs.Performing.{did_at, on_ok, sent_still}
 use Rattle.s3a_shell.proofs.Asking.{looked}
+use Rattle.s3a_shell.proofs.Few.{few_at, path_left}
+use Rattle.fs_ops.specs.code.AtPath as at_path
 use Rattle.s3a_shell.proofs.session.Session.stat.Goals as goal
 
 pub returns-clause-did : goal.returns-clause-did
@@ -17,3 +19,8 @@ pub returns-clause-asked : goal.returns-clause-asked
 returns-clause-asked c = on_ok c.status_said.result
     (looked c.args.path.now.bucket _ c.args.self.now.store.scene c.args.self.now c.perform_at.new.self (looks_there c.in_ok-stat.stat)
     c.in_ok-answer.ensures.asked)
+
+pub returns-clause-few : goal.returns-clause-few
+returns-clause-few c = on_ok c.status_said.result
+    (few_at at_path.left at_path.first (λ k m. 2) c.args.path.now.bucket c.args.self.now.store.scene _ _ _ _
+    (path_left c.in_ok-stat.stat) c.in_ok-stat.ensures c.in_ok-answer.ensures.few)
