@@ -1,0 +1,5 @@
+pub mod Entries
+pub mod Owned
+pub mod Dirs
+pub mod Reaches
+pub mod Tags

@@ -1,0 +1,13 @@
+use Rattle.std.proofs.Common.{ap, ◌∙◌, ℕ, List}
+use Rattle.std.specs.List.{list_any}
+use Rattle.soundness.specs.Claims.{is_below}
+use Rattle.audit_claims.specs.Directories.{Reached, has_dir}
+use Rattle.audit_claims.proofs.Reaches.{always_is}
+use Rattle.audit_claims.proofs.directories.Directories.is_always_reached.Goals as goal
+
+pub returns : goal.returns
+returns c = record {
+  reached = λ listed h.
+      c.reaches.ensures.below ∙ ap (λ (p : List ℕ). list_any (λ d. is_below d p) c.self.inside.always) c.as_bytes.ensures
+      ∙ always_is c.args.path.now listed c.self.inside.always (λ d. ap (λ (x : Reached). has_dir d x.always) c.self.view_is ∙ h.always d);
+}

@@ -1,0 +1,8 @@
+use Rattle.std.proofs.Common.{◌∙◌}
+use Rattle.basics.specs.Order.{text_eq}
+use Rattle.audit_claims.proofs.Entries.{insert_new}
+use Rattle.audit_claims.proofs.files.TagFiles.add.Goals as goal
+
+pub returns-in-Ok-clause-ok : goal.returns-in-Ok-clause-ok
+returns-in-Ok-clause-ok c = c.in-Ok.ensures.entries ∙ insert_new text_eq c.self.inside.files c.args.path c.args.etags c.args.self.now
+    c.self.view_is c.requires.other

@@ -1,0 +1,13 @@
+use Rattle.std.proofs.Common.{◌∙◌, ap}
+use Rattle.std.specs.FinMap as map
+use Rattle.basics.specs.Order.{text_total}
+use Rattle.basics.proofs.Common.{exact_bytes}
+use Rattle.basics.proofs.Tree.{made_remove}
+use Rattle.audit_claims.proofs.path_tags.PathTags.remove.Goals as goal
+
+pub returns : goal.returns
+returns c = record {
+  gone =
+      made_remove text_total exact_bytes c.self.inside.tags.entries c.remove.new.self.entries c.args.path.now c.remove.ensures.updates.0
+      ∙ ap (λ m. map.remove m c.args.path.now) c.self.view_is;
+}

@@ -1,0 +1,37 @@
+-- The claim of a trace, as its lines list it.
+use Rattle.std.specs.Prelude.{◌≡◌, ◌<◌, ℕ, List, [], Bool, is_some, length}
+use Rattle.std.specs.Map.{lookup}
+use Rattle.basics.specs.Order.{text_eq}
+use Rattle.soundness.specs.Claims.{file_at}
+use Rattle.judging.specs.Listed.{Listed, last_files, numbered, owner, with_attempt}
+
+-- The identity of a content: the tags of its parts.
+abbrev pub Tags : Type 0
+Tags = List (List ℕ)
+
+-- The attempts that are listed, and the task of the last one.
+pub record Claimed : Type 0 where
+  pub listed : Listed Tags
+  pub current : ℕ
+
+-- The last attempt that was listed has a file at this path.
+abbrev pub last_has : Claimed → List ℕ → Bool
+last_has c p = is_some (file_at (last_files (numbered c.current c.listed)) p)
+
+-- The claim with one more attempt, which is then the last one.
+abbrev pub with_next : ℕ → ℕ → Claimed → Claimed
+with_next t a c = record { listed = with_attempt t a c.listed; current = t }
+
+-- Every number below this is the number of a task with an attempt.
+abbrev pub AllListed : Listed Tags → ℕ → Type 0
+AllListed listed tasks = (t : ℕ) → t < tasks → 0 < length (numbered t listed)
+
+-- The task of this number has no attempt, and each one before it has some.
+pub record IsFirstMissing (listed : Listed Tags) (t : ℕ) : Type 0 where
+  pub missing : numbered t listed ≡ []
+  pub before : AllListed listed t
+
+-- The index names for each path the task that owns it, and where attempts are listed, the task of the last one has some.
+pub record IsIndexed (listed : Listed Tags) (index : List (List ℕ × ℕ)) (current : ℕ) : Type 0 where
+  pub owners : (p : List ℕ) → lookup (text_eq p) index ≡ owner p listed
+  pub some : 0 < length listed → 0 < length (numbered current listed)

@@ -1,0 +1,4 @@
+pub mod Claims
+pub mod Etags
+pub mod Fits
+pub mod Directories
