@@ -1,0 +1,3 @@
+pub mod LinesOf
+pub mod Reading
+pub mod Buffers
