@@ -4,7 +4,8 @@
 //!
 //! `run`: Of `job`, `twins` and `gen` the headline, as `README.md` tells it (`job`). Of every other command, by
 //! what the shelf holds, what it does (`IsWork` of `s3a_shell`) was said or kept, with the bytes of
-//! its input, and the shelf was called for that and no more (`StoreDone`); a command that only looks, was refused, or sent
+//! its input and with no more requests than `most_requests` of `s3a_shell` gives, and the shelf was called for that and
+//! no more (`StoreDone`); a command that only looks, was refused, or sent
 //! nothing that may change the store, leaves the shelf as it was loaded (`untouched`); or the shelf or the input
 //! failed, or memory was wanting, before anything was done (`StoreStopped`); a crash meanwhile leaves
 //! what one before might, or a moment of what was kept, and after status 0 what is kept; no picks and
