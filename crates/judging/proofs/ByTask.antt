@@ -1,7 +1,11 @@
 -- A judge may look at each task on its own.
-use Rattle.judging.proofs.Common.{All, All-from_recursion, Any, Apart, Attempts, ByTask, Chooses, EachTask, Claim, Explains, Files}
-use Rattle.judging.proofs.Common.{StillExplains, List, MayShow, Moment, Option, Shown, chosen_at, false, get_or, inl, inr, is_claimed}
-use Rattle.judging.proofs.Common.{length, recursion_from_All, subst, sym, true, ℕ, ◌<◌, ◌≡◌, ◌⊎◌}
+use Rattle.std.proofs.Common.{List, Option, false, get_or, inl, inr, length, subst, sym, true, ℕ, ◌<◌, ◌≡◌, ◌⊎◌}
+use Rattle.std.proofs.lemmas.List.Elements.{All-from_recursion, recursion_from_All}
+use Rattle.std.specs.List.{All, Any}
+use Rattle.soundness.specs.Claims.{Apart, Attempts, Chooses, Claim, Files, chosen_at, is_claimed}
+use Rattle.soundness.specs.Moments.{Explains, MayShow, Moment, Shown}
+use Rattle.judging.specs.Judging.{EachTask, StillExplains}
+use Rattle.judging.specs.Laws.{ByTask}
 use Rattle.judging.proofs.Owned.{Right, RightChoice, each_right, either, none_chosen, some_choice}
 
 -- at each of the moments f may be written at the path

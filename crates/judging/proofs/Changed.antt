@@ -1,9 +1,18 @@
 -- Of a moment that differs from the one before at some paths alone, these paths tell.
-use Rattle.judging.proofs.Common.{All, All-push, AttemptExplains, Attempts, Begins, Bool, Claim, Contains, Contains-from_any, DifferAt}
-use Rattle.judging.proofs.Common.{Files, Fits, List, MayShow, Moment, None, Option, OthersFit, Shown, Some, StillExplains, Unchanged}
-use Rattle.judging.proofs.Common.{WhereChanged, Whole, [], bytes_eq, bytes_eq-Decides, false, false≢true, file_at, get_or, inl, inr}
-use Rattle.judging.proofs.Common.{is_claimed, is_kept, is_replaced, list_any, list_any_at, refl, subst, sym, true, true≢false, writes, ℕ}
-use Rattle.judging.proofs.Common.{◌++◌, ◌↔◌, ◌∙◌, ◌∷◌, ◌≡◌, ◌≢◌, ◌⊎◌}
+use Rattle.std.proofs.Common.{Bool, List, None, Option, Some, [], false, get_or, inl, inr, refl, subst, sym, true, ℕ, ◌++◌, ◌∙◌}
+use Rattle.std.proofs.Common.{◌∷◌, ◌≡◌, ◌≢◌, ◌⊎◌}
+use Rattle.std.proofs.lemmas.Bool.{false≢true, true≢false}
+use Rattle.std.proofs.lemmas.List.Elements.{All-push}
+use Rattle.std.proofs.lemmas.List.Folds.{list_any_at}
+use Rattle.std.proofs.lemmas.Map.Views.{Contains-from_any}
+use Rattle.std.proofs.lemmas.Slice.Eq.{bytes_eq-Decides}
+use Rattle.std.specs.List.{All, Contains, list_any}
+use Rattle.std.specs.Prelude.{◌↔◌}
+use Rattle.std.specs.Str.{bytes_eq}
+use Rattle.soundness.specs.Claims.{Attempts, Claim, Files, file_at, is_claimed, is_kept, is_replaced, writes}
+use Rattle.soundness.specs.Moments.{Fits, MayShow, Moment, Shown, Unchanged, Whole}
+use Rattle.judging.specs.Judging.{AttemptExplains, Begins, DifferAt, OthersFit, StillExplains}
+use Rattle.judging.specs.Laws.{WhereChanged}
 use Rattle.judging.proofs.InTurn.{both_of}
 use Rattle.judging.proofs.Owned.{either}
 use Rattle.soundness.specs.declared.marker.Marker.TheVariants as markers

@@ -1,6 +1,11 @@
 -- A judge may look at one moment at a time.
-use Rattle.judging.proofs.Common.{All, All-pop, All-push, Any, Attempts, Unchanged, Claim, OthersFit, AttemptExplains, InTurn}
-use Rattle.judging.proofs.Common.{StillExplains, Judged, JudgedNext, List, Moment, Shown, Some, [], get_or, inl, inr, refl, ◌++◌, ◌∷◌}
+use Rattle.std.proofs.Common.{List, Some, [], get_or, inl, inr, refl, ◌++◌, ◌∷◌}
+use Rattle.std.proofs.lemmas.List.Elements.{All-pop, All-push}
+use Rattle.std.specs.List.{All, Any}
+use Rattle.soundness.specs.Claims.{Attempts, Claim}
+use Rattle.soundness.specs.Moments.{Unchanged, Moment, Shown}
+use Rattle.judging.specs.Judging.{OthersFit, AttemptExplains, StillExplains, Judged, JudgedNext}
+use Rattle.judging.specs.Laws.{InTurn}
 use Rattle.judging.proofs.ByTask.{by_task}
 
 pub both_of : {X : Type 0} (P : X → Type 0) (xs : List X) (x : X) → All P (xs ++ x ∷ []) → All P xs × P x

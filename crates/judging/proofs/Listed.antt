@@ -1,10 +1,20 @@
 -- What a claim says of its tasks and paths, by the attempts that are listed.
-use Rattle.judging.proofs.Common.{Any, Any-from_list_any, Apart, Attempts, Bool, List, Listed, ListedBelow, ListedClaims}
-use Rattle.judging.proofs.Common.{ListedOnce, None, Numbered, Some, [], always_reaches, ap, arith, by_task, bytes_eq, bytes_eq-Decides}
-use Rattle.judging.proofs.Common.{cond, directory, eq-eqb, eqb-true, false, file_at, files_of, get_or, inl, inr, is_below, is_claimed, is_some}
-use Rattle.judging.proofs.Common.{length, list_all, list_any, list_any_at, lookup, nat_eq, numbered, of_task, owner, reaches, refl}
-use Rattle.judging.proofs.Common.{slice_get, slice_get-get_or, subst, suc, sym, true, true≢false, unwrap_or, writes, writes_among, writes_into}
-use Rattle.judging.proofs.Common.{zero, ℕ, ◌&&◌, ◌+◌, ◌<◌, ◌||◌, ◌↔◌, ◌∙◌, ◌∷◌, ◌≡◌, ◌≢◌}
+use Rattle.std.proofs.Common.{Bool, List, None, Some, [], ap, arith, cond, false, get_or, inl, inr, length, refl, subst, suc, sym}
+use Rattle.std.proofs.Common.{true, zero, ℕ, ◌+◌, ◌<◌, ◌||◌, ◌∙◌, ◌∷◌, ◌≡◌, ◌≢◌}
+use Rattle.std.proofs.lemmas.Bool.{eq-eqb, eqb-true, true≢false}
+use Rattle.std.proofs.lemmas.List.Folds.{Any-from_list_any, list_any_at}
+use Rattle.std.proofs.lemmas.Option.{slice_get-get_or}
+use Rattle.std.proofs.lemmas.Slice.Eq.{bytes_eq-Decides}
+use Rattle.std.specs.List.{Any, list_all, list_any}
+use Rattle.std.specs.Map.{lookup}
+use Rattle.std.specs.Option.{unwrap_or}
+use Rattle.std.specs.Prelude.{is_some, nat_eq, slice_get, ◌&&◌, ◌↔◌}
+use Rattle.std.specs.Str.{bytes_eq}
+use Rattle.soundness.specs.Claims.{Apart, Attempts, always_reaches, directory, file_at, is_below, is_claimed, reaches, writes}
+use Rattle.soundness.specs.Claims.{writes_into}
+use Rattle.judging.specs.Laws.{ListedClaims}
+use Rattle.judging.specs.Listed.{Listed, ListedBelow, ListedOnce, Numbered, by_task, files_of, numbered, of_task, owner}
+use Rattle.judging.specs.Listed.{writes_among}
 use Rattle.judging.proofs.Owned.{either}
 
 -- ---- tests
@@ -63,7 +73,8 @@ module _ {I : Type 0} (listed : Listed I) where
 -- ---- the listed tasks
 
 -- a task that is not found is none of those
-not_there : {I : Type 0} (t : ℕ) (listed : Listed I) → lookup (nat_eq t) listed ≡ None → (i : ℕ) (d : ℕ × Numbered I) → i < length listed
+not_there : {I : Type 0} (t : ℕ) (listed : Listed I) → lookup (nat_eq t) listed ≡ None
+    → (i : ℕ) (d : ℕ × Numbered I) → i < length listed
     → nat_eq t (get_or listed i d).0 ≡ true → ⊥
 not_there t [] none i d l same = omega (arith, l)
 not_there t (x ∷ xs) none zero d l same = cc (sym none, ap (λ b. cond b (Some x.1) (lookup (nat_eq t) xs)) same)
@@ -77,7 +88,8 @@ at : {I : Type 0} (listed : Listed I) → ListedOnce listed → (i : ℕ) (d : �
 at [] once i d l = absurd (omega (arith, l))
 at (x ∷ xs) once zero d l = ap (λ b. unwrap_or (cond b (Some x.1) (lookup (nat_eq x.0) xs)) []) (eq-eqb x.0 x.0 refl)
 at (x ∷ xs) once (suc i) d l = elim (either (nat_eq (get_or xs i d).0 x.0)) [
-  | inl e ↦ absurd (not_there x.0 xs once.0 i d (omega (arith, l)) (eq-eqb x.0 (get_or xs i d).0 (sym (eqb-true (get_or xs i d).0 x.0 e))))
+  | inl e ↦ absurd (not_there x.0 xs once.0 i d (omega (arith, l))
+      (eq-eqb x.0 (get_or xs i d).0 (sym (eqb-true (get_or xs i d).0 x.0 e))))
   | inr n ↦ ap (λ b. unwrap_or (cond b (Some x.1) (lookup (nat_eq (get_or xs i d).0) xs)) []) n ∙ at xs once.1 i d (omega (arith, l))
 ]
 
@@ -106,7 +118,8 @@ module _ {I : Type 0} (P : Attempts I → Bool) (nothing : P [] ≡ false) where
           let here : P (files_of x.1) ≡ true = subst (λ y. P (files_of y.1) ≡ true) (sym a.3) a.4 in
           let e : x.0 ≡ 0 + x.0 = omega arith in
           from_task listed P 0 tasks x.0 (below a.0 a.1 a.2)
-          (subst (λ n. P (of_task n listed) ≡ true) e (subst (λ attempts. P (files_of attempts) ≡ true) (sym (at listed once a.0 a.1 a.2)) here))
+          (subst (λ n. P (of_task n listed) ≡ true) e
+          (subst (λ attempts. P (files_of attempts) ≡ true) (sym (at listed once a.0 a.1 a.2)) here))
 
 -- ---- who writes a path
 
@@ -133,7 +146,8 @@ owner_at p (x ∷ xs) t h = elim (either (writes_among p x.1)) [
   | inr n ↦ later (owner_at p xs t (sym (ap (λ b. cond b (Some x.0) (owner p xs)) n) ∙ h))
 ]
   where
-    later : Any (λ y. (y.0 ≡ t) × (writes_among p y.1 ≡ true)) xs → Any (λ y. (y.0 ≡ t) × (writes_among p y.1 ≡ true)) (x ∷ xs)
+    later : Any (λ y. (y.0 ≡ t) × (writes_among p y.1 ≡ true)) xs
+        → Any (λ y. (y.0 ≡ t) × (writes_among p y.1 ≡ true)) (x ∷ xs)
     later a = (suc a.0, a.1, omega (arith, a.2), a.3, a.4)
 
 owned : {I : Type 0} (listed : Listed I) → ListedOnce listed → (p : List ℕ) (t : ℕ) → owner p listed ≡ Some t
@@ -154,7 +168,8 @@ free listed p none t = elim (either (writes (of_task t listed) p)) [
 
 -- ---- paths of two tasks
 
-module _ {I : Type 0} (listed : Listed I) (own : (t : ℕ) (p : List ℕ) → writes (of_task t listed) p ≡ true → owner p listed ≡ Some t) where
+module _ {I : Type 0} (listed : Listed I)
+    (own : (t : ℕ) (p : List ℕ) → writes (of_task t listed) p ≡ true → owner p listed ≡ Some t) where
   apart_from : (s count : ℕ) → Apart (by_task s count listed)
   apart_from s zero = tt
   apart_from s (suc count) = (none, apart_from (s + 1) count)

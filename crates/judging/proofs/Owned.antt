@@ -1,7 +1,11 @@
 -- Where no two tasks write one path, what a choice writes at a path is what its task's attempt writes there.
-use Rattle.judging.proofs.Common.{AllByRecursion, Any, Apart, Attempts, Bool, Chooses, Contains, Files, List, None, Option, Some, [], ap}
-use Rattle.judging.proofs.Common.{chosen_at, false, file_at, inl, inr, is_claimed, is_some, list_any_at, or_else, refl, subst, sym, true}
-use Rattle.judging.proofs.Common.{true≢false, writes, ℕ, ◌∙◌, ◌∷◌, ◌≡◌, ◌⊎◌, ◌||◌}
+use Rattle.std.proofs.Common.{Bool, List, None, Option, Some, [], ap, false, inl, inr, refl, subst, sym, true, ℕ, ◌∙◌, ◌∷◌, ◌≡◌}
+use Rattle.std.proofs.Common.{◌⊎◌, ◌||◌}
+use Rattle.std.proofs.lemmas.Bool.{true≢false}
+use Rattle.std.proofs.lemmas.List.Folds.{list_any_at}
+use Rattle.std.specs.List.{AllByRecursion, Any, Contains}
+use Rattle.std.specs.Prelude.{is_some}
+use Rattle.soundness.specs.Claims.{Apart, Attempts, Chooses, Files, chosen_at, file_at, is_claimed, or_else, writes}
 
 -- ---- tests
 

@@ -1,9 +1,16 @@
 -- Each reason tells that a run is not sound with one more moment.
-use Rattle.judging.proofs.Common.{All, Any, Any-from_list_any, AttemptExplains, AttemptFits, Attempts, Claim, EachTaskNext, Early, Fits}
-use Rattle.judging.proofs.Common.{Foreign, Half, JudgedNext, Left, List, Lost, MayShow, Missing, Moment, None, Option, ReasonsTell, Shown}
-use Rattle.judging.proofs.Common.{Some, Stale, StillExplains, Torn, Unchanged, [], ap, arith, false, false≢true, file_at, get_or}
-use Rattle.judging.proofs.Common.{get_or_from_slice_get, inl, inr, is_claimed, is_kept, is_some, length, refl, slice_get}
-use Rattle.judging.proofs.Common.{slice_get_within, subst, sym, true, writes, ℕ, ◌<◌, ◌∙◌, ◌∷◌, ◌≡◌, ◌≢◌}
+use Rattle.std.proofs.Common.{List, None, Option, Some, [], ap, arith, false, get_or, inl, inr, length, refl, subst, sym, true, ℕ}
+use Rattle.std.proofs.Common.{◌<◌, ◌∙◌, ◌∷◌, ◌≡◌, ◌≢◌}
+use Rattle.std.proofs.lemmas.Bool.{false≢true}
+use Rattle.std.proofs.lemmas.List.Folds.{Any-from_list_any}
+use Rattle.std.proofs.lemmas.Option.{get_or_from_slice_get, slice_get_within}
+use Rattle.std.specs.List.{All, Any}
+use Rattle.std.specs.Prelude.{is_some, slice_get}
+use Rattle.soundness.specs.Claims.{Attempts, Claim, file_at, is_claimed, is_kept, writes}
+use Rattle.soundness.specs.Moments.{Fits, MayShow, Moment, Shown, Unchanged}
+use Rattle.judging.specs.Judging.{AttemptExplains, EachTaskNext, JudgedNext, StillExplains}
+use Rattle.judging.specs.Laws.{ReasonsTell}
+use Rattle.judging.specs.Reasons.{AttemptFits, Early, Foreign, Half, Left, Lost, Missing, Stale, Torn}
 use Rattle.judging.proofs.Owned.{either}
 
 none_is : {I : Type 0} (x : I) → None ≡ Some x → ⊥

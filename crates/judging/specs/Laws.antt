@@ -1,5 +1,6 @@
 -- The laws of soundness by which a judge may look at each task by itself, at one moment after another, and at the changed paths alone.
-use Rattle.std.specs.Prelude.{ℕ, ◌<◌, List, [], ◌∷◌, ◌++◌, length, get_or, slice_get, Bool, true, false, Option, Some, None, is_some, ◌≡◌, ◌≢◌, ◌↔◌}
+use Rattle.std.specs.Prelude.{ℕ, ◌<◌, List, [], ◌∷◌, ◌++◌, length, get_or, slice_get}
+use Rattle.std.specs.Prelude.{Bool, true, false, Option, Some, None, is_some, ◌≡◌, ◌≢◌, ◌↔◌}
 use Rattle.std.specs.List.{All, Contains, list_all, list_any}
 use Rattle.std.specs.Str.{bytes_eq}
 use Rattle.soundness.specs.Claims.{Claim, Files, Attempts, Apart, always_reaches, file_at, is_below, is_claimed, is_kept, is_replaced}
@@ -103,7 +104,8 @@ pub record ListedClaims (I : Type 0) : Type 0 where
   -- Where a path has no owner, no task writes it.
   pub free : (listed : Listed I) (p : List ℕ) → owner p listed ≡ None → (t : ℕ) → writes (of_task t listed) p ≡ false
   -- No path is written by attempts of two tasks if each task that writes one is its owner.
-  pub apart : (tasks : ℕ) (listed : Listed I) → ((t : ℕ) (p : List ℕ) → writes (of_task t listed) p ≡ true → owner p listed ≡ Some t)
+  pub apart : (tasks : ℕ) (listed : Listed I)
+      → ((t : ℕ) (p : List ℕ) → writes (of_task t listed) p ≡ true → owner p listed ≡ Some t)
       → Apart (by_task 0 tasks listed)
   -- A path is below a directory that some attempt writes into exactly if it is for a listed one.
   pub reached : (tasks : ℕ) (listed : Listed I) → ListedBelow tasks listed → ListedOnce listed → (p : List ℕ)
