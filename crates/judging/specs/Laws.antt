@@ -92,7 +92,7 @@ pub record ListedClaims (I : Type 0) : Type 0 where
   pub count : (tasks : ℕ) (listed : Listed I) → length (by_task 0 tasks listed) ≡ tasks
   -- The t-th task has the attempts that are listed of that number.
   pub task : (tasks : ℕ) (listed : Listed I) (t : ℕ) → t < tasks → slice_get (by_task 0 tasks listed) t ≡ Some (of_task t listed)
-  -- A listed task has the attempts that stand beside it.
+  -- A listed task has the attempts that are listed with it.
   pub at : (listed : Listed I) → ListedOnce listed → (i : ℕ) (d : ℕ × Numbered I) → i < length listed
       → numbered (get_or listed i d).0 listed ≡ (get_or listed i d).1
   -- A path is claimed exactly if it has an owner.
