@@ -130,7 +130,8 @@ function plain(text) {
     return text
 }
 
-# Prints a line of the file by its number, no more than 200 bytes of it, and what is expected in its place.
+# Prints a line of the file by its number, no more than 200 bytes of it, and what is expected in its place. Bytes that a terminal does not
+# show, a byte order mark among them, are printed as `?`.
 function tell(number, said,    it) {
     it = $0
     if (length(it) > 200) {
@@ -138,6 +139,7 @@ function tell(number, said,    it) {
         sub(/[\300-\377][\200-\277]*$/, "", it)
         it = it "..."
     }
+    sub(/^\357\273\277/, "?", it)
     gsub(/[\001-\037\177]/, "?", it)
     print "line " number ": " it
     print "expected: " said
