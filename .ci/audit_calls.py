@@ -39,11 +39,17 @@ def audits(copy):
     yield called("from a folder inside", command="../audit", folder=f"{copy.top}/docs")
     yield called("by a shell", command="/bin/sh", words=["audit"])
     for name in ("audit", "an-audit"):
-        os.symlink(f"{copy.top}/audit", f"{copy.bin}/{name}")
-        yield called(f"by the link {name} on the path", command=f"{copy.bin}/{name}", folder="/")
+        os.symlink(f"{copy.top}/audit", f"{copy.home}/{name}")
+        yield called(f"by the link {name}", command=f"{copy.home}/{name}", folder="/")
     yield called("with no environment", PATH=None, HOME=None)
     yield called("with no home that can be written", HOME="/proc/none")
     yield called("with no home, of no trace", "x\n", NO_JSON, HOME="/proc/none")
+    os.makedirs(f"{copy.home}/tmp", exist_ok=True)
+    for command, words in (("./audit", []), ("./s3a", [copy.lake, "stat", "s3a://lake"])):
+        ran = copy.call(words, command, given=trace, HOME="/proc/none", TMPDIR=f"{copy.home}/tmp")
+        yield f"what {command} leaves where it has no home", (ran[0], os.listdir(f"{copy.home}/tmp")), (0, [])
+    os.remove(f"{copy.home}/.cache/zothirki/trees{copy.top}/.known/audit")
+    yield called("with a cache that knows ./s3a alone")
     yield "./s3a after ./audit", copy.call([copy.lake, "stat", "s3a://lake"]), (0, "directory\n", "")
     with concurrent.futures.ThreadPoolExecutor(4) as pool:
         many = [*pool.map(lambda _: first_line(copy.call([], "./audit", given=trace, HOME=f"{copy.home}/three")), range(4))]
