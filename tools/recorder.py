@@ -1,0 +1,178 @@
+"""Addon of mitmproxy: writes a line of a trace for each S3 request that goes through the proxy. `tools/record` starts it.
+
+By hand: mitmdump -s tools/recorder.py --set keep_host_header=true --set trace=FILE --set endpoint_names=NAME,NAME
+"""
+import asyncio
+import json
+import os
+import sys
+
+sys.dont_write_bytecode = True
+sys.path.insert(0, os.path.dirname(os.path.abspath(__file__)))
+import exchanges
+from followed import Followed
+
+
+def text_of(line):
+    return json.dumps(line, sort_keys=True, separators=(",", ":"), ensure_ascii=False) + "\n"
+
+
+class Sent:
+    """A request on its way: its number, its line so far, and what that does not tell."""
+
+    def __init__(self, n, line, doubt):
+        self.n, self.line, self.doubt = n, line, doubt
+        self.has_turn = False
+
+
+class Recorder:
+    """Writes the lines of requests. A change waits until the change before it got its reply, so the lines have the store's order."""
+
+    def __init__(self, path, names):
+        self.followed, self.names, self.n = Followed(), names, 0
+        self.sent, self.turn = {}, asyncio.Lock()
+        self.read(path)
+        self.out = open(path, "ab", buffering=0)
+
+    def read(self, path):
+        """Follows the lines that a file has already: a claim, or an earlier recording."""
+        try:
+            with open(path, encoding="utf-8") as lines:
+                for line in map(json.loads, lines):
+                    self.followed.take(line)
+                    self.n = max(self.n, line.get("n", 0))
+        except FileNotFoundError:
+            pass
+
+    def write(self, sent, lines):
+        for line in lines:
+            line = self.followed.line_of(line) | {"n": sent.n}
+            self.followed.take(line)
+            data = text_of(line).encode()
+            if self.out.write(data) != len(data):
+                raise OSError("the disk is full")
+
+    async def begin(self, which, request):
+        """Takes a request. Returns when it may be sent on. `which` is a name of its own."""
+        line, doubt = exchanges.asked(request, self.names)
+        self.n += 1
+        self.sent[which] = sent = Sent(self.n, line, doubt)
+        if line["op"] in exchanges.CHANGES:
+            await self.turn.acquire()
+            if which in self.sent:
+                sent.has_turn = True
+            else:
+                self.turn.release()
+
+    def end(self, which, lines_of):
+        """Writes what became of a request, and lets the next change go. Does nothing for a request that is over."""
+        sent = self.sent.pop(which, None)
+        if sent is None:
+            return
+        try:
+            self.write(sent, lines_of(sent))
+        finally:
+            if sent.has_turn:
+                self.turn.release()
+
+    def reply(self, which, reply):
+        self.end(which, lambda sent: exchanges.answered(sent.line, reply, sent.doubt))
+
+    def lose(self, which, why):
+        self.end(which, lambda sent: [exchanges.lost(sent.line, why)])
+
+    def unsent(self, which):
+        """Writes the line of a request that is not sent on, since its client went away while it waited for its turn."""
+        self.end(which, lambda sent: [exchanges.lost(sent.line, "the client went away before it was sent on") | {"effect": False}])
+
+    def finish(self):
+        """Writes the lines of the requests that are still on their way."""
+        for which in [*self.sent]:
+            self.lose(which, "the recording ended before its reply")
+        self.out.close()
+
+
+class Addon:
+    """What mitmproxy calls."""
+
+    def __init__(self):
+        self.recorder, self.passed = None, {}
+
+    def load(self, loader):
+        loader.add_option("trace", str, "trace.jsonl", "the file to which the lines are added")
+        loader.add_option("endpoint_names", str, "localhost", "names of the endpoint, with commas between; a bucket may stand before each in a host's name")
+        loader.add_option("pass_others", bool, False, "pass on what goes to other hosts, without a line")
+
+    def running(self):
+        from mitmproxy import ctx
+        try:
+            self.recorder = Recorder(ctx.options.trace, ctx.options.endpoint_names.lower().split(","))
+        except (OSError, ValueError, LookupError, TypeError, AttributeError) as why:
+            return self.stop(f"{ctx.options.trace} cannot be continued: {why}")
+        where = f"{ctx.options.listen_host or '*'}:{ctx.options.listen_port}"
+        print(f"record: the proxy listens at {where}; end the recording with Ctrl-C", file=sys.stderr, flush=True)
+
+    def stop(self, why):
+        """Ends the proxy, since its trace would lack a line."""
+        from mitmproxy import ctx
+        print(f"record: {why}", file=sys.stderr, flush=True)
+        ctx.master.shutdown()
+
+    def refuse(self, flow, status, why):
+        from mitmproxy import http
+        flow.response = http.Response.make(status, f"record: {why}\n", {"content-type": "text/plain"})
+
+    async def request(self, flow):
+        from mitmproxy import ctx
+        if self.recorder is None:
+            return self.refuse(flow, 503, "the recorder has not begun")
+        try:
+            await self.recorder.begin(flow.id, request_of(flow.request))
+        except exchanges.Strange as why:
+            host = flow.request.host_header or flow.request.host
+            self.passed[host] = self.passed.get(host, 0) + 1
+            return None if ctx.options.pass_others else self.refuse(flow, 400, why)
+        except Exception as why:
+            self.stop(f"a {flow.request.method} of {flow.request.path} cannot be recorded: {why!r}")
+            return flow.kill()
+        if not flow.client_conn.connected:
+            self.tell(self.recorder.unsent, flow.id)
+            flow.kill()
+
+    def responseheaders(self, flow):
+        """Lets the bytes of objects that are read pass through: no line has them."""
+        sent = self.recorder and self.recorder.sent.get(flow.id)
+        if sent and sent.line["op"] == "GetObject":
+            flow.response.stream = True
+
+    def response(self, flow):
+        reply = flow.response
+        self.tell(self.recorder.reply, flow.id, exchanges.Reply(reply.status_code, headers_of(reply), reply.get_content(strict=False) or b""))
+
+    def error(self, flow):
+        self.tell(self.recorder.lose, flow.id, f"no reply: {flow.error}")
+
+    def tell(self, what, *words):
+        try:
+            what(*words)
+        except Exception as why:
+            self.stop(f"a line cannot be written: {why!r}")
+
+    def done(self):
+        if self.recorder:
+            self.tell(self.recorder.finish)
+        for host, count in self.passed.items():
+            print(f"record: {count} requests to {host} have no line", file=sys.stderr, flush=True)
+
+
+def headers_of(message):
+    return {name.lower(): it for name, it in message.headers.items()}
+
+
+def request_of(request):
+    """A request of mitmproxy as one of ours."""
+    host = request.host_header or request.pretty_host
+    return exchanges.Request(request.method, host, request.path, headers_of(request), request.raw_content or b"")
+
+
+addons = [Addon()]
