@@ -1,7 +1,23 @@
 """What the keys of all buckets hold while a recording goes on, as an audit follows them, and what a line needs of that."""
+import json
+
 from exchanges import CHANGES
+from job_runs import Stop
 
 UNKNOWN = ("unknown",)
+
+
+def lines_in(path):
+    """The lines of a trace with their numbers."""
+    with open(path, "rb") as lines:
+        for at, data in enumerate(lines, 1):
+            try:
+                line = json.loads(data)
+            except ValueError:
+                line = None
+            if not isinstance(line, dict):
+                raise Stop(f"line {at} of {path} is no JSON object")
+            yield at, line
 
 
 def keys_of(line):
@@ -18,6 +34,17 @@ class Followed:
 
     def __init__(self):
         self.tags, self.completed, self.parts = {}, {}, {}
+
+    def take_all(self, lines, path):
+        """Does what the lines of a file do, and gives the greatest number of a request."""
+        most = 0
+        for at, line in lines:
+            try:
+                self.take(line)
+                most = max(most, line.get("n", 0))
+            except (KeyError, TypeError, AttributeError) as why:
+                raise Stop(f"line {at} of {path} is no line of a trace: {why}") from None
+        return most
 
     def take(self, line):
         """Does what a line does: an object that was there at first, a part, or a change."""

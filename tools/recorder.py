@@ -10,7 +10,8 @@ import sys
 sys.dont_write_bytecode = True
 sys.path.insert(0, os.path.dirname(os.path.abspath(__file__)))
 import exchanges
-from followed import Followed
+from followed import Followed, lines_in
+from job_runs import Stop
 
 
 def text_of(line):
@@ -29,20 +30,14 @@ class Recorder:
     """Writes the lines of requests. A change waits until the change before it got its reply, so the lines have the store's order."""
 
     def __init__(self, path, names):
-        self.followed, self.names, self.n = Followed(), names, 0
+        self.followed, self.names = Followed(), names
         self.sent, self.turn = {}, asyncio.Lock()
-        self.read(path)
-        self.out = open(path, "ab", buffering=0)
-
-    def read(self, path):
-        """Follows the lines that a file has already: a claim, or an earlier recording."""
-        try:
-            with open(path, encoding="utf-8") as lines:
-                for line in map(json.loads, lines):
-                    self.followed.take(line)
-                    self.n = max(self.n, line.get("n", 0))
-        except FileNotFoundError:
-            pass
+        self.out = open(path, "a+b", buffering=0)
+        # (the file may have a claim already, or an earlier recording)
+        self.n = self.followed.take_all(lines_in(path), path)
+        end = self.out.seek(0, os.SEEK_END)
+        if end and os.pread(self.out.fileno(), 1, end - 1) != b"\n":
+            self.out.write(b"\n")
 
     def write(self, sent, lines):
         for line in lines:
@@ -96,7 +91,7 @@ class Addon:
     """What mitmproxy calls."""
 
     def __init__(self):
-        self.recorder, self.passed = None, {}
+        self.recorder, self.passed, self.has_failed = None, {}, False
 
     def load(self, loader):
         loader.add_option("trace", str, "trace.jsonl", "the file to which the lines are added")
@@ -107,14 +102,13 @@ class Addon:
         from mitmproxy import ctx
         try:
             self.recorder = Recorder(ctx.options.trace, ctx.options.endpoint_names.lower().split(","))
-        except (OSError, ValueError, LookupError, TypeError, AttributeError) as why:
-            return self.stop(f"{ctx.options.trace} cannot be continued: {why}")
-        where = f"{ctx.options.listen_host or '*'}:{ctx.options.listen_port}"
-        print(f"record: the proxy listens at {where}; end the recording with Ctrl-C", file=sys.stderr, flush=True)
+        except (OSError, Stop) as why:
+            self.stop(why)
 
     def stop(self, why):
         """Ends the proxy, since its trace would lack a line."""
         from mitmproxy import ctx
+        self.has_failed = True
         print(f"record: {why}", file=sys.stderr, flush=True)
         ctx.master.shutdown()
 
@@ -163,6 +157,8 @@ class Addon:
             self.tell(self.recorder.finish)
         for host, count in self.passed.items():
             print(f"record: {count} requests to {host} have no line", file=sys.stderr, flush=True)
+        if self.has_failed:
+            sys.exit(1)
 
 
 def headers_of(message):
