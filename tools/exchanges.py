@@ -76,9 +76,9 @@ def tag_of(text):
 # ---- where a request goes
 
 def bucket_in(host, names):
-    """The bucket that a host's name begins with, or an empty text where the bucket stands in the path."""
+    """The bucket that a host's name begins with, or an empty text where the bucket stands in the path. The name `*` is every IP address."""
     host = host.lower().rstrip(".")
-    if host in names or is_address(host):
+    if host in names or "*" in names and is_address(host):
         return ""
     for name in sorted(names, key=len, reverse=True):
         if host.endswith(f".{name}"):

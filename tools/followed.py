@@ -42,8 +42,10 @@ class Followed:
             try:
                 self.take(line)
                 most = max(most, line.get("n", 0))
-            except (KeyError, TypeError, AttributeError) as why:
-                raise Stop(f"line {at} of {path} is no line of a trace: {why}") from None
+            except KeyError as why:
+                raise Stop(f"line {at} of {path} lacks the member {why.args[0]}") from None
+            except (TypeError, AttributeError):
+                raise Stop(f"line {at} of {path} has a member of a wrong kind") from None
         return most
 
     def take(self, line):

@@ -1,6 +1,6 @@
 """Addon of mitmproxy: writes a line of a trace for each S3 request that goes through the proxy. `tools/record` starts it.
 
-By hand: mitmdump -s tools/recorder.py --set keep_host_header=true --set trace=FILE --set endpoint_names=NAME,NAME
+By hand: mitmdump -s tools/recorder.py --set keep_host_header=true --set trace=FILE --set "endpoint_names=*,NAME"
 """
 import asyncio
 import json
@@ -95,7 +95,7 @@ class Addon:
 
     def load(self, loader):
         loader.add_option("trace", str, "trace.jsonl", "the file to which the lines are added")
-        loader.add_option("endpoint_names", str, "localhost", "names of the endpoint, with commas between; a bucket may stand before each in a host's name")
+        loader.add_option("endpoint_names", str, "*", "names of the endpoint, with commas between; a bucket may stand before each. * is every IP address")
         loader.add_option("pass_others", bool, False, "pass on what goes to other hosts, without a line")
 
     def running(self):
