@@ -66,6 +66,8 @@ MAPPED = [
     ("chunks with a trailer", "PUT /lake/k", {"x-amz-content-sha256": "STREAMING-UNSIGNED-PAYLOAD-TRAILER"}, TRAILER, OK, [PUT]),
     ("chunks that end early", "PUT /lake/k", CHUNKED, SIGNED[:30], OK,
      [PUT | {"etag": NOTHING, "length": 0, "effect": None, "why": "its chunks are broken"}]),
+    ("chunks that run together", "PUT /lake/k", CHUNKED, b"3\r\nhel--2\r\nlo\r\n0\r\n\r\n", OK,
+     [PUT | {"etag": NOTHING, "length": 0, "effect": None, "why": "its chunks are broken"}]),
     ("chunks of another length", "PUT /lake/k", CHUNKED | {"x-amz-decoded-content-length": "6"}, SIGNED, OK,
      [PUT | {"etag": NOTHING, "length": 0, "effect": None, "why": "its chunks are broken"}]),
     ("a length header", "PUT /lake/k", {"x-amz-meta-x-hadoop-s3a-magic-data-length": "7"}, b"hello", OK, [PUT | {"magic_length": 7}]),
@@ -89,6 +91,7 @@ MAPPED = [
     ("versioning", "PUT /lake?versioning", {}, b"x", OK, [{"op": "Other", "bucket": "lake", "what": "PUT versioning", "effect": True, "outcome": "answered"}]),
     ("a copy", "PUT /lake/k", source("/lake/s"), b"", copied("CopyObjectResult", A), [COPY]),
     ("a source in percents", "PUT /lake/k", source("lake%2Fa%3FversionId%3D1%20b"), b"", copied("CopyObjectResult", A), [COPY | {"source": "a?versionId=1 b"}]),
+    ("a source with a question mark", "PUT /lake/k", source("lake/a?b"), b"", copied("CopyObjectResult", A), [COPY | {"source": "a?b"}]),
     ("a copy from another bucket", "PUT /lake/k", source("other/s"), b"", copied("CopyObjectResult", A), [COPY | {"source_bucket": "other"}]),
     ("a copy of a version", "PUT /lake/k", source("lake/s?versionId=v"), b"", copied("CopyObjectResult", A),
      [COPY | {"effect": None, "why": "its source is a version"}]),
@@ -102,7 +105,7 @@ MAPPED = [
     ("an upload", "POST /lake/k?uploads", {}, b"", Reply(200, {}, f"<R {SPACE}><Bucket>lake</Bucket><UploadId>u</UploadId></R>".encode()),
      [{"op": "CreateMultipartUpload", **PLACE, "upload": "u"}]),
     ("a completion", "POST /lake/k?uploadId=u", {}, completion(A, B), copied("CompleteMultipartUploadResult", f"{C}-2"), [JOINED]),
-    ("a completion that fails late", "POST /lake/k?uploadId=u", {}, completion(A, B), Reply(200, {}, b" \n " + error(200, "InvalidPart").body[22:]),
+    ("a completion that fails late", "POST /lake/k?uploadId=u", {}, completion(A, B), Reply(200, {}, b" \n " + error(200, "InvalidPart").body),
      [JOINED | {"effect": False, "error": "InvalidPart"}]),
     ("a completion without parts", "POST /lake/k?uploadId=u", {}, completion(), error(400, "MalformedXML"),
      [{"op": "Other", **PLACE, "upload": "u", "what": "a completion without parts", "effect": False, "error": "MalformedXML"}]),
@@ -128,7 +131,8 @@ MAPPED = [
     ("uploads", "GET /lake?uploads", {}, b"", Reply(200, {}, f"<R {SPACE}><IsTruncated>false</IsTruncated><Upload/></R>".encode()),
      [{"op": "ListMultipartUploads", "bucket": "lake", "prefix": "", "listed": 1, "more": False, "effect": True, "outcome": "answered"}]),
 ]
-READ = {"ListObjects": "GET /lake", "ListParts": "GET /lake/k?uploadId=u", "HeadBucket": "HEAD /lake", "DeleteBucket": "DELETE /lake", "Other": "OPTIONS /lake/k"}
+READ = {"ListObjects": "GET /lake", "ListParts": "GET /lake/k?uploadId=u", "HeadBucket": "HEAD /lake", "DeleteBucket": "DELETE /lake",
+        "Other": "OPTIONS /lake/k"}
 
 
 def request_of(line, headers, body):
@@ -283,7 +287,8 @@ def words(check):
         port, trace = held.getsockname()[1], f"{room}/a.jsonl"
         url = "http://s3.example.com"
         tried = lambda path, *given: check.run("record", *given, over={"PATH": f"{path}:{os.path.dirname(sys.executable)}:/usr/bin:/bin"})
-        check.same("record, a wrong endpoint", tried(room, "s3.example.com", trace), (1, "", "record: s3.example.com is no URL of an endpoint; write it as http://127.0.0.1:9000\n"))
+        check.same("record, a wrong endpoint", tried(room, "s3.example.com", trace),
+                   (1, "", "record: s3.example.com is no URL of an endpoint; write it as http://127.0.0.1:9000\n"))
         check.same("record, a port that is taken", tried(room, "--port", str(port), url, trace),
                    (1, "", f"record: the proxy cannot listen at 127.0.0.1:{port}: Address already in use\n"))
     with open(f"{room}/b.jsonl", "w", encoding="utf-8") as it:

@@ -119,7 +119,7 @@ class Addon:
     async def request(self, flow):
         from mitmproxy import ctx
         if self.recorder is None:
-            return self.refuse(flow, 503, "the recorder has not begun")
+            return self.refuse(flow, 503, "the recording has not begun")
         try:
             await self.recorder.begin(flow.id, request_of(flow.request))
         except exchanges.Strange as why:
@@ -130,7 +130,7 @@ class Addon:
             self.stop(f"a {flow.request.method} of {flow.request.path} cannot be recorded: {why!r}")
             return flow.kill()
         if not flow.client_conn.connected:
-            self.tell(self.recorder.unsent, flow.id)
+            self.tell("unsent", flow.id)
             flow.kill()
 
     def responseheaders(self, flow):
@@ -141,20 +141,21 @@ class Addon:
 
     def response(self, flow):
         reply = flow.response
-        self.tell(self.recorder.reply, flow.id, exchanges.Reply(reply.status_code, headers_of(reply), reply.get_content(strict=False) or b""))
+        self.tell("reply", flow.id, exchanges.Reply(reply.status_code, headers_of(reply), reply.get_content(strict=False) or b""))
 
     def error(self, flow):
-        self.tell(self.recorder.lose, flow.id, f"no reply: {flow.error}")
+        self.tell("lose", flow.id, f"no reply: {flow.error}")
 
     def tell(self, what, *words):
+        """Calls a method of the recorder, if there is one."""
         try:
-            what(*words)
+            if self.recorder:
+                getattr(self.recorder, what)(*words)
         except Exception as why:
             self.stop(f"a line cannot be written: {why!r}")
 
     def done(self):
-        if self.recorder:
-            self.tell(self.recorder.finish)
+        self.tell("finish")
         for host, count in self.passed.items():
             print(f"record: {count} requests to {host} have no line", file=sys.stderr, flush=True)
         if self.has_failed:
