@@ -298,8 +298,9 @@ def words(check):
     check.same("record, a folder", tried(room, *free, url, room), (1, "", f"record: {room} is no file\n"))
     said = f"{trace}: 3 requests, 1 changes\ndecide line 1: PutObject b/k: no reply\n"
     check.same("record", tried(room, *free, "--host", "t", url + "/", trace, "--", "more"), (0, f"{STARTED.format(port)} more\n{said}", ""))
-    status, said, _ = tried(room, *free, "--forward", url, f"{room}/c.jsonl", "--", "fails")
-    check.see("record --forward, a proxy that fails", status == 1 and "--mode" not in said and "=s3.example.com --set pass_others=true" in said, said)
+    status, said, why = tried(room, *free, "--forward", url, f"{room}/c.jsonl", "--", "fails")
+    check.same("record, a proxy that fails", (status, why), (1, "record: the proxy ended with status 3: the trace may lack requests\n"))
+    check.see("record --forward", "--mode" not in said and "=s3.example.com --set pass_others=true" in said, said)
     status, said, error_text = check.run("record", "--help")
     check.see("record --help", status == 0 and said.startswith("usage: record "), said[:100])
 

@@ -136,7 +136,7 @@ class Addon:
     def responseheaders(self, flow):
         """Lets the bytes of objects that are read pass through: no line has them."""
         sent = self.recorder and self.recorder.sent.get(flow.id)
-        if sent and sent.line["op"] == "GetObject":
+        if sent and sent.line["op"] == "GetObject" and flow.response.status_code < 300:
             flow.response.stream = True
 
     def response(self, flow):
