@@ -83,6 +83,12 @@ MAPPED = [
     ("an unknown argument", "PUT /lake/k?renameObject", {}, b"hello", OK, [PUT | {"effect": None, "why": "the argument renameObject is not known"}]),
     ("an unknown argument, refused", "PUT /lake/k?renameObject", {}, b"hello", error(400, "InvalidRequest"),
      [PUT | {"effect": False, "error": "InvalidRequest"}]),
+    *((f"{method} {sub}, which is none", f"{method} /lake/k?{sub}", {}, b"hello", OK,
+       [(PUT if method == "PUT" else {"op": "DeleteObject", **PLACE}) | {"effect": None, "why": f"the argument {sub} is not known"}])
+      for method, sub in (("PUT", "torrent"), ("PUT", "website"), ("PUT", "append"), ("DELETE", "acl"))),
+    ("a part without its upload", "PUT /lake/k?partNumber=2", {}, b"hello", OK,
+     [PUT | {"part": 2, "effect": None, "why": "the argument partNumber is not known"}]),
+    ("a put of a version", "PUT /lake/k?versionId=v", {}, b"hello", OK, [PUT | {"version": "v", "effect": None, "why": "it names a version"}]),
     ("an append", "PUT /lake/k", {"x-amz-write-offset-bytes": "9"}, b"hello", OK, [PUT | {"effect": None, "why": "it appends to an object"}]),
     ("a form", "POST /lake", {"content-type": "multipart/form-data; boundary=b"}, b"hello", GONE,
      [PUT | {"key": "", "effect": None, "why": "it is an HTML form: write its key and the etag of its bytes"}]),
@@ -132,7 +138,8 @@ MAPPED = [
      [{"op": "ListMultipartUploads", "bucket": "lake", "prefix": "", "listed": 1, "more": False, "effect": True, "outcome": "answered"}]),
 ]
 READ = {"ListObjects": "GET /lake", "ListParts": "GET /lake/k?uploadId=u", "HeadBucket": "HEAD /lake", "DeleteBucket": "DELETE /lake",
-        "Other": "OPTIONS /lake/k"}
+        "Other": "OPTIONS /lake/k",
+        "PutObject": "PUT /lake/k?x-amz-acl=private&AWSAccessKeyId=a&Signature=b&Expires=1", "DeleteObjects": "POST /lake?delete&versions"}
 
 
 def request_of(line, headers, body):
@@ -147,9 +154,9 @@ def mapped(check):
         check.same(f"record, {what}", [exchanges.lost(found, "gone")] if reply is None else exchanges.answered(found, reply, doubt), due)
     for due, line in READ.items():
         check.same(f"record, {line}", exchanges.asked(request_of(line, {}, b""), NAMES)[0]["op"], due)
-    for host in ("example.com", "lake.s3.example.org", "xs3.example.com", ""):
+    for host, names in (("example.com", NAMES), ("lake.s3.example.org", NAMES), ("xs3.example.com", NAMES), ("", NAMES), ("127.0.0.1:80", NAMES[1:])):
         try:
-            check.see(f"record, the host {host}", False, f"it is {exchanges.asked(request_of('PUT /lake/k', {'host': host}, b''), NAMES)}")
+            check.see(f"record, the host {host}", False, f"it is {exchanges.asked(request_of('PUT /lake/k', {'host': host}, b''), names)}")
         except exchanges.Strange:
             check.cases += 1
 

@@ -6,13 +6,16 @@ import urllib.parse
 import xml.etree.ElementTree as ET
 
 CHANGES = ("PutObject", "CopyObject", "DeleteObject", "DeleteObjects", "CompleteMultipartUpload")
-# Arguments of a query that name something else than the bucket or the object itself. None of them changes the bytes of an object.
-SUBRESOURCES = ("abac", "accelerate", "acl", "analytics", "attributes", "cors", "encryption", "intelligent-tiering", "inventory", "legal-hold",
-                "lifecycle", "location", "logging", "metadataConfiguration", "metadataInventoryTable", "metadataJournalTable", "metadataTable",
-                "metrics", "notification", "object-lock", "ownershipControls", "policy", "policyStatus", "publicAccessBlock", "replication",
-                "requestPayment", "restore", "retention", "select", "session", "tagging", "torrent", "versioning", "versions", "website")
-# Arguments that a put, a copy, a deletion or a post may have.
-PLAIN = ("delete", "partnumber", "uploadid", "uploads", "versionid", "x-id", "awsaccesskeyid", "signature", "expires")
+# Arguments of a query that name something else than the bucket or the object itself. By these methods none changes the bytes of an object.
+OF_BUCKETS = ("abac", "accelerate", "acl", "analytics", "cors", "encryption", "intelligent-tiering", "inventory", "lifecycle", "location", "logging",
+              "metadataConfiguration", "metadataInventoryTable", "metadataJournalTable", "metadataTable", "metrics", "notification", "object-lock",
+              "ownershipControls", "policy", "policyStatus", "publicAccessBlock", "replication", "requestPayment", "session", "tagging",
+              "versioning", "versions", "website")
+OF_OBJECTS = {"GET": ("acl", "attributes", "legal-hold", "retention", "tagging", "torrent"), "PUT": ("acl", "legal-hold", "retention", "tagging"),
+              "DELETE": ("tagging",), "POST": ("restore", "select")}
+# Arguments that a change may have, beside those of its signature and `x-id`.
+PLAIN = {"DeleteObject": ("versionId",), "DeleteObjects": ("delete",), "CompleteMultipartUpload": ("uploadId",)}
+SIGNATURE = ("awsaccesskeyid", "signature", "expires", "x-id")
 PASSED_ON = {"uploadId": "upload", "prefix": "prefix", "delimiter": "delimiter", "start-after": "after", "marker": "after", "key-marker": "after",
              "continuation-token": "token", "upload-id-marker": "after_upload", "versionId": "version"}
 # Operations whose reply may begin with status 200 and still end as an error.
@@ -138,9 +141,15 @@ def number(text):
     return int(text) if text.isascii() and text.isdigit() and len(text) <= 18 else text
 
 
+def subresource(method, key, args):
+    """The argument that names a subresource, if there is one."""
+    known = OF_OBJECTS.get(method, ()) if key else () if "delete" in args else OF_BUCKETS
+    return next((it for it in args if it in known), "")
+
+
 def operation(method, bucket, key, args, headers):
     """The name of the operation, by the Amazon S3 API reference."""
-    if any(it in args for it in SUBRESOURCES):
+    if subresource(method, key, args):
         return "Other"
     if not bucket:
         return "ListBuckets" if method == "GET" else "Other"
@@ -152,7 +161,7 @@ def operation(method, bucket, key, args, headers):
     if not key:
         return {"PUT": "CreateBucket", "HEAD": "HeadBucket", "DELETE": "DeleteBucket"}.get(method, "Other")
     if method == "PUT":
-        is_copy, is_part = "x-amz-copy-source" in headers, "partNumber" in args
+        is_copy, is_part = "x-amz-copy-source" in headers, "partNumber" in args and "uploadId" in args
         return ("UploadPartCopy" if is_copy else "UploadPart") if is_part else "CopyObject" if is_copy else "PutObject"
     if method == "POST":
         return "CreateMultipartUpload" if "uploads" in args else "CompleteMultipartUpload" if "uploadId" in args else "Other"
@@ -163,11 +172,11 @@ def operation(method, bucket, key, args, headers):
 
 def doubts(line, args, headers):
     """Why what a change leaves cannot be told from its request, if it cannot be."""
-    unknown = [it for it in args if it.lower() not in PLAIN and not it.lower().startswith("x-amz-")]
-    if unknown:
-        yield f"the argument {unknown[0]} is not known"
     if "version" in line:
         yield "it names a version"
+    for it in args:
+        if it not in PLAIN.get(line["op"], ()) and it.lower() not in SIGNATURE and not it.lower().startswith("x-amz-"):
+            yield f"the argument {it} is not known"
     if "x-amz-write-offset-bytes" in headers:
         yield "it appends to an object"
     if "\ufffd" in line.get("key", ""):
@@ -192,7 +201,7 @@ def asked(request, names):
     if "partNumber" in args:
         line["part"] = number(args["partNumber"])
     if line["op"] == "Other":
-        line["what"] = " ".join([method, *(it for it in args if it in SUBRESOURCES)])
+        line["what"] = f"{method} {subresource(method, key, args)}".rstrip()
     elif line["op"] in ("PutObject", "UploadPart"):
         why += put_into(line, request)
     elif line["op"] in ("CopyObject", "UploadPartCopy"):
