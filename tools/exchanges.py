@@ -293,10 +293,10 @@ def told(line, reply):
 def batch(line, reply):
     """The lines of a batch: of the keys that were deleted, and of those of which the reply does not say it."""
     errors = rows(reply.body, "Error")
-    unsure = [it.get("Key", "") for it in errors if it.get("Code") in UNSURE or line["keys"].count(it.get("Key", "")) > 1]
-    failed = [it.get("Key", "") for it in errors]
-    if failed:
-        line = line | {"keys": [it for it in line["keys"] if it not in failed], "failed": failed}
+    named = [it.get("Key", "") for it in errors]
+    unsure = [key for key, it in zip(named, errors) if it.get("Code") in UNSURE or line["keys"].count(key) > 1]
+    refused = [it for it in named if it not in unsure]
+    seen = line | {"keys": [it for it in line["keys"] if it not in named]} | ({"failed": refused} if refused else {})
     if not unsure:
-        return [line]
-    return [line, line | {"keys": unsure, "failed": [], "effect": None, "why": "the reply has an error for these keys that does not say what became of them"}]
+        return [seen]
+    return [seen, line | {"keys": unsure, "effect": None, "why": "the reply has an error for these keys that does not say what became of them"}]
