@@ -1,8 +1,9 @@
-"""Scripts of jobs, their traces, and the program that runs them: what `aim` and `sweep` share."""
+"""Scripts of jobs, their traces, and the program that runs them: what the tools share."""
 import json
 import os
 import subprocess
 import sys
+import tempfile
 
 TOP = os.path.dirname(os.path.dirname(os.path.abspath(__file__)))
 HEAD = ("job", "dest", "committer", "tasks", "mode", "unique", "retries", "block", "lanes", "stamp", "loss")
@@ -37,7 +38,7 @@ def run_tool(name, main):
 
 
 def add_words(parser):
-    """The words that both tools take."""
+    """The words that all tools take."""
     parser.add_argument("script", metavar="SCRIPT", help="the script of a job; - for standard input")
     parser.add_argument("--over", metavar="FOLDER", help="run over the store in FOLDER, which is not changed (default: an empty folder)")
     parser.add_argument("--s3a", metavar="PATH", default=f"{TOP}/s3a", help="the program (default: the s3a beside tools/)")
@@ -72,6 +73,14 @@ def asked(request):
     """What a request asks: what is the same when it is sent again."""
     told = (*TOLD, "upload") if request["op"] == "CreateMultipartUpload" else TOLD
     return {name: value for name, value in request.items() if name not in told}
+
+
+def key_of(request):
+    """The key of a request, or what it has in its place."""
+    keys = request.get("keys")
+    if keys:
+        return keys[0] + (f" and {len(keys) - 1} more" if len(keys) > 1 else "")
+    return next((request[it] for it in ("key", "prefix", "path", "source", "bucket") if it in request), "")
 
 
 class Trace:
@@ -179,6 +188,18 @@ class Program:
         if not text.startswith("{"):
             raise Stop(where + refusal(status, text.strip()))
         return Trace(text)
+
+
+def room_for_stores():
+    """A folder for scratch stores, to be used by `with`: in memory where the system has such a place."""
+    return tempfile.TemporaryDirectory(dir="/dev/shm" if os.access("/dev/shm", os.W_OK) else None)
+
+
+def put_store(folder, store):
+    """Puts the bytes of a store into a folder, or nothing where they are None."""
+    if store is not None:
+        with open(f"{folder}/store.img", "wb") as it:
+            it.write(store)
 
 
 def refusal(status, text):

@@ -24,19 +24,29 @@ def below(place, objects):
     return {key.removeprefix(place): tags for key, tags in objects.items() if key.startswith(place) and key != place}
 
 
+def changes_of(request):
+    """What a request changed: of each key the tags of the parts of its object, or None where there is no object any more."""
+    if not request["effect"]:
+        return {}
+    if request["op"] == "PutObject":
+        return {request["key"]: [request["etag"]]}
+    if request["op"] == "CompleteMultipartUpload":
+        return {request["key"]: [part["etag"] for part in request["parts"]]}
+    return dict.fromkeys(request.get("keys", [request.get("key")])) if request["op"] in ("DeleteObject", "DeleteObjects") else {}
+
+
+def opening_of(trace):
+    """The objects when the run began, by key: the tags of their parts."""
+    return {it["key"]: it["etags"] for it in trace.lines if it["op"] == "Object"}
+
+
 def objects_of(trace, place):
     """The objects below a key when the run began and when it was over: of each path the tags of its parts."""
-    opening = {it["key"]: it["etags"] for it in trace.lines if it["op"] == "Object"}
+    opening = opening_of(trace)
     now = dict(opening)
-    for it in (it for it in trace.requests if it["effect"]):
-        if it["op"] == "PutObject":
-            now[it["key"]] = [it["etag"]]
-        elif it["op"] == "CompleteMultipartUpload":
-            now[it["key"]] = [part["etag"] for part in it["parts"]]
-        elif it["op"] in ("DeleteObject", "DeleteObjects"):
-            for key in it.get("keys", [it.get("key")]):
-                now.pop(key, None)
-    return below(place, opening), below(place, now)
+    for request in trace.requests:
+        now |= changes_of(request)
+    return below(place, opening), below(place, {key: tags for key, tags in now.items() if tags is not None})
 
 
 def files_of(trace):

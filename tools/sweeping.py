@@ -2,7 +2,7 @@
 import tempfile
 
 from aiming import Stage, Unreached, stages
-from job_runs import store_of
+from job_runs import put_store, store_of
 from outcomes import Outcome, check_keys
 
 FATES = ("slow", "before", "after")
@@ -21,7 +21,7 @@ class Sweep:
     def __init__(self, program, text, over, room, limit=None):
         self.program, self.store, self.room = program, store_of(over), room
         self.still = tempfile.mkdtemp(dir=room)
-        self.fill(self.still)
+        put_store(self.still, self.store)
         self.stages = stages(text, self.trace_of)
         self.last = self.stages[-1]
         self.base = Run(None, "none", self.outcome(self.last, {}))
@@ -30,19 +30,13 @@ class Sweep:
         self.retries = int(self.last.script.head("retries", "3"))
         self.faults = [*FATES, *(f"{it}-all" for it in FATES if self.retries), "crash"]
 
-    def fill(self, folder):
-        """Puts the store into a folder."""
-        if self.store is not None:
-            with open(f"{folder}/store.img", "wb") as it:
-                it.write(self.store)
-
     def trace_of(self, script, where=""):
         return self.program.trace(self.still, script, where)
 
     def outcome(self, stage, picks):
         """How the run of a script ends, in a folder of its own."""
         with tempfile.TemporaryDirectory(dir=self.room) as folder:
-            self.fill(folder)
+            put_store(folder, self.store)
             report = self.program.run(folder, "job", data=stage.script.data())[1]
             status, uploads = self.program.run(folder, "uploads", stage.trace.lines[0]["dest"])
             outcome = Outcome(stage.trace, report, "" if status else uploads, picks)
