@@ -13,7 +13,7 @@ MOST_COLUMNS, MOST_CHANGES, LEAST_FOLD = 80, 300, 3
 
 @dataclasses.dataclass
 class Column:
-    """The steps from `first` to `last`: of one event, or of several whole ones. It shows what readers see after the last."""
+    """The steps from `first` to `last`, of one event or of several whole ones. It shows what readers see after the last."""
     first: int
     last: int
 
@@ -37,22 +37,29 @@ def joined(columns, kind_of, most):
 
 
 def kind_of(run, at, is_turn):
-    """What a step shares a column with: answered requests of its event after which readers see the same (or, where `is_turn`, other
-    files), or events that only start an operation."""
+    """What a request shares a column with: answered requests of its event after which readers see the same, or, where `is_turn`, other
+    files. None where it has a column of its own."""
     step, is_begun = run.steps[at], run.begin is not None and at >= run.begin
-    if step.request is None:
-        return None if is_turn or "start" not in run.events[step.event].text.split(" ")[:2] else "start"
     is_marker = any(at == turn for turn, _ in run.sights[SUCCESS])
-    is_same = step.request["outcome"] == "answered" and not is_marker and (at in run.turns) == is_turn
+    is_same = step.request and step.request["outcome"] == "answered" and not is_marker and (at in run.turns) == is_turn
     return (step.event, is_begun) if is_same else None
 
 
+def is_quiet(run, at):
+    """Whether nothing happens in an event of one column that a picture must show: an actor's death, a refusal, or what readers see."""
+    step = run.steps[at]
+    event = run.events[step.event]
+    if step.request:
+        return not event.note and kind_of(run, at, False) is not None
+    return not {"kill", "restart"} & {*event.text.split(" ")[:2]} and not event.end.startswith("refused")
+
+
 def quiet_events(run, columns):
-    """Of each column that is a whole event after which readers see the same: what the event is, whoever its attempt is."""
+    """Of each column that is a whole quiet event: what the event is, whoever its attempt is."""
     many = collections.Counter(run.steps[it.first].event for it in columns)
     for it in columns:
         event = run.steps[it.first].event
-        is_whole = many[event] == 1 and kind_of(run, it.first, False) not in (None, "start") and not run.events[event].note
+        is_whole = many[event] == 1 and is_quiet(run, it.first)
         yield it.first, re.sub(r"\b\d+\.\d+\b", "T.A", run.events[event].text) if is_whole else None
 
 
