@@ -103,6 +103,12 @@ def over(check):
     due = {"keep": OLD, "part-00000": OLD, "y": NOTHING + ["b 0.0, from line 22 on"],
            "_SUCCESS": OLD + ["nothing, from line 19 on", "b, from line 22 on"]}
     check.same("moments --over, two jobs", drawn(check, twins, "--over", folder).rows, due)
+    # The folder's file has changes in its log, and a run that changes nothing leaves it as it is.
+    idle = [*FIRST, "=====", *SECOND[:-4], "start driver setup", "=====", "b 1"]
+    due = {"keep": OLD, "part-00000": OLD, "_SUCCESS": OLD}
+    check.same("moments --over, two jobs that change nothing", drawn(check, idle, "--over", folder).rows, due)
+    said = check.run("moments", "-", "--over", folder, script=[*FIRST, "=====", *SECOND, "=====", "a 1"])[1]
+    check.see("moments --over, a conflict with an old file", "line 8: a do driver setup: conflict keep\n" in said, said[-500:])
     with open(f"{folder}/store.img", "rb") as it:
         check.see("moments --over", before == it.read() and os.listdir(folder) == ["store.img"], "the folder was changed")
 
@@ -169,7 +175,8 @@ def page(check):
     """The page has the script's own lines with their numbers, and how they ended."""
     status, said, _ = check.run("moments", "-", script=["# a < b", "", *job("loss 99 slow")])
     check.see("moments, a page", status == 0 and "<i> 1</i> # a &lt; b\n<i> 2</i> \n<i> 3</i> job j1\n" in said, said[-2000:])
-    check.see("moments, how lines ended", "line 10: do driver setup: done\n" in said and "13 requests, status 0; requests that loss lines name and that were never sent: 1</pre>" in said, said[-700:])
+    last = "13 requests, status 0; requests that loss lines name and that were never sent: 1</pre>"
+    check.see("moments, how lines ended", "line 10: do driver setup: done\n" in said and last in said, said[-700:])
     check.see("moments, a page by itself", not re.search(r"<(script|link|img|iframe)\b", said), "it needs something beside it")
 
 

@@ -60,7 +60,8 @@ def quiet_events(run, columns):
     for it in columns:
         event = run.steps[it.first].event
         is_whole = many[event] == 1 and is_quiet(run, it.first)
-        yield it.first, re.sub(r"\b\d+\.\d+\b", "T.A", run.events[event].text) if is_whole else None
+        is_begun = run.begin is not None and it.first >= run.begin
+        yield it.first, (re.sub(r"\b\d+\.\d+\b", "T.A", run.events[event].text), is_begun) if is_whole else None
 
 
 def columns_of(run):

@@ -55,9 +55,8 @@ def request_of(body):
         found["etag"] = hashlib.md5(data).hexdigest()
         if found["key"].endswith("/_SUCCESS"):
             found["id"] = json.loads(data)["job"]
-    if kind >= 7:
-        found["upload"] = fields.number(8)
     if kind == 8:
+        found["upload"] = fields.number(8)
         found["parts"] = [part(fields) for _ in range(fields.number(4))]
     return found
 
