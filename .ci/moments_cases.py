@@ -30,7 +30,7 @@ class Drawn:
             else:
                 label, _, what = told.rpartition(": ")
                 box = group.find(f"{SPACE}rect")
-                self.cells.append((label, what, float(box.get("x"))))
+                self.cells.append((label, what, float(box.get("x")), float(box.get("y"))))
                 self.rows.setdefault(label, []).append(what)
 
     def sight(self):
@@ -82,10 +82,12 @@ def marked(check):
     due = "line 13 do driver commit\nrequest 12: CompleteMultipartUpload out/part-00000, took effect, but the reply was lost"
     check.same("moments, a lost reply", picture.marks[11], due)
     # Place 0 is the start, so request n has place n. A place is 16 wide.
-    begins = {(label, what): x for label, what, x in picture.cells}
+    begins = {(label, what): x for label, what, x, _ in picture.cells}
     left = begins["part-00000", NOTHING[0]]
     places = [round((begins[it] - left) / 16, 3) for it in (("part-00000", "0.0, after request 12"), ("_SUCCESS", "new, after request 14"))]
     check.same("moments, where effects begin", places, [12, 14])
+    downs = {label: y for label, _, _, y in picture.cells}
+    check.same("moments, how far the rows are apart", round(downs["_SUCCESS"] - downs["part-00000"], 3), 22)
     legend = {"new file", "_SUCCESS of this job", "readers see nothing", "a change that took effect", "a read", "refused", "request or reply lost",
               "the commit begins", "What readers see: standard input", "s3a://lake/out, 14 requests, status 0"}
     check.same("moments, title and legend", legend - {*picture.texts}, set())
@@ -103,7 +105,7 @@ def over(check):
     due = {"keep": OLD, "part-00000": OLD, "y": NOTHING + ["b 0.0, from line 22 on"],
            "_SUCCESS": OLD + ["nothing, from line 19 on", "b, from line 22 on"]}
     check.same("moments --over, two jobs", drawn(check, twins, "--over", folder).rows, due)
-    # The folder's file has changes in its log, and a run that changes nothing leaves it as it is.
+    # The changes in the log of the folder's file are none of the run's.
     idle = [*FIRST, "=====", *SECOND[:-4], "start driver setup", "=====", "b 1"]
     due = {"keep": OLD, "part-00000": OLD, "_SUCCESS": OLD}
     check.same("moments --over, two jobs that change nothing", drawn(check, idle, "--over", folder).rows, due)
@@ -144,8 +146,8 @@ def large(tasks, files):
 def folded(check):
     """20 tasks of 10 files: set-up 3 requests, writes 800, commits 20 times 12, then 20 reads and 200 completions."""
     attempts, starts = ([text.format(it) for it in range(90)] for text in ("attempt {}.0", "start {}.0 write"))
-    quiet = drawn(check, [*HEAD[:3], "tasks 90", *attempts, EVENTS[0], *starts, "kill 3.0"])
-    check.see("moments, quiet lines", {"96 start 0.0 write and 89 more", "186 kill 3.0"} <= {*quiet.texts}, str(quiet.texts))
+    quiet = drawn(check, [*HEAD[:3], "tasks 90", *attempts, EVENTS[0], *starts, *(f"kill {it}.0" for it in range(3))])
+    check.see("moments, quiet lines", {"96 start 0.0 write and 89 more", "186 kill 0.0", "187 kill 1.0", "188 kill 2.0"} <= {*quiet.texts}, str(quiet.texts))
     picture = drawn(check, large(20, 10))
     labels = [f"task {it}: 10 files" for it in range(20)]
     check.same("moments, rows of 200 files", list(picture.rows), [*labels, "_SUCCESS"])

@@ -49,7 +49,7 @@ class Twins:
             put_store(folder, self.store)
             status, said = self.program.run(folder, "twins", data=data)
             left = store_of(folder)
-        return status, said, [] if left is None or left == self.store else changes_in(left)
+        return status, said, [] if left is None else changes_in(left)
 
     def until(self, events):
         """How many requests a run with so many events sends, and how many changes it makes."""
