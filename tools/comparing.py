@@ -3,7 +3,8 @@ import dataclasses
 
 from s3_model import Store
 
-FIELDS = {"etag": "tag", "bytes": "bytes", "length": "length", "magic_length": "length header", "deleted": "keys", "more": "more"}
+FIELDS = {"etag": "tag", "bytes": "content", "length": "length", "magic_length": "length header", "deleted": "list of keys"}
+MORE = {True: "more follow", False: "no more follow"}
 BATCH = 1000
 
 
@@ -36,7 +37,7 @@ def listing(model, server):
     if sorted(map(str, model)) == sorted(map(str, server)):
         return "entries", "another order", f"{short(model)} and {short(server)}"
     more, less = [it for it in server if it not in model], [it for it in model if it not in server]
-    return "entries", "other entries", f"only the server has {short(more)}, only the model {short(less)}"
+    return "entries", "other entries", f"the server alone has {short(more)}, the model alone {short(less)}"
 
 
 def agrees(operation, model, server):
@@ -53,8 +54,10 @@ def compared(operation, model, server):
         return
     for name, what in FIELDS.items():
         if model.get(name) != server.get(name):
-            empty = name == "etag" and not server.get(name)
-            yield what, f"no {what}" if empty else f"another {what}", f"{short(model.get(name))} and {short(server.get(name))}"
+            is_none = server.get(name) in (None, "")
+            yield f"a {what}", f"no {what}" if is_none else f"another {what}", f"{short(model.get(name))} and {short(server.get(name))}"
+    if model.get("more") != server.get("more"):
+        yield MORE[model["more"]], MORE[server["more"]], ""
     found = listing(model.get("entries", []), server.get("entries", []))
     if found:
         yield found
@@ -124,19 +127,19 @@ class Session:
         return found
 
     def differ(self, what, model, server, detail=""):
-        self.found.append(Difference("at the end", what, model, server, short(detail)))
+        self.found.append(Difference("at the end,", what, model, server, repr(detail)))
 
     def end(self):
         """Compares all that is there: each object's bytes and length header, and each upload's parts."""
         for bucket, content in self.store.buckets.items():
             listed = [key for key, _ in self.pages("ListObjectsV2", bucket)]
             self.missing("object", sorted(content.objects, key=str.encode), listed)
-            for key in content.objects.keys() & {*listed}:
+            for key in filter(content.objects.__contains__, listed):
                 self.same("object", {"op": "GetObject", "bucket": bucket, "key": key})
             uploads = [(it.key, id) for id, it in content.uploads.items()]
             left = self.pages("ListMultipartUploads", bucket)
             self.missing("upload", uploads, left)
-            for key, id in {*uploads} & {*left}:
+            for key, id in filter(uploads.__contains__, left):
                 self.same("upload", {"op": "ListParts", "bucket": bucket, "key": key, "upload": id})
 
     def missing(self, what, model, server):
