@@ -9,7 +9,7 @@ BUCKET = "lake"
 
 @dataclasses.dataclass
 class Case:
-    """A case: its name, the requests (a function of the least size of a part), and the greatest such size that it is tried with."""
+    """A case: its name, the requests (a function of the least size of a part in bytes), and the greatest such size that it is tried with."""
     name: str
     requests: object
     most: int = 1 << 30
@@ -22,7 +22,7 @@ def play_case(case, client, prefix, minimum):
     session = Session(client, prefix, store)
     try:
         session.begin()
-        for n, it in enumerate(case.requests(minimum) if minimum <= case.most else [], 1):
+        for n, it in enumerate(case.requests(minimum), 1):
             session.request(f"request {n}", {"bucket": BUCKET, **it})
         session.end()
     finally:

@@ -12,6 +12,7 @@ def connect(endpoint):
         import boto3
         from botocore.config import Config
         from botocore.exceptions import BotoCoreError, ClientError
+        from botocore.parsers import ResponseParserError
     except ImportError:
         raise Stop("the Python package boto3 is missing: install it (Debian has it as python3-boto3)") from None
     said = {"signature_version": "s3v4", "s3": {"addressing_style": "path"}, "retries": {"total_max_attempts": 1}, "parameter_validation": False}
@@ -24,7 +25,7 @@ def connect(endpoint):
         client = boto3.client("s3", endpoint_url=endpoint, region_name="us-east-1", config=config)
     except (BotoCoreError, ValueError) as why:
         raise Stop(f"boto3 makes no client of {endpoint}: {why}") from None
-    return Client(client, endpoint, ClientError, BotoCoreError)
+    return Client(client, endpoint, ClientError, (BotoCoreError, ResponseParserError))
 
 
 def tag_of(reply):

@@ -1,13 +1,14 @@
 """A stand-in for boto3, for .ci/tools: a client that gives the replies of the file REPLIES in their order, whatever it is asked.
 
-A line of REPLIES is the name of the method that must be called next and its reply as JSON, or `refused` and an error code. `Body` in a reply is a text.
-Each call is written to the file CALLS.
+A line of REPLIES is the name of the method that must be called next, and its reply as JSON, or `refused` and an error code, or `unreadable`.
+`Body` in a reply is a text. Each call is written to the file CALLS.
 """
 import io
 import json
 import os
 
 from botocore.exceptions import ClientError
+from botocore.parsers import ResponseParserError
 
 
 class Client:
@@ -23,6 +24,8 @@ class Client:
             assert method == due, f"{method} was called, and {due} is next"
             if reply.startswith("refused "):
                 raise ClientError({"Error": {"Code": reply.split(" ")[1]}})
+            if reply == "unreadable":
+                raise ResponseParserError
             found = json.loads(reply)
             return found | ({"Body": io.BytesIO(found["Body"].encode())} if "Body" in found else {})
         return call
