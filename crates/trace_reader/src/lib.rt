@@ -5,7 +5,8 @@
 //! `read_line`: It gives what the line says, or the line's first fault, as `line_of` has it (`Reading.antt`). It may give
 //! NoMemory in place of either.
 //!
-//! `Field::name`, `Stage::may_come`: They are `name_of` (`Reading.antt`) and `may_come` (`Operations.antt`).
+//! `Field::name`, `Stage::may_come`, `is_visible`: They are `name_of` (`Reading.antt`), `may_come` (`Operations.antt`), and `is_visible` of
+//! `soundness`.
 //!
 //! Left open: that NoMemory comes only if memory runs out.
 #![tactic(auto)]
@@ -27,5 +28,6 @@ mod texts;
 pub use fault::{Field, TraceFault};
 pub use line::TraceLine;
 pub use operation::Operation;
-pub use reading::read_line;
+pub use paths::is_visible;
+pub use reading::{MOST_BYTES, read_line};
 pub use stage::Stage;

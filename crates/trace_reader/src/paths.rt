@@ -12,8 +12,9 @@ fn hides(b: u8) -> bool
     b == b'_' || b == b'.'
 }
 
-/// Whether readers see a path below the destination.
-fn is_visible(path: &[u8]) -> bool
+/// Whether readers see a file at this path below the destination: it is not empty, does not end in `/`, and has no element that begins
+/// with `_` or `.` (Hadoop's hidden files).
+pub fn is_visible(path: &[u8]) -> bool
     ensures { result ≡ is_visible path.now }
 {
     let mut begins = true;

@@ -16,7 +16,8 @@ use s3_types::let_go;
 use serde_json::Value;
 use std::alloc::Global;
 
-const MOST_BYTES: usize = 8_388_608;
+/// The most bytes of a line, without its line feed.
+pub const MOST_BYTES: usize = 8_388_608;
 
 /// The JSON tree of a line. Else NotJson.
 fn tree(alloc: Global, line: &[u8]) -> Result<Value, TraceFault>
