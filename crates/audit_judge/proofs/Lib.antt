@@ -1,0 +1,10 @@
+pub mod Tests
+pub mod Narrowed
+pub mod First
+pub mod Turn
+pub mod Loops
+pub mod Steps
+pub mod Deciding
+pub mod Heading
+pub mod Picking
+pub mod Picked

@@ -1,0 +1,45 @@
+-- What a judge knows at a point of a run.
+use Rattle.std.specs.Prelude.{ℕ, List, Bool}
+use Rattle.std.specs.FinMap as fin
+use Rattle.basics.specs.Order.{text_cmp}
+use Rattle.soundness.specs.Claims.{Claim}
+use Rattle.soundness.specs.Moments.{Moment, Shown}
+use Rattle.soundness.specs.declared.keeps.Keeps.{Keeps}
+use Rattle.soundness.specs.declared.marker.Marker.{Marker}
+use Rattle.judging.specs.Listed.{claim_of}
+use Rattle.audit_claims.specs.Claims.{Claimed, Tags}
+
+-- Files by their paths.
+abbrev pub Paths : Type 0
+Paths = fin.FinMap text_cmp Tags
+
+-- What a judge knows.
+pub record Bench : Type 0 where
+  -- the claim of the job
+  pub keeps : Keeps
+  pub tasks : ℕ
+  pub claimed : Claimed
+  -- what readers saw when the run began, and see now
+  pub opening : Paths
+  pub shown : Paths
+  -- whether the commit has begun, and which success marker exists
+  pub begun : Bool
+  pub marker : Marker
+  -- no more attempts, files and opening files can come
+  pub started : Bool
+  -- a moment needed a choice
+  pub needed : Bool
+  -- of each listed task in its place, of each attempt in its place: whether it explains all moments so far
+  pub candidates : List (List Bool)
+
+-- The claim.
+abbrev pub claim : Bench → Claim Tags
+claim b = claim_of b.keeps b.tasks b.claimed.listed
+
+-- What readers saw when the run began.
+abbrev pub opened : Bench → Shown Tags
+opened b p = fin.get b.opening p
+
+-- The moment as it is now.
+abbrev pub now : Bench → Moment Tags
+now b = record { begun = b.begun; marker = b.marker; shown = λ p. fin.get b.shown p }

@@ -1,0 +1,10 @@
+pub mod Bench
+pub mod Narrowed
+pub mod Tests
+pub mod Scene
+pub mod Codes
+pub mod Following
+pub mod Changes
+pub mod Reasons
+pub mod Deciding
+pub mod Picking

@@ -1,0 +1,2 @@
+//! What a trace says happened, and what an audit of it must answer: definitions, in `specs/`.
+#![tactic(auto)]
