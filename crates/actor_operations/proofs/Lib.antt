@@ -14,4 +14,3 @@ pub mod WorksGo
 pub mod WorksDue
 pub mod WorksBeside
 pub mod WorkLaws
-mod Common

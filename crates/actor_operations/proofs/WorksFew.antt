@@ -1,7 +1,32 @@
 -- A set that the driver reads in a legal job has no more uploads than the job has files.
-use Rattle.actor_operations.proofs.Common.{Answered, ApartFiles, AreCommits, Commit, Declared, Drawn, Facts, Fetching, File, FitsJobCommit, HasFew, IsHonestOutcome, IsIn, IsLegal, List, Option, Outcome, ReadsFew, Request, Scene, Script, Some, Told, Who, [], answer, ap, arith, commit_asks, drawn_for, file_key, file_record, files, files_are, files_set, inl, inr, knowing, length, length-map, lookup, most_commits, refl, same_name, set_read, set_request, some_is, subst, suc, sym, unwrap_or, written, ℕ, ◌<◌, ◌^◌, ◌∙◌, ◌∷◌, ◌≡◌, ◌≤◌}
-use Rattle.job_spec.specs.Prelude.{files_in}
+use Rattle.basics.proofs.Members.{some_is}
+use Rattle.basics.specs.Members.{IsIn}
+use Rattle.cleanup.specs.SparingFits.{most_commits}
+use Rattle.commit_laws.specs.Laws.{HasFew, ReadsFew}
+use Rattle.job_facts.proofs.Legal.{files_are, written}
 use Rattle.job_facts.proofs.Replies.{set_answered}
+use Rattle.job_facts.specs.Driver.{FitsJobCommit}
+use Rattle.job_facts.specs.Facts.{ApartFiles, AreCommits, Facts, knowing}
+use Rattle.job_facts.specs.Told.{Told}
+use Rattle.job_model.specs.Attempts.{Declared, Who, same_name}
+use Rattle.job_model.specs.Files.{File}
+use Rattle.job_model.specs.JobScript.{Script}
+use Rattle.job_model.specs.Known.{Drawn}
+use Rattle.job_model.specs.Legal.{IsLegal, files_in}
+use Rattle.job_protocol.specs.JobCommits.{Commit, Fetching, commit_asks, set_read, set_request}
+use Rattle.job_protocol.specs.Knowledge.{drawn_for}
+use Rattle.job_protocol.specs.Outputs.{files}
+use Rattle.job_protocol.specs.Records.{file_key, file_record, files_set}
+use Rattle.s3_types.specs.Answer.{answer}
+use Rattle.s3_types.specs.Moment.{IsHonestOutcome}
+use Rattle.s3_types.specs.Store.{Scene}
+use Rattle.s3_types.specs.declared.journal.Outcome.{Outcome}
+use Rattle.s3_types.specs.declared.journal.Outcome.TheVariants.{Answered}
+use Rattle.s3_types.specs.declared.request.Request.{Request}
+use Rattle.std.proofs.Common.{List, Option, Some, ap, arith, inl, inr, length, refl, subst, suc, sym, ℕ, [], ◌<◌, ◌^◌, ◌∙◌, ◌∷◌, ◌≡◌, ◌≤◌}
+use Rattle.std.proofs.lemmas.List.{length-map}
+use Rattle.std.specs.Map.{lookup}
+use Rattle.std.specs.Option.{unwrap_or}
 
 -- ---- files apart among others are no more than those
 
@@ -27,7 +52,8 @@ no_more : (xs ys : List File) → ApartFiles xs → ((f : File) → IsIn f xs �
 no_more [] ys apart all = omega arith
 no_more (x ∷ xs) ys apart all =
     let i = all x (inl refl) in
-    let old : length xs ≤ length (without x ys i) = no_more xs (without x ys i) apart.1 (λ f k. still_in x f (apart.0 f k) ys i (all f (inr k))) in
+    let old : length xs ≤ length (without x ys i) = no_more xs (without x ys i) apart.1
+    (λ f k. still_in x f (apart.0 f k) ys i (all f (inr k))) in
     omega (arith, old, one_less x ys i)
 
 -- ---- the files of an attempt
@@ -41,8 +67,10 @@ files_few w h a = grind (arith, written, files_are, length-map, declared_few)
 
 -- ---- a set that is read
 
-module _ (w : Script) (minimum : ℕ) (s : Scene) (last : ℕ → Option ℕ) (m : Told) (j : IsLegal w) (facts : Facts w minimum s last m) (few : s.content.next ≤ 2 ^ 64) where
-  pub commits_few : (ds : List Drawn) (a : Who) (commits : List File) → AreCommits w minimum ds a commits → HasFew most_commits (Some (files_set w a commits (knowing ds)))
+module _ (w : Script) (minimum : ℕ) (s : Scene) (last : ℕ → Option ℕ) (m : Told) (j : IsLegal w) (facts : Facts w minimum s last m)
+    (few : s.content.next ≤ 2 ^ 64) where
+  pub commits_few : (ds : List Drawn) (a : Who) (commits : List File) → AreCommits w minimum ds a commits
+      → HasFew most_commits (Some (files_set w a commits (knowing ds)))
   commits_few ds a commits are =
       let all = no_more commits (files w a) are.once are.each in
       omega (arith, all, files_few w j a, length-map commits (λ f. file_record w a f (drawn_for (knowing ds) (file_key w f))))
@@ -57,6 +85,8 @@ module _ (w : Script) (minimum : ℕ) (s : Scene) (last : ℕ → Option ℕ) (m
   ]
 
   -- by any honest outcome
-  pub reads_few : (c : Commit) → FitsJobCommit w minimum m.publish_sent m.drawn c → (r : Request) → commit_asks w c ≡ Some r → (o : Outcome) → IsHonestOutcome o (answer s r) → ReadsFew most_commits c o
-  reads_few (Fetching sets n) fits r e (Answered x) honest = subst (λ y. HasFew most_commits (set_read y)) (sym (honest ∙ ap (answer s) (sym (some_is e)))) (set_few (length sets) fits.0)
+  pub reads_few : (c : Commit) → FitsJobCommit w minimum m.publish_sent m.drawn c → (r : Request) → commit_asks w c ≡ Some r → (o : Outcome)
+      → IsHonestOutcome o (answer s r) → ReadsFew most_commits c o
+  reads_few (Fetching sets n) fits r e (Answered x) honest = subst (λ y. HasFew most_commits (set_read y))
+      (sym (honest ∙ ap (answer s) (sym (some_is e)))) (set_few (length sets) fits.0)
   reads_few _ fits r e _ honest = tt

@@ -1,23 +1,49 @@
 -- Each answer that is due to a sparing abort or clean fits: a set that it reads names no more uploads than the job has files.
-use Rattle.actor_operations.proofs.Common.{AllOwn, ClusterBytes, Filed, FitsDue, FitsSparing, List, None, Ok, Option, Some, [], ap, arith, inl, inr, length, length-map, refl, some_is, sparing_wants, subst, sym, true, ℕ, ◌<◌, ◌^◌, ◌∙◌, ◌∷◌, ◌≡◌, ◌≤◌}
-use Rattle.job_facts.specs.Prelude.{Scene, answer, read_answer, begins, GetObject, ClusterGet, Committer, Magic, File, Who, IsLegal, Script, files, files_set, magic_prefix, cluster_prefix, Told, IsAttempt, is_staging, AreCommits, Facts, knowing}
-use Rattle.std.specs.FinMap as fin
-use Rattle.pending_json.specs.Reading as reading
-use Rattle.job_protocol.specs.Sparing.{Sparing, Walking, Reading, record_request, ref_of, set_names}
-use Rattle.cleanup.specs.SparingFits.{most_commits, NamesFew, FitsSparing as FitsAnswer, FitsSparingDriving}
-use Rattle.job_facts.proofs.Legible.{set_read}
-use Rattle.job_facts.proofs.Placed.{staged_set}
-use Rattle.job_refinement.specs.Plans.{driving}
-use Rattle.job_refinement.proofs.Pages.{page_fits}
 use Rattle.actor_operations.proofs.Checking.{sparing_asks_same}
 use Rattle.actor_operations.proofs.WorksFew.{commits_few}
+use Rattle.basics.proofs.Members.{some_is}
+use Rattle.cleanup.specs.SparingFits.{FitsSparing as FitsAnswer, FitsSparingDriving, NamesFew, most_commits}
+use Rattle.job_facts.proofs.Legible.{set_read}
+use Rattle.job_facts.proofs.Placed.{staged_set}
+use Rattle.job_facts.specs.Facts.{AreCommits, Facts, IsAttempt, knowing}
+use Rattle.job_facts.specs.Spares.{AllOwn, Filed, FitsSparing}
+use Rattle.job_facts.specs.Told.{Told}
+use Rattle.job_model.specs.Attempts.{Who}
+use Rattle.job_model.specs.Files.{File}
+use Rattle.job_model.specs.JobScript.{Script}
+use Rattle.job_model.specs.Legal.{IsLegal}
+use Rattle.job_protocol.specs.AtWork.{sparing_wants}
+use Rattle.job_protocol.specs.Outputs.{files}
+use Rattle.job_protocol.specs.Records.{files_set}
+use Rattle.job_protocol.specs.Seen.{is_staging}
+use Rattle.job_protocol.specs.Sparing.{Reading, Sparing, Walking, record_request, ref_of, set_names}
+use Rattle.job_refinement.proofs.Pages.{page_fits}
+use Rattle.job_refinement.specs.Due.{FitsDue}
+use Rattle.job_refinement.specs.Plans.{driving}
+use Rattle.magic_paths.specs.Layout.{cluster_prefix, magic_prefix}
+use Rattle.s3_types.specs.Answer.{answer, read_answer}
+use Rattle.s3_types.specs.Pages.{begins}
+use Rattle.s3_types.specs.Store.{Scene}
+use Rattle.s3_types.specs.declared.reply.Reply.TheVariants.{ClusterBytes}
+use Rattle.s3_types.specs.declared.request.Committer.{Committer}
+use Rattle.s3_types.specs.declared.request.Committer.TheVariants.{Magic}
+use Rattle.s3_types.specs.declared.request.Request.TheVariants.{ClusterGet, GetObject}
+use Rattle.std.proofs.Common.{List, None, Ok, Option, Some, ap, arith, inl, inr, length, refl, subst, sym, true, ℕ, [], ◌<◌, ◌^◌, ◌∙◌, ◌∷◌}
+use Rattle.std.proofs.Common.{◌≡◌, ◌≤◌}
+use Rattle.std.proofs.lemmas.List.{length-map}
+use Rattle.std.specs.FinMap as fin
+use Rattle.pending_json.specs.Reading as reading
 
-module _ (w : Script) (minimum : ℕ) (s : Scene) (last : ℕ → Option ℕ) (m : Told) (j : IsLegal w) (facts : Facts w minimum s last m) (few : s.content.next ≤ 2 ^ 64) where
+module _ (w : Script) (minimum : ℕ) (s : Scene) (last : ℕ → Option ℕ) (m : Told) (j : IsLegal w) (facts : Facts w minimum s last m)
+    (few : s.content.next ≤ 2 ^ 64) where
   -- of the set of an attempt
-  set_few : (a : Who) (cs : List File) → AreCommits w minimum (m.drawn a) a cs → (bytes : List ℕ) → reading.set_of bytes ≡ Ok (files_set w a cs (knowing (m.drawn a))) → NamesFew (ClusterBytes bytes)
+  set_few : (a : Who) (cs : List File) → AreCommits w minimum (m.drawn a) a cs → (bytes : List ℕ)
+      → reading.set_of bytes ≡ Ok (files_set w a cs (knowing (m.drawn a))) → NamesFew (ClusterBytes bytes)
   set_few a cs are bytes e =
-      let most : length (files_set w a cs (knowing (m.drawn a))).commits ≤ most_commits = commits_few w minimum s last m j facts few (m.drawn a) a cs are in
-      let same : length (set_names (reading.set_of bytes)) ≡ length (files_set w a cs (knowing (m.drawn a))).commits = ap (λ v. length (set_names v)) e ∙ length-map (files_set w a cs (knowing (m.drawn a))).commits ref_of in
+      let most : length (files_set w a cs (knowing (m.drawn a))).commits ≤ most_commits = commits_few w minimum s last m j facts few
+      (m.drawn a) a cs are in
+      let same : length (set_names (reading.set_of bytes)) ≡ length (files_set w a cs (knowing (m.drawn a))).commits = ap
+      (λ v. length (set_names v)) e ∙ length-map (files_set w a cs (knowing (m.drawn a))).commits ref_of in
       subst (λ n. n ≤ most_commits) (sym same) most
 
   module _ (filed : Filed w s) where
@@ -52,7 +78,9 @@ module _ (w : Script) (minimum : ℕ) (s : Scene) (last : ℕ → Option ℕ) (m
     }
 
     pub sparing_due : (c : Sparing) → FitsSparing w m.drawn c → FitsDue sparing_wants FitsSparingDriving (driving w c) s
-    sparing_due (Walking keys) fits r e repeated = subst (λ q. FitsAnswer (Walking keys) (answer s q)) (some_is e) (page_fits w s facts.there (magic_prefix w.dest.key w.job) keys)
+    sparing_due (Walking keys) fits r e repeated = subst (λ q. FitsAnswer (Walking keys) (answer s q)) (some_is e)
+        (page_fits w s facts.there (magic_prefix w.dest.key w.job) keys)
     sparing_due (Reading named p ps all) fits r e repeated =
-        subst (λ q. FitsAnswer (Reading named p ps all) (answer s q)) (some_is (sym (sparing_asks_same w (Reading named p ps all)) ∙ e)) (read_few w.committer refl p (first_own p ps fits.1))
+        subst (λ q. FitsAnswer (Reading named p ps all) (answer s q)) (some_is (sym (sparing_asks_same w (Reading named p ps all)) ∙ e))
+        (read_few w.committer refl p (first_own p ps fits.1))
     sparing_due _ fits r e repeated = tt

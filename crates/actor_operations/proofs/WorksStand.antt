@@ -1,13 +1,38 @@
 -- What the actors of a job are at, request by request: as far as what has happened says.
-use Rattle.actor_operations.proofs.Common.{Actor, At, Commit, Commits, Content, Done, Driver, Early, Fetching, InCommit, IsLegal, IsOpening, IsRun, Late, List, Magic, None, Operation, Play, Reachable, Replaces, Replacing, Retried, Running, Script, Seen, SetStands, Sets, Setting, Some, Stand, Sweep, TheCommit, TheSetup, Told, Who, [], actor_of, ap, arith, inl, inr, is_run, is_set, none_some, nothing_told, operation_of, picks_of, refl, replaced, scene_of, set_stands, subst, sym, tell_all, times, true, ℕ, ◌++◌, ◌∙◌, ◌∷◌, ◌≡◌, ◌⊎◌}
-use Rattle.job_facts.specs.Prelude.{Setup, SetupOver, SetsUp, Times}
-use Rattle.job_model.specs.declared.ends.SetupEnd.TheVariants as setups
-use Rattle.job_traces.proofs.EveryRun.{good}
-use Rattle.job_traces.proofs.Entries.{sees, tells_so, late_now}
-use Rattle.job_traces.proofs.Changes.{moment_scene}
-use Rattle.job_steps.proofs.RunningCommits.{goes_on}
-use Rattle.actor_operations.proofs.WorksTasks.{OwnTask, own_task}
 use Rattle.actor_operations.proofs.WorksReported.{AllRead, DriverReads, driver_reads}
+use Rattle.actor_operations.proofs.WorksTasks.{OwnTask, own_task}
+use Rattle.basics.proofs.Members.{none_some}
+use Rattle.job_facts.specs.Emptying.{SetsUp}
+use Rattle.job_facts.specs.FiledLaws.{Commits}
+use Rattle.job_facts.specs.Told.{Told, nothing_told, tell_all}
+use Rattle.job_model.specs.Attempts.{Who, actor_of}
+use Rattle.job_model.specs.JobScript.{Script}
+use Rattle.job_model.specs.Legal.{IsLegal}
+use Rattle.job_model.specs.declared.ends.EventEnd.TheVariants.{Done}
+use Rattle.job_protocol.specs.JobCommits.{Commit, Fetching, Replacing, Sets, picks_of, replaced}
+use Rattle.job_protocol.specs.Operations.{Operation, Running, Setting, TheCommit, TheSetup}
+use Rattle.job_protocol.specs.Seen.{Seen, Times}
+use Rattle.job_protocol.specs.Setup.{Setup, SetupOver}
+use Rattle.job_refinement.proofs.Kept.{set_stands}
+use Rattle.job_refinement.specs.Due.{SetStands}
+use Rattle.job_spec.specs.States.{times}
+use Rattle.job_steps.proofs.Running.{is_run}
+use Rattle.job_steps.proofs.RunningCommits.{goes_on}
+use Rattle.job_steps.specs.Running.{IsRun, operation_of}
+use Rattle.job_steps.specs.Transitions.{Play, Reachable, scene_of}
+use Rattle.job_traces.proofs.Changes.{moment_scene}
+use Rattle.job_traces.proofs.Entries.{late_now, sees, tells_so}
+use Rattle.job_traces.proofs.EveryRun.{good}
+use Rattle.job_traces.proofs.Running.{At, Early, InCommit, Late, Replaces}
+use Rattle.job_traces.specs.Runs.{IsOpening, Stand, is_set}
+use Rattle.list_walk.specs.Walks.{Sweep}
+use Rattle.retries.specs.Retries.{Retried}
+use Rattle.s3_types.specs.Store.{Content}
+use Rattle.s3_types.specs.declared.request.Actor.{Actor}
+use Rattle.s3_types.specs.declared.request.Actor.TheVariants.{Driver}
+use Rattle.s3_types.specs.declared.request.Committer.TheVariants.{Magic}
+use Rattle.std.proofs.Common.{List, None, Some, ap, arith, inl, inr, refl, subst, sym, true, ℕ, [], ◌++◌, ◌∙◌, ◌∷◌, ◌≡◌, ◌⊎◌}
+use Rattle.job_model.specs.declared.ends.SetupEnd.TheVariants as setups
 
 no_replacing : {X : Type 0} (front : List X) (p : X) (ps : List X) → front ++ p ∷ ps ≡ [] → ⊥
 no_replacing [] p ps e = cc
@@ -18,7 +43,8 @@ pub record CommitNow (g : Setting) (s : Seen) (m : Told) (c : Commit) : Type 0 w
   pub commits : Commits g.script g.minimum s m c
   pub stands : SetStands g.script s c
 
-module _ (g : Setting) (opening : Content) (x : Play) (j : IsLegal g.script) (is_opening : IsOpening g opening) (past : Reachable g opening x) where
+module _ (g : Setting) (opening : Content) (x : Play) (j : IsLegal g.script) (is_opening : IsOpening g opening)
+    (past : Reachable g opening x) where
   abbrev w : Script
   w = g.script
 
@@ -60,7 +86,8 @@ module _ (g : Setting) (opening : Content) (x : Play) (j : IsLegal g.script) (is
   setup_is e = cc
 
   -- it is over, or nobody else has begun anything
-  pub setup_now : (t : Retried Setup) → stand.driver ≡ Some (TheSetup t) → (t.operation ≡ SetupOver setups.Done) ⊎ (SetsUp w stand.seen.scene.content t.operation × ((b : Who) → stand.attempts b ≡ None))
+  pub setup_now : (t : Retried Setup) → stand.driver ≡ Some (TheSetup t) → (t.operation ≡ SetupOver setups.Done)
+      ⊎ (SetsUp w stand.seen.scene.content t.operation × ((b : Who) → stand.attempts b ≡ None))
   setup_now t h = grind (arith, good_now, setup_is, At)
 
   -- ---- the driver's commit
@@ -73,22 +100,34 @@ module _ (g : Setting) (opening : Content) (x : Play) (j : IsLegal g.script) (is
     in_commit = subst (λ v. At g opening v stand.seen stand.told) d commit_late.driver
 
     -- a magic job has no replace mode
-    pub never_replaces : w.committer ≡ Magic → (sets : Sets) (p : List ℕ) (ps : List (List ℕ)) (t : Sweep) (n : ℕ) → c ≡ Replacing sets p ps t n → ⊥
+    pub never_replaces : w.committer ≡ Magic → (sets : Sets) (p : List ℕ) (ps : List (List ℕ)) (t : Sweep) (n : ℕ)
+        → c ≡ Replacing sets p ps t n → ⊥
     never_replaces magic sets p ps t n is =
         let h = subst (Replaces g opening) is in_commit.replaces in
         no_replacing h.0 p ps (h.1 ∙ ap (λ z. replaced z w.mode w (picks_of sets)) magic)
 
     reads : AllRead w stand.seen c
     reads =
-        let clean = sym (ap (λ (z : Told). z.cleaned) (tells_so g event opening j is_opening x.journal stand run.runs) ∙ ap (λ c. (tell_all w (nothing_told c) x.journal).cleaned) run.cleans) ∙ in_commit.uncleaned in
+        let clean = sym (ap (λ (z : Told). z.cleaned) (tells_so g event opening j is_opening x.journal stand run.runs) ∙ ap
+        (λ c. (tell_all w (nothing_told c) x.journal).cleaned) run.cleans) ∙ in_commit.uncleaned in
         let h = driver_reads g opening j is_opening (x.ends ++ Done ∷ []) x past (goes_on x) clean in
-        subst (λ v. DriverReads w stand.seen v) (sym run.driver ∙ d) (subst (λ s. DriverReads w s (operation_of (x.running Driver))) (sym (sees g event opening j is_opening x.journal stand run.runs)) h)
+        subst (λ v. DriverReads w stand.seen v) (sym run.driver ∙ d) (subst (λ s. DriverReads w s (operation_of (x.running Driver)))
+        (sym (sees g event opening j is_opening x.journal stand run.runs)) h)
 
     commits : Commits w g.minimum stand.seen stand.told c
-    commits = record { hold = commit_late.hold; gone = commit_late.gone in_commit.uncleaned; fits = in_commit.fits; tabled = in_commit.tabled; turns = in_commit.turns; decides = in_commit.decides }
+    commits = record {
+      hold = commit_late.hold;
+      gone = commit_late.gone in_commit.uncleaned;
+      fits = in_commit.fits;
+      tabled =
+          in_commit.tabled;
+      turns = in_commit.turns;
+      decides = in_commit.decides;
+    }
 
     stands : (v : Commit) → v ≡ c → AllRead w stand.seen v → SetStands w stand.seen v
-    stands (Fetching sets n) is all = set_stands w g.minimum stand.seen stand.told (Fetching sets n) commit_late.hold (subst (λ z. Commits w g.minimum stand.seen stand.told z) (sym is) commits).fits in_commit.uncleaned all
+    stands (Fetching sets n) is all = set_stands w g.minimum stand.seen stand.told (Fetching sets n) commit_late.hold
+        (subst (λ z. Commits w g.minimum stand.seen stand.told z) (sym is) commits).fits in_commit.uncleaned all
     stands _ is all = tt
 
     pub commit_now : CommitNow g stand.seen stand.told c

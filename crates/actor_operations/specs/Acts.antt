@@ -1,32 +1,45 @@
 -- What an actor of a job is at, whichever operation it is.
-use Rattle.std.specs.Prelude.{ℕ, ◌+◌, ◌*◌, Bool, true, false, cond, Option, Some, None}
-use Rattle.job_steps.specs.Prelude.{option_map, Scene, Request, Outcome, Item, Retried, step, OpEnd, setup_over, write_over, task_commit_over, task_abort_over, commit_over, clean_over, Committing, setup_wants, setup_told, write_wants, write_told, task_commit_wants, task_commit_told, task_abort_wants, task_abort_told, commit_wants, clean_wants, clean_told, adds_key, one_if}
-use Rattle.machine.specs.Prelude.{retried, FitsOutcome}
-use Rattle.job_facts.specs.Prelude.{commit_told}
-use Rattle.machine.specs.declared.retrying.Retrying.{Retrying}
-use Rattle.job_model.specs.declared.ends.OpEnd.TheVariants as ends
+use Rattle.actor_operations.specs.declared.act.Act.{Act}
+use Rattle.actor_operations.specs.declared.act.Act.TheVariants.{AbortTask, Clean, Commit, CommitTask, Setup, Sparing, Write}
+use Rattle.actor_operations.specs.declared.checked.Checked.{Checked}
+use Rattle.cleanup.specs.Fits.{FitsDriving as clean_fits}
+use Rattle.cleanup.specs.Left.{clean_left}
+use Rattle.cleanup.specs.SparingFits.{FitsSparingDriving as sparing_fits, most_commits}
+use Rattle.cleanup.specs.SparingLeft.{sparing_left}
+use Rattle.commit_laws.specs.Laws.{FitsFew, left, rise as commit_rise}
+use Rattle.conflict.specs.Fits.{FitsCheck as check_fits}
+use Rattle.conflict.specs.Left.{check_left}
+use Rattle.conflict.specs.Rechecks.{PlannedCheck, check_told, check_wants}
 use Rattle.job_model.specs.declared.ends.CheckEnd.{CheckEnd}
 use Rattle.job_model.specs.declared.ends.CheckEnd.TheVariants.{Clear}
-use Rattle.job_protocol.specs.AtWork.{sparing_wants, sparing_told}
+use Rattle.job_model.specs.declared.ends.OpEnd.{OpEnd}
+use Rattle.job_protocol.specs.AtWork.{Committing, clean_told, clean_wants, commit_told, commit_wants, setup_told, setup_wants, sparing_told}
+use Rattle.job_protocol.specs.AtWork.{sparing_wants, task_abort_told, task_abort_wants, task_commit_told, task_commit_wants, write_told}
+use Rattle.job_protocol.specs.AtWork.{write_wants}
+use Rattle.job_protocol.specs.Cleanups.{clean_over}
+use Rattle.job_protocol.specs.JobCommits.{commit_over}
 use Rattle.job_protocol.specs.Rechecks.{check_over}
+use Rattle.job_protocol.specs.Setup.{setup_over}
 use Rattle.job_protocol.specs.Sparing.{sparing_over}
-use Rattle.task_requests.specs.Writing.{write_fits, write_left}
-use Rattle.task_machines.specs.Commits.{commit_fits as task_commit_fits, commit_left as task_commit_left}
-use Rattle.task_machines.specs.Aborts.{abort_fits as task_abort_fits, abort_left as task_abort_left}
-use Rattle.job_setup.specs.Left.{setup_left}
-use Rattle.cleanup.specs.Left.{clean_left}
-use Rattle.cleanup.specs.SparingFits.{most_commits, FitsSparingDriving as sparing_fits}
-use Rattle.cleanup.specs.SparingLeft.{sparing_left}
-use Rattle.conflict.specs.Rechecks.{PlannedCheck, check_wants, check_told}
-use Rattle.conflict.specs.Left.{check_left}
-use Rattle.commit_laws.specs.Laws.{FitsFew, left, rise as commit_rise}
-use Rattle.actor_operations.specs.declared.act.Act.{Act}
-use Rattle.actor_operations.specs.declared.act.Act.TheVariants.{Setup, Write, CommitTask, AbortTask, Commit, Clean, Sparing}
-use Rattle.actor_operations.specs.declared.act.Act.TheVariants as acts
-use Rattle.actor_operations.specs.declared.checked.Checked.{Checked}
+use Rattle.job_protocol.specs.TaskAborts.{task_abort_over}
+use Rattle.job_protocol.specs.TaskCommits.{task_commit_over}
+use Rattle.job_protocol.specs.Writes.{write_over}
 use Rattle.job_setup.specs.Fits.{FitsDriving as setup_fits}
-use Rattle.cleanup.specs.Fits.{FitsDriving as clean_fits}
-use Rattle.conflict.specs.Fits.{FitsCheck as check_fits}
+use Rattle.job_setup.specs.Left.{setup_left}
+use Rattle.list_walk.specs.Left.{adds_key, one_if}
+use Rattle.machine.specs.Turns.{FitsOutcome, retried}
+use Rattle.machine.specs.declared.retrying.Retrying.{Retrying}
+use Rattle.retries.specs.Retries.{Item, Retried, step}
+use Rattle.s3_types.specs.Store.{Scene}
+use Rattle.s3_types.specs.declared.journal.Outcome.{Outcome}
+use Rattle.s3_types.specs.declared.request.Request.{Request}
+use Rattle.std.specs.Option.{option_map}
+use Rattle.std.specs.Prelude.{Bool, None, Option, Some, cond, false, true, ℕ, ◌*◌, ◌+◌}
+use Rattle.task_machines.specs.Aborts.{abort_fits as task_abort_fits, abort_left as task_abort_left}
+use Rattle.task_machines.specs.Commits.{commit_fits as task_commit_fits, commit_left as task_commit_left}
+use Rattle.task_requests.specs.Writing.{write_fits, write_left}
+use Rattle.job_model.specs.declared.ends.OpEnd.TheVariants as ends
+use Rattle.actor_operations.specs.declared.act.Act.TheVariants as acts
 
 -- ---- a machine under its retries
 

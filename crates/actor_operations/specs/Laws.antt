@@ -1,36 +1,54 @@
 -- The laws of the operations of a job's actors.
-use Rattle.std.specs.Prelude.{◌≡◌, ℕ, Bool, true, false, List, [], Option, Some, None}
-use Rattle.job_steps.specs.Prelude.{Actor, Outcome, CommitEnd, fresh, Job, Task, Known, Script, Op, setup_start, write_start, task_commit_start, task_abort_start, commit_start, clean_start, Reports, Setting, wants, advance, over, start_of, task_script, who_of, read_script, job_of}
-use Rattle.machine.specs.declared.retrying.Retrying.{Retrying}
-use Rattle.job_model.specs.declared.events.Op.TheVariants as ops
-use Rattle.job_model.specs.declared.ends.CommitEnd.TheVariants as ends
-use Rattle.job_protocol.specs.Prelude.{Mode, Fail}
-use Rattle.job_protocol.specs.Sparing.{sparing_start}
+use Rattle.actor_operations.specs.Acts.{end_of, tells_of, under, until_clear, wants_of}
+use Rattle.actor_operations.specs.Plans.{AsksSo, GoesSo, IsOf, plan_of, running_of}
+use Rattle.actor_operations.specs.declared.act.Act.{Act}
+use Rattle.actor_operations.specs.declared.act.Act.TheVariants.{AbortTask, Checked, Clean, Commit, CommitTask, Setup, Sparing, Write}
 use Rattle.commit_laws.specs.Fitting.{least_missing}
 use Rattle.commit_laws.specs.Laws.{start}
 use Rattle.conflict.specs.Rechecks.{PlannedCheck, check_begun}
-use Rattle.actor_operations.specs.declared.act.Act.{Act}
-use Rattle.actor_operations.specs.declared.act.Act.TheVariants.{Setup, Write, CommitTask, AbortTask, Commit, Clean, Sparing, Checked}
-use Rattle.job_actor.specs.declared.plan.Plan.TheVariants as plans
 use Rattle.job_actor.specs.Plans.{IsPlanOf}
 use Rattle.job_actor.specs.Reports.{IsReport}
 use Rattle.job_actor.specs.declared.reported.Reported.{Reported}
-use Rattle.actor_operations.specs.Acts.{under, until_clear, wants_of, tells_of, end_of}
-use Rattle.actor_operations.specs.Plans.{plan_of, running_of, IsOf, AsksSo, GoesSo}
+use Rattle.job_model.specs.JobScript.{Script}
+use Rattle.job_model.specs.Jobs.{Job, Task}
+use Rattle.job_model.specs.Known.{Known}
+use Rattle.job_model.specs.declared.ends.CommitEnd.{CommitEnd}
+use Rattle.job_model.specs.declared.events.Op.{Op}
+use Rattle.job_protocol.specs.AtWork.{job_of, read_script, task_script, who_of}
+use Rattle.job_protocol.specs.Cleanups.{clean_start}
+use Rattle.job_protocol.specs.JobCommits.{commit_start}
+use Rattle.job_protocol.specs.Operations.{Reports, Setting, advance, over, start_of, wants}
+use Rattle.job_protocol.specs.Setup.{setup_start}
+use Rattle.job_protocol.specs.Sparing.{sparing_start}
+use Rattle.job_protocol.specs.TaskAborts.{task_abort_start}
+use Rattle.job_protocol.specs.TaskCommits.{task_commit_start}
+use Rattle.job_protocol.specs.Writes.{write_start}
+use Rattle.machine.specs.declared.retrying.Retrying.{Retrying}
+use Rattle.retries.specs.Retries.{fresh}
+use Rattle.s3_types.specs.declared.journal.Outcome.{Outcome}
+use Rattle.s3_types.specs.declared.request.Actor.{Actor}
+use Rattle.s3_types.specs.declared.request.Mode.{Mode}
+use Rattle.s3_types.specs.declared.request.Mode.TheVariants.{Fail}
+use Rattle.std.specs.Prelude.{Bool, List, None, Option, Some, false, true, ℕ, [], ◌≡◌}
+use Rattle.job_model.specs.declared.events.Op.TheVariants as ops
+use Rattle.job_model.specs.declared.ends.CommitEnd.TheVariants as ends
+use Rattle.job_actor.specs.declared.plan.Plan.TheVariants as plans
 
 -- ---- how they go on
 
 -- the operations of a job's actors go on as the script says
 pub record ActorsGo : Type 0 where
   -- by its plan it asks what the script's operation asks, and goes where that goes, in what is known too
-  pub wants : (g : Setting) (a : Actor) (k : Known) (act : Act) → IsOf g a act → AsksSo g.script act → wants_of act ≡ wants g a (running_of k act)
+  pub wants : (g : Setting) (a : Actor) (k : Known) (act : Act) → IsOf g a act → AsksSo g.script act
+      → wants_of act ≡ wants g a (running_of k act)
   pub goes : (g : Setting) (a : Actor) (k : Known) (act : Act) (o : Outcome) → IsOf g a act → AsksSo g.script act → GoesSo g.script act o
       → running_of (advance g a (running_of k act) o).known (tells_of act o) ≡ advance g a (running_of k act) o
   pub stays : (g : Setting) (a : Actor) (act : Act) (o : Outcome) → IsOf g a act → IsOf g a (tells_of act o)
   -- it ends as that does
   pub ends : (k : Known) (act : Act) → end_of act ≡ over (running_of k act).operation
   -- once it asks nothing more, its plan is that which the script gives one who knows this
-  pub plans : (g : Setting) (a : Actor) (k : Known) (act : Act) → IsOf g a act → wants_of act ≡ None → IsPlanOf g a (running_of k act).known (plan_of act)
+  pub plans : (g : Setting) (a : Actor) (k : Known) (act : Act) → IsOf g a act → wants_of act ≡ None
+      → IsPlanOf g a (running_of k act).known (plan_of act)
 
 -- ---- how they begin
 
@@ -108,7 +126,8 @@ BeginsSetup j act = (g : Setting) (a : Actor) (r : Reports) (k : Known) → IsPl
 
 -- and where this is reported another operation
 abbrev pub BeginsJob : Op → Job → Reported → Act → Type 0
-BeginsJob op j x act = (g : Setting) (a : Actor) (r : Reports) (k : Known) → IsReport g a op x r → IsPlanOf g a k (plans.Job j) → Begun g a op r k act
+BeginsJob op j x act = (g : Setting) (a : Actor) (r : Reports) (k : Known) → IsReport g a op x r → IsPlanOf g a k (plans.Job j)
+    → Begun g a op r k act
 
 -- a job's commit begins as by the script, before it read a set
 abbrev pub StartsSo : Script → Option ℕ → Type 0
@@ -116,7 +135,8 @@ StartsSo w missing = commit_start (read_script (job_of w) []) missing ≡ commit
 
 -- the driver's commit
 abbrev pub BeginsCommit : Job → Reported → Act → Type 0
-BeginsCommit j x act = (g : Setting) (a : Actor) (r : Reports) (k : Known) → IsReport g a ops.Commit x r → IsPlanOf g a k (plans.Job j) → StartsSo g.script r.missing → Begun g a ops.Commit r k act
+BeginsCommit j x act = (g : Setting) (a : Actor) (r : Reports) (k : Known) → IsReport g a ops.Commit x r → IsPlanOf g a k (plans.Job j)
+    → StartsSo g.script r.missing → Begun g a ops.Commit r k act
 
 -- the driver's clean, and its abort
 pub record BeginsClean (j : Job) (x : Reported) (act : Act) : Type 0 where

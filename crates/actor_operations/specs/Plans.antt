@@ -1,12 +1,25 @@
 -- What the operations of a job's actors go by, and which the script gives.
-use Rattle.std.specs.Prelude.{◌≡◌, ℕ, ◌≤◌, nat_lt, Bool, cond, List, Option, Some, None}
-use Rattle.job_steps.specs.Prelude.{Actor, Driver, Attempt, Request, Outcome, RequestLost, Retried, Known, Script, Pick, commit_asks, commit_start, commit_tells, Setting, Operation, TheSetup, TheWrite, TheTaskCommit, TheTaskAbort, TheCommit, TheClean, TheCheck, TheSparing, Running, who, learn_of, Attempting, Committing, Driving, task_script, who_of, read_script, sets_in, sets_after, job_of, task_of, write_wants, task_commit_wants, task_abort_wants}
-use Rattle.machine.specs.declared.retrying.Retrying.{Retrying}
-use Rattle.job_commit.specs.Holds.{picks_from}
-use Rattle.conflict.specs.Rechecks.{PlannedCheck}
 use Rattle.actor_operations.specs.declared.act.Act.{Act}
-use Rattle.actor_operations.specs.declared.act.Act.TheVariants.{Setup, Write, CommitTask, AbortTask, Commit, Clean, Sparing, Checked}
+use Rattle.actor_operations.specs.declared.act.Act.TheVariants.{AbortTask, Checked, Clean, Commit, CommitTask, Setup, Sparing, Write}
+use Rattle.conflict.specs.Rechecks.{PlannedCheck}
 use Rattle.job_actor.specs.declared.plan.Plan.{Plan}
+use Rattle.job_commit.specs.Holds.{picks_from}
+use Rattle.job_model.specs.JobScript.{Script}
+use Rattle.job_model.specs.Known.{Known}
+use Rattle.job_model.specs.declared.ends.Pick.{Pick}
+use Rattle.job_protocol.specs.AtWork.{Attempting, Committing, Driving, job_of, read_script, sets_after, sets_in, task_abort_wants}
+use Rattle.job_protocol.specs.AtWork.{task_commit_wants, task_of, task_script, who_of, write_wants}
+use Rattle.job_protocol.specs.JobCommits.{commit_asks, commit_start, commit_tells}
+use Rattle.job_protocol.specs.Operations.{Operation, Running, Setting, TheCheck, TheClean, TheCommit, TheSetup, TheSparing, TheTaskAbort}
+use Rattle.job_protocol.specs.Operations.{TheTaskCommit, TheWrite, learn_of, who}
+use Rattle.machine.specs.declared.retrying.Retrying.{Retrying}
+use Rattle.retries.specs.Retries.{Retried}
+use Rattle.s3_types.specs.declared.journal.Outcome.{Outcome}
+use Rattle.s3_types.specs.declared.journal.Outcome.TheVariants.{RequestLost}
+use Rattle.s3_types.specs.declared.request.Actor.{Actor}
+use Rattle.s3_types.specs.declared.request.Actor.TheVariants.{Attempt, Driver}
+use Rattle.s3_types.specs.declared.request.Request.{Request}
+use Rattle.std.specs.Prelude.{Bool, List, None, Option, Some, cond, nat_lt, ℕ, ◌≡◌, ◌≤◌}
 use Rattle.job_actor.specs.declared.plan.Plan.TheVariants as plans
 
 -- the plan, with what an attempt knows as the operation leaves it
@@ -32,9 +45,11 @@ picks_of _ = None
 abbrev pub counted : {O : Type 0} → ℕ → Bool → O → Retried O
 counted spare repeated o = record { operation = o; spare = spare; repeated = repeated }
 
--- What an attempt knows. Its plan is told when its request is answered or wears out; what a sending that got no answer teaches, as that the publishing request was sent, holds from that sending on.
+-- What an attempt knows. Its plan is told when its request is answered or wears out; what a sending that got no answer teaches, as that the
+-- publishing request was sent, holds from that sending on.
 abbrev pub known_now : {O : Type 0} → (Attempting O → Option Request) → Retrying (Attempting O) → Known
-known_now wants t = cond (nat_lt t.spare t.retries) (learn_of (task_script t.machine.plan) (who_of t.machine.plan) t.machine.plan.known (wants t.machine) RequestLost) t.machine.plan.known
+known_now wants t = cond (nat_lt t.spare t.retries) (learn_of (task_script t.machine.plan) (who_of t.machine.plan) t.machine.plan.known
+    (wants t.machine) RequestLost) t.machine.plan.known
 
 -- a job's commit behind its check: the check, while there is one
 abbrev pub checked_at : Option (Retrying PlannedCheck) → Committing → Operation
@@ -45,8 +60,16 @@ checked_at None c = TheCommit c.operation
 abbrev pub running_of : Known → Act → Running
 running_of k (Setup t) = record { operation = TheSetup (counted t.spare t.repeated t.machine.operation); known = k }
 running_of k (Write t) = record { operation = TheWrite (counted t.spare t.repeated t.machine.operation); known = known_now write_wants t }
-running_of k (CommitTask t) = record { operation = TheTaskCommit (counted t.spare t.repeated t.machine.operation); known = known_now task_commit_wants t }
-running_of k (AbortTask t) = record { operation = TheTaskAbort (counted t.spare t.repeated t.machine.operation); known = known_now task_abort_wants t }
+running_of k (CommitTask t) = record {
+  operation = TheTaskCommit (counted t.spare t.repeated t.machine.operation);
+  known = known_now
+      task_commit_wants t;
+}
+running_of k (AbortTask t) = record {
+  operation = TheTaskAbort (counted t.spare t.repeated t.machine.operation);
+  known = known_now
+      task_abort_wants t;
+}
 running_of k (Commit c) = record { operation = TheCommit c.operation; known = k }
 running_of k (Clean t) = record { operation = TheClean (counted t.spare t.repeated t.machine.operation); known = k }
 running_of k (Sparing t) = record { operation = TheSparing (counted t.spare t.repeated t.machine.operation); known = k }

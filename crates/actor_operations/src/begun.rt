@@ -1,7 +1,8 @@
 ghost use Rattle.std.specs.Prelude.{◌≡◌, ℕ, List, Some, IfOk};
 ghost use Rattle.job_model.specs.declared.events.Op.TheVariants as ops;
 ghost use Rattle.job_protocol.specs.JobCommits.{commit_over};
-ghost use Rattle.job_protocol.specs.Prelude.{Fail, Job};
+ghost use Rattle.job_model.specs.Jobs.{Job};
+ghost use Rattle.s3_types.specs.declared.request.Mode.TheVariants.{Fail};
 ghost use Rattle.commit_laws.specs.Fitting.{least_missing};
 ghost use Rattle.commit_laws.specs.Laws.{start};
 ghost use Rattle.actor_operations.specs.Laws.{unsent, setup_of, write_of, commit_task_of, abort_task_of, commit_of, check_of, is_missing, commit_by, driver_commit, clean_of, sparing_of, clean_by, BeginsSetup, BeginsTask, BeginsCommit, BeginsClean};

@@ -1,20 +1,23 @@
 -- Parent directories of paths, and sets of directories.
-use Rattle.std.proofs.Common.{◌≡◌, inl, inr, ℕ, zero, suc, ◌+◌, ◌<◌, ◌≤◌, ◌==◌, ◌||◌, ◌&&◌, Bool, true, false, cond, List, [], ◌∷◌, ◌++◌}
-use Rattle.std.proofs.Common.{length, length-append, get_or, take, drop, map, refl, sym, ap, subst, ◌∙◌, arith}
-use Rattle.std.specs.List.{list_any}
-use Rattle.std.specs.BTreeSet.{insert_key}
-use Rattle.std.specs.Ordering.{is_eq, match_ordering}
-use Rattle.std.specs.declared.cmp.Ordering.{Ordering}
-use Rattle.std.specs.declared.cmp.Ordering.TheVariants.{Less, Equal, Greater}
-use Rattle.std.proofs.Math.Seq.{take-append_seam}
-use Rattle.std.proofs.lemmas.List.{length-take-le, take-append-drop}
+use Rattle.audit_claims.specs.Directories.{AreDirectories, has_dir}
+use Rattle.basics.proofs.Bools.{contrary}
+use Rattle.basics.proofs.Members.{false_true, same_or_not, text_is, text_true, true_or_false}
 use Rattle.basics.specs.Members.{IsIn}
 use Rattle.basics.specs.Order.{text_cmp, text_eq, text_ties}
-use Rattle.basics.proofs.Bools.{contrary}
-use Rattle.basics.proofs.Common.{Decides-eqb, and_parts, eqb-true, exact_bytes, starts_is}
-use Rattle.basics.proofs.Members.{false_true, same_or_not, text_is, text_true, true_or_false}
 use Rattle.soundness.specs.Claims.{directory, is_below, with_byte}
-use Rattle.audit_claims.specs.Directories.{AreDirectories, has_dir}
+use Rattle.std.proofs.Common.{Bool, List, ap, arith, cond, drop, false, get_or, inl, inr, length, length-append, map, refl, subst, suc, sym}
+use Rattle.std.proofs.Common.{take, true, zero, ℕ, [], ◌&&◌, ◌++◌, ◌+◌, ◌<◌, ◌==◌, ◌||◌, ◌∙◌, ◌∷◌, ◌≡◌, ◌≤◌}
+use Rattle.std.proofs.Math.Seq.{take-append_seam}
+use Rattle.std.proofs.lemmas.Bool.{and_parts, eqb-true}
+use Rattle.std.proofs.lemmas.Bool.Decides.{Decides-eqb}
+use Rattle.std.proofs.lemmas.List.{length-take-le, take-append-drop}
+use Rattle.std.proofs.lemmas.Map.Lookups.{exact_bytes}
+use Rattle.std.proofs.lemmas.Slice.Eq.{starts_is}
+use Rattle.std.specs.BTreeSet.{insert_key}
+use Rattle.std.specs.List.{list_any}
+use Rattle.std.specs.Ordering.{is_eq, match_ordering}
+use Rattle.std.specs.declared.cmp.Ordering.{Ordering}
+use Rattle.std.specs.declared.cmp.Ordering.TheVariants.{Equal, Greater, Less}
 
 -- ---- truth values, and tests on lists
 

@@ -1,14 +1,14 @@
 -- Paths below the directories that attempts write into.
-use Rattle.std.proofs.Common.{◌≡◌, ℕ, ◌||◌, ◌&&◌, Bool, true, false, List, [], ◌∷◌, refl, sym, ap, ◌∙◌}
-use Rattle.std.specs.List.{list_any, list_all}
-use Rattle.basics.specs.Order.{text_eq}
-use Rattle.basics.proofs.Common.{and_parts}
-use Rattle.basics.proofs.Members.{false_true, text_is, text_true}
-use Rattle.soundness.specs.Claims.{Attempts, Files, always_reaches, directory, is_below, reaches, writes_into}
-use Rattle.judging.specs.Listed.{Listed, Numbered}
+use Rattle.audit_claims.proofs.Dirs.{any_at, any_some, both_true, same_truth}
 use Rattle.audit_claims.specs.Claims.{Tags}
 use Rattle.audit_claims.specs.Directories.{all_write, always_writes, files_of, has_dir, some_always_reaches, some_reaches, some_writes}
-use Rattle.audit_claims.proofs.Dirs.{any_at, any_some, both_true, same_truth}
+use Rattle.basics.proofs.Members.{false_true, text_is, text_true}
+use Rattle.basics.specs.Order.{text_eq}
+use Rattle.judging.specs.Listed.{Listed, Numbered}
+use Rattle.soundness.specs.Claims.{Attempts, Files, always_reaches, directory, is_below, reaches, writes_into}
+use Rattle.std.proofs.Common.{Bool, List, ap, false, refl, sym, true, ℕ, [], ◌&&◌, ◌||◌, ◌∙◌, ◌∷◌, ◌≡◌}
+use Rattle.std.proofs.lemmas.Bool.{and_parts}
+use Rattle.std.specs.List.{list_all, list_any}
 
 writes_reaches : (d p : List ℕ) (files : Files Tags) → is_below d p ≡ true → writes_into d files ≡ true → reaches p files ≡ true
 writes_reaches d p files b w =

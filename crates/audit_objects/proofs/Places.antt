@@ -1,21 +1,21 @@
 -- Objects of which those of one bucket are changed.
-use Rattle.std.proofs.Common.{◌≡◌, ◌&&◌, ◌||◌, ℕ, ◌+◌, ◌<◌, Bool, true, false, cond, List, [], ◌∷◌, Option, Some, None}
-use Rattle.std.proofs.Common.{length, get_or, take, refl, sym, ap, ◌∙◌}
+use Rattle.audit_claims.specs.Claims.{Tags}
+use Rattle.audit_claims.specs.Etags.{TagMap}
+use Rattle.audit_objects.specs.Objects.{ObjectMap, at, delete, put, same_place, tags_in}
+use Rattle.basics.proofs.Members.{text_is, text_true}
+use Rattle.basics.proofs.Tree.{get_made, insert_same, made_insert}
+use Rattle.basics.specs.Order.{text_cmp, text_eq, text_ties, text_total}
+use Rattle.std.proofs.Common.{Bool, List, None, Option, Some, ap, cond, false, get_or, length, refl, sym, take, true, ℕ, [], ◌&&◌, ◌+◌, ◌<◌}
+use Rattle.std.proofs.Common.{◌||◌, ◌∙◌, ◌∷◌, ◌≡◌}
 use Rattle.std.proofs.lemmas.List.Folds.{list_any_more}
+use Rattle.std.proofs.lemmas.Map.Lookups.{exact_bytes}
 use Rattle.std.proofs.lemmas.Slice.Eq.{bytes_eq-Decides}
-use Rattle.std.specs.FinMap as map
+use Rattle.std.specs.BTreeMap.{is_at}
 use Rattle.std.specs.List.{list_any}
 use Rattle.std.specs.Map.{lookup}
 use Rattle.std.specs.Ordering.{eq_by_cmp}
 use Rattle.std.specs.Str.{bytes_eq}
-use Rattle.basics.specs.Order.{text_cmp, text_eq, text_ties, text_total}
-use Rattle.basics.specs.Prelude.{is_at}
-use Rattle.basics.proofs.Common.{exact_bytes}
-use Rattle.basics.proofs.Members.{text_is, text_true}
-use Rattle.basics.proofs.Tree.{get_made, insert_same, made_insert}
-use Rattle.audit_claims.specs.Claims.{Tags}
-use Rattle.audit_claims.specs.Etags.{TagMap}
-use Rattle.audit_objects.specs.Objects.{ObjectMap, at, delete, put, same_place, tags_in}
+use Rattle.std.specs.FinMap as map
 
 -- ---- truth values and texts
 

@@ -1,10 +1,9 @@
 -- What was written so far.
-use Rattle.std.proofs.Common.{Err, List, None, Ok, OnErr, Option, Result, Some, [], ap, drop, length, refl, subst, sym, take, ℕ, ◌++◌, ◌∙◌}
-use Rattle.std.proofs.Common.{◌≡◌}
-use Rattle.std.proofs.lemmas.List.{append-nil, append_assoc, take-append-drop}
-use Rattle.basics.proofs.Common.{take_at}
 use Rattle.audit_top.specs.Audited.{WritesSome}
 use Rattle.shelf.specs.Devices.{Appends}
+use Rattle.std.proofs.Common.{Err, List, None, Ok, OnErr, Option, Result, Some, ap, drop, length, refl, subst, sym, take, ℕ, [], ◌++◌, ◌∙◌}
+use Rattle.std.proofs.Common.{◌≡◌}
+use Rattle.std.proofs.lemmas.List.{append-nil, append_assoc, take-append-drop, take_at}
 
 -- some first bytes of a text were written behind what was written before, and these are left
 abbrev pub IsWrittenSoFar : Option (List ℕ) → Option (List ℕ) → List ℕ → List ℕ → Type 0

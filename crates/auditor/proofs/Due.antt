@@ -1,26 +1,25 @@
 -- What the stage of a trace makes sure of a line.
-use Rattle.std.proofs.Common.{Bool, arith, Err, List, None, Ok, Option, Result, Some, [], ap, false, is_none, is_some, length, nat_le}
-use Rattle.std.proofs.Common.{nat_lt, not, subst, sym}
-use Rattle.std.proofs.Common.{true, ℕ, ◌&&◌, ◌<◌, ◌∙◌, ◌≡◌, ◌∷◌, refl, rules, if◌then◌else◌}
-use Rattle.std.specs.Option.{option_and_then}
-use Rattle.basics.proofs.Common.{and_parts}
 use Rattle.basics.specs.Reading.{check, need, ◌>>=◌}
 use Rattle.pending_json.specs.Fields.{as_texts, as_u32, kept}
 use Rattle.serde_json.specs.Data.{Data}
 use Rattle.serde_json.specs.Find.{as_bool, as_object, as_str, get}
+use Rattle.std.proofs.Common.{Bool, Err, List, None, Ok, Option, Result, Some, ap, arith, false, if◌then◌else◌, is_none, is_some, length}
+use Rattle.std.proofs.Common.{nat_le, nat_lt, not, refl, rules, subst, sym, true, ℕ, [], ◌&&◌, ◌<◌, ◌∙◌, ◌∷◌, ◌≡◌}
+use Rattle.std.proofs.lemmas.Bool.{and_parts}
+use Rattle.std.specs.Option.{option_and_then}
 use Rattle.trace_reader.specs.Operations.{may_come, operation_of}
 use Rattle.trace_reader.specs.Reading.{MOST_BYTES, as_dest, as_file_path, as_keeps, as_parts, as_task, attempt_in, complete_in, copy_in}
-use Rattle.trace_reader.specs.Reading.{delete_all_in, delete_in, file_in, if_effect}
-use Rattle.trace_reader.specs.Reading.{job_in, line_of, member, name_of, object_in, of_kind, put_in, said_by, tree_of, turn_in}
+use Rattle.trace_reader.specs.Reading.{delete_all_in, delete_in, file_in, if_effect, job_in, line_of, member, name_of, object_in, of_kind}
+use Rattle.trace_reader.specs.Reading.{put_in, said_by, tree_of, turn_in}
 use Rattle.trace_reader.specs.declared.fault.Field.{Field}
-use Rattle.trace_reader.specs.declared.fault.Field.TheVariants as field
 use Rattle.trace_reader.specs.declared.fault.TraceFault.{TraceFault}
 use Rattle.trace_reader.specs.declared.fault.TraceFault.TheVariants.{MissingField, NotJson, OutOfOrder, TooLong, UnknownOp}
 use Rattle.trace_reader.specs.declared.line.TraceLine.{TraceLine}
-use Rattle.trace_reader.specs.declared.line.TraceLine.TheVariants as line
 use Rattle.trace_reader.specs.declared.operation.Operation.{Operation}
-use Rattle.trace_reader.specs.declared.operation.Operation.TheVariants as op
 use Rattle.trace_reader.specs.declared.stage.Stage.{Stage}
+use Rattle.trace_reader.specs.declared.fault.Field.TheVariants as field
+use Rattle.trace_reader.specs.declared.line.TraceLine.TheVariants as line
+use Rattle.trace_reader.specs.declared.operation.Operation.TheVariants as op
 
 -- The number is below the other, if there is another.
 abbrev Below : ℕ → Option ℕ → Type 0

@@ -1,14 +1,15 @@
 -- The paths below a destination at which readers see files.
-use Rattle.std.proofs.Common.{Bool, Bor, List, MatchOption, None, Option, Some, [], ap, cond, drop, false, length, nat_eq, option_map}
-use Rattle.std.proofs.Common.{refl, subst, sym, true, ℕ, ◌++◌, ◌∙◌, ◌∷◌, ◌≡◌, ◌≢◌, ◌+◌}
+use Rattle.audit_model.specs.Answers.{seen_paths, visible_in}
+use Rattle.auditor.specs.Destinations.{behind, in_list}
+use Rattle.path_keys.specs.Paths.{Path, below}
+use Rattle.soundness.specs.Paths.{is_visible}
+use Rattle.std.proofs.Common.{Bool, Bor, List, MatchOption, None, Option, Some, ap, cond, drop, false, length, nat_eq, option_map, refl}
+use Rattle.std.proofs.Common.{subst, sym, true, ℕ, [], ◌++◌, ◌+◌, ◌∙◌, ◌∷◌, ◌≡◌, ◌≢◌}
+use Rattle.std.proofs.lemmas.Bool.Decides.{Decides-eqb}
+use Rattle.std.proofs.lemmas.Slice.Eq.{starts_is}
 use Rattle.std.specs.List.{starts_with}
 use Rattle.std.specs.Str.{bytes_eq}
 use Rattle.std.specs.Str.Pattern.{FindsTextPrefix}
-use Rattle.basics.proofs.Common.{Decides-eqb, starts_is}
-use Rattle.path_keys.specs.Paths.{Path, below}
-use Rattle.soundness.specs.Paths.{is_visible}
-use Rattle.audit_model.specs.Answers.{seen_paths, visible_in}
-use Rattle.auditor.specs.Destinations.{behind, in_list}
 
 begins_so : (front text rest : List ℕ) → text ≡ front ++ rest → starts_with nat_eq text front ≡ true
 begins_so front text rest e = (starts_is Decides-eqb text front (starts_with nat_eq text front) refl).1 rest e

@@ -1,5 +1,6 @@
 -- Truth values.
-use Rattle.basics.proofs.Common.{Bool, false, false≢true, not, refl, true, ◌&&◌, ◌≡◌}
+use Rattle.std.proofs.Common.{Bool, false, not, refl, true, ◌&&◌, ◌≡◌}
+use Rattle.std.proofs.lemmas.Bool.{false≢true}
 
 pub all_three : (a b c : Bool) → a ≡ true → b ≡ true → c ≡ true → (a && b && c) ≡ true
 all_three a b c h i j = rw (h, i, j) refl

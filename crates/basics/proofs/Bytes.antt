@@ -1,7 +1,13 @@
 -- Readers of bytes: what a step took from the front, that it reads again what was written, and numbers of a fixed width.
-use Rattle.basics.proofs.Common.{Err, List, Ok, Read, Width, ap, append_assoc, arith, byte_len, cases_lt, cond, drop, drop_at, false, from_be_bytes, get_or, get_or-drop, get_or-take, get_or_past, inl, inr, le-ltb, length, length-append, length-take, ltb, ltb-false, refl, subst, sym, take, take-append-drop, take_at, to_be_bytes, w16, w32, w64, ℕ, ◌++◌, ◌+◌, ◌<◌, ◌^◌, ◌∙◌, ◌≡◌, ◌≤◌}
-use Rattle.std.proofs.lemmas.Nat.{be_bytes_2, be_bytes_4, be_bytes_8, from_be_bytes-to_be_bytes_2, from_be_bytes-to_be_bytes_4, from_be_bytes-to_be_bytes_8}
 use Rattle.basics.proofs.Reading.{not_stopped}
+use Rattle.basics.specs.Reading.{Read}
+use Rattle.std.proofs.Common.{Err, List, Ok, ap, append_assoc, arith, cond, drop, false, get_or, inl, inr, length, ltb, refl, subst, sym}
+use Rattle.std.proofs.Common.{take, ℕ, ◌++◌, ◌+◌, ◌<◌, ◌^◌, ◌∙◌, ◌≡◌, ◌≤◌}
+use Rattle.std.proofs.lemmas.Bool.{cases_lt, le-ltb, ltb-false}
+use Rattle.std.proofs.lemmas.List.{drop_at, get_or-drop, get_or-take, get_or_past, length-append, length-take, take-append-drop, take_at}
+use Rattle.std.proofs.lemmas.Nat.{be_bytes_2, be_bytes_4, be_bytes_8, from_be_bytes-to_be_bytes_2, from_be_bytes-to_be_bytes_4}
+use Rattle.std.proofs.lemmas.Nat.{from_be_bytes-to_be_bytes_8}
+use Rattle.std.specs.Int.{Width, byte_len, from_be_bytes, to_be_bytes, w16, w32, w64}
 
 abbrev pub IsBytes : List ℕ → Type 0
 IsBytes bytes = (i : ℕ) → get_or bytes i 0 < 256
@@ -22,7 +28,11 @@ pub record Takes (bytes text rest : List ℕ) : Type 0 where
   pub rest_fits : IsBytes rest
 
 pub Takes-then : (a x b y c : List ℕ) → Takes a x b → Takes b y c → Takes a (x ++ y) c
-Takes-then a x b y c p q = record { parts = p.parts ∙ ap (λ (t : List ℕ). x ++ t) q.parts ∙ sym (append_assoc x y c); rest_fits = q.rest_fits }
+Takes-then a x b y c p q = record {
+  parts = p.parts ∙ ap (λ (t : List ℕ). x ++ t) q.parts ∙ sym (append_assoc x y c);
+  rest_fits =
+      q.rest_fits;
+}
 
 -- a reader takes the text of a value of this kind, and reads such a text again
 pub record IsReader {F A : Type 0} (read : List ℕ → Read F A) (text : A → List ℕ) (IsValue : A → Type 0) : Type 0 where
@@ -35,12 +45,17 @@ module _ {F : Type 0} (fault : F) where
   abbrev pub front : ℕ → List ℕ → Read F (List ℕ)
   front n bytes = cond (ltb (length bytes) n) (Err fault) (Ok (take n bytes, drop n bytes))
 
-  pub front_takes : (n : ℕ) (bytes text rest : List ℕ) → IsBytes bytes → front n bytes ≡ Ok (text, rest) → Takes bytes text rest × (length text ≡ n) × IsBytes text
+  pub front_takes : (n : ℕ) (bytes text rest : List ℕ) → IsBytes bytes → front n bytes ≡ Ok (text, rest) → Takes bytes text rest
+      × (length text ≡ n) × IsBytes text
   front_takes n bytes text rest fits e =
       let g = not_stopped (ltb (length bytes) n) fault (take n bytes, drop n bytes) (text, rest) e in
       let long : n ≤ length bytes = ltb-false _ _ g.0 in
       let len : length (take n bytes) ≡ n = omega (arith, length-take n bytes) in
-      let first : Takes bytes (take n bytes) (drop n bytes) = record { parts = sym (take-append-drop n bytes); rest_fits = IsBytes-drop n bytes fits } in
+      let first : Takes bytes (take n bytes) (drop n bytes) = record {
+        parts = sym (take-append-drop n bytes);
+        rest_fits = IsBytes-drop n
+            bytes fits;
+      } in
       subst (λ (p : List ℕ × List ℕ). Takes bytes p.0 p.1 × (length p.0 ≡ n) × IsBytes p.0) g.1 (first, len, IsBytes-take n bytes fits)
 
   pub front_again : (text rest : List ℕ) → front (length text) (text ++ rest) ≡ Ok (text, rest)

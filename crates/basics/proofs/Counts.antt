@@ -1,10 +1,15 @@
 -- What lines of too many words are not, and the words of a text joined again.
-use Rattle.basics.proofs.Common.{Bool, Bor, List, [], ap, append_assoc, cond, false, joined, refl, sym, true, words_after, ℕ, ◌++◌, ◌==◌, ◌∙◌, ◌∷◌, ◌≡◌, eqb-true, append-nil}
-use Rattle.std.specs.Prelude.{Option, None, Some, option_map}
-use Rattle.basics.specs.Parts.{parts_of, parts_from}
-use Rattle.basics.specs.Shapes.{one, two, at_most_one, text as text_of_words}
+use Rattle.basics.specs.Parts.{parts_from, parts_of}
+use Rattle.basics.specs.Shapes.{at_most_one, one, text as text_of_words, two}
+use Rattle.basics.specs.Words.{joined, words_after}
+use Rattle.std.proofs.Common.{Bool, Bor, List, ap, append_assoc, cond, false, refl, sym, true, ℕ, [], ◌++◌, ◌==◌, ◌∙◌, ◌∷◌, ◌≡◌}
+use Rattle.std.proofs.lemmas.Bool.{eqb-true}
+use Rattle.std.proofs.lemmas.List.{append-nil}
+use Rattle.std.specs.Prelude.{None, Option, Some, option_map}
 
-some_part_at : (s : ℕ) (b : Bool) (part : List ℕ) (x : ℕ) (xs : List ℕ) → ((w : List ℕ) × (ws : List (List ℕ)) × (parts_from s (part ++ x ∷ []) xs ≡ w ∷ ws)) → (w : List ℕ) × (ws : List (List ℕ)) × (cond b (part ∷ parts_from s [] xs) (parts_from s (part ++ x ∷ []) xs) ≡ w ∷ ws)
+some_part_at : (s : ℕ) (b : Bool) (part : List ℕ) (x : ℕ) (xs : List ℕ)
+    → ((w : List ℕ) × (ws : List (List ℕ)) × (parts_from s (part ++ x ∷ []) xs ≡ w ∷ ws)) → (w : List ℕ) × (ws : List (List ℕ))
+    × (cond b (part ∷ parts_from s [] xs) (parts_from s (part ++ x ∷ []) xs) ≡ w ∷ ws)
 some_part_at s true part x xs later = (part, parts_from s [] xs, refl)
 some_part_at s false part x xs later = later
 
@@ -26,8 +31,11 @@ not_at_most_one w rest = let s = some_part 32 [] rest in ap (λ (ws : List (List
 joined_more : (s : ℕ) (part rest : List ℕ) → joined (part ∷ parts_of 32 rest) ≡ part ++ 32 ∷ joined (parts_of 32 rest)
 joined_more s part rest = let p = some_part 32 [] rest in rw p.2 refl
 
-joined_at : (b : Bool) (x : ℕ) (part xs : List ℕ) → x == 32 ≡ b → joined (parts_of 32 xs) ≡ xs → joined (parts_from 32 (part ++ x ∷ []) xs) ≡ (part ++ x ∷ []) ++ xs → joined (cond b (part ∷ parts_of 32 xs) (parts_from 32 (part ++ x ∷ []) xs)) ≡ part ++ x ∷ xs
-joined_at true x part xs e h k = joined_more 32 part xs ∙ ap (λ (l : List ℕ). part ++ 32 ∷ l) h ∙ ap (λ (y : ℕ). part ++ y ∷ xs) (sym (eqb-true x 32 e))
+joined_at : (b : Bool) (x : ℕ) (part xs : List ℕ) → x == 32 ≡ b → joined (parts_of 32 xs) ≡ xs
+    → joined (parts_from 32 (part ++ x ∷ []) xs) ≡ (part ++ x ∷ []) ++ xs
+    → joined (cond b (part ∷ parts_of 32 xs) (parts_from 32 (part ++ x ∷ []) xs)) ≡ part ++ x ∷ xs
+joined_at true x part xs e h k = joined_more 32 part xs ∙ ap (λ (l : List ℕ). part ++ 32 ∷ l) h ∙ ap (λ (y : ℕ). part ++ y ∷ xs)
+    (sym (eqb-true x 32 e))
 joined_at false x part xs e h k = k ∙ append_assoc part (x ∷ []) xs
 
 joined_from : (part xs : List ℕ) → joined (parts_from 32 part xs) ≡ part ++ xs

@@ -1,9 +1,17 @@
 -- Lines and parts of a text that is cut at its first separator.
-use Rattle.basics.proofs.Common.{Bool, List, [], ap, arith, drop, false, get_or, is_inside, is_other, length, lines_of, list_all, nat_tests, refl, suc, sym, take, true, true≢false, without_return, ℕ, ◌++◌, ◌-◌, ◌<◌, ◌==◌, ◌∙◌, ◌∷◌, ◌≡◌, ◌≢◌, and_parts, eqb-true, ltb-true, lt-ltb, take-append-drop, append-nil, drop_of_length-le}
-use Rattle.std.specs.Prelude.{◌&&◌, nat_lt, slice_index}
-use Rattle.basics.proofs.Split.{first_from, last_line}
-use Rattle.basics.proofs.Pieces.{others_from_bytes}
 use Rattle.basics.proofs.Lists.{last_is}
+use Rattle.basics.proofs.Pieces.{others_from_bytes}
+use Rattle.basics.proofs.Split.{first_from, last_line}
+use Rattle.basics.specs.Lines.{is_inside, lines_of, without_return}
+use Rattle.basics.specs.Parts.{is_other}
+use Rattle.std.proofs.Common.{Bool, List, ap, arith, drop, false, get_or, length, refl, suc, sym, take, true, ℕ, [], ◌++◌, ◌-◌, ◌<◌, ◌==◌}
+use Rattle.std.proofs.Common.{◌∙◌, ◌∷◌, ◌≡◌, ◌≢◌}
+use Rattle.std.proofs.Math.ListN.{drop_of_length-le}
+use Rattle.std.proofs.lemmas.Bool.{and_parts, eqb-true, lt-ltb, ltb-true, true≢false}
+use Rattle.std.proofs.lemmas.Bool.Decides.{nat_tests}
+use Rattle.std.proofs.lemmas.List.{append-nil, take-append-drop}
+use Rattle.std.specs.List.{list_all}
+use Rattle.std.specs.Prelude.{nat_lt, slice_index, ◌&&◌}
 
 -- a line without a CR at its end
 pub no_return : (bs : List ℕ) → ((front : List ℕ) → bs ≢ front ++ 13 ∷ []) → bs ≡ without_return bs
@@ -17,7 +25,8 @@ no_return bs h = by (nat_lt 0 (length bs) && (slice_index bs (length bs - 1) == 
     by false e = rw e refl
 
 -- the first line of a text that is cut at an LF
-pub line_before : (text front behind : List ℕ) → text ≡ front ++ 10 ∷ behind → ((i : ℕ) → i < length front → get_or front i 0 ≢ 10) → lines_of text ≡ without_return front ∷ lines_of behind
+pub line_before : (text front behind : List ℕ) → text ≡ front ++ 10 ∷ behind → ((i : ℕ) → i < length front → get_or front i 0 ≢ 10)
+    → lines_of text ≡ without_return front ∷ lines_of behind
 line_before text front behind e h = ap lines_of e ∙ first_from [] front behind (others_from_bytes 10 front h)
 
 pub shorter_behind : (c : ℕ) (text front behind : List ℕ) → text ≡ front ++ c ∷ behind → length behind < length text
@@ -30,9 +39,11 @@ shorter_behind c text front behind e = rw e (by front)
 -- the last line of a text without an LF
 pub line_alone : (text : List ℕ) → 0 < length text → ((i : ℕ) → i < length text → get_or text i 0 ≢ 10) → lines_of text ≡ text ∷ lines_of []
 line_alone text some h =
-    let all : take (length text) text ≡ text = sym (append-nil _) ∙ ap (λ (l : List ℕ). take (length text) text ++ l) (sym (drop_of_length-le text (omega arith))) ∙ take-append-drop (length text) text in
+    let all : take (length text) text ≡ text = sym (append-nil _) ∙ ap (λ (l : List ℕ). take (length text) text ++ l)
+    (sym (drop_of_length-le text (omega arith))) ∙ take-append-drop (length text) text in
     let none : drop (length text) text ≡ [] = drop_of_length-le text (omega arith) in
-    last_line text (length text) some none (ap (list_all is_inside) all ∙ others_from_bytes 10 text h) ∙ ap (λ (l : List ℕ). l ∷ lines_of (drop (length text) text)) all ∙ ap (λ (l : List ℕ). text ∷ lines_of l) none
+    last_line text (length text) some none (ap (list_all is_inside) all ∙ others_from_bytes 10 text h) ∙ ap
+    (λ (l : List ℕ). l ∷ lines_of (drop (length text) text)) all ∙ ap (λ (l : List ℕ). text ∷ lines_of l) none
 
 last_at : (b : ℕ) (front : List ℕ) → get_or (front ++ b ∷ []) (length front) 0 ≡ b
 last_at b [] = refl
@@ -63,7 +74,8 @@ pub record Cut (a b x y : List ℕ) : Type 0 where
 other_not : (s c : ℕ) → is_other s c ≡ true → c ≡ s → ⊥
 other_not s c h e = true≢false (sym h ∙ grind (arith, nat_tests))
 
-pub cut_once : (s : ℕ) (a b x y : List ℕ) → list_all (is_other s) a ≡ true → list_all (is_other s) b ≡ true → a ++ s ∷ x ≡ b ++ s ∷ y → Cut a b x y
+pub cut_once : (s : ℕ) (a b x y : List ℕ) → list_all (is_other s) a ≡ true → list_all (is_other s) b ≡ true → a ++ s ∷ x ≡ b ++ s ∷ y
+    → Cut a b x y
 cut_once s [] [] x y h g e = record { front = refl; back = cc }
 cut_once s [] (c ∷ b) x y h g e = absurd (other_not s c (and_parts (is_other s c) _ g).0 cc)
 cut_once s (c ∷ a) [] x y h g e = absurd (other_not s c (and_parts (is_other s c) _ h).0 cc)

@@ -1,8 +1,18 @@
 -- The entries of a finite map over numbers from a number on, which are found one after another.
-use Rattle.std.proofs.Common.{◌≡◌, ℕ, ◌+◌, ◌<◌, ◌≤◌, true, false, true≢false, cond, nat_lt, List, [], ◌∷◌, Some, None, is_some, unwrap_or, refl, sym, ap, ◌∙◌, arith, inl, inr}
-use Rattle.basics.proofs.Common.{AllByRecursion, FinMap, IsStrictlySortedBy, Less, cases_lt, cases_order, entries, eq_by_cmp, find, get, get-entries, keys_of, nat_cmp, nat_tests, sorted_head, sorted_tail}
-use Rattle.basics.proofs.Naturals.{less_is, below_so, not_below}
+use Rattle.basics.proofs.Naturals.{below_so, less_is, not_below}
 use Rattle.basics.proofs.Tree.{map_sorted}
+use Rattle.std.proofs.Common.{List, None, Some, ap, arith, cond, false, inl, inr, is_some, nat_lt, refl, sym, true, true≢false, unwrap_or}
+use Rattle.std.proofs.Common.{ℕ, [], ◌+◌, ◌<◌, ◌∙◌, ◌∷◌, ◌≡◌, ◌≤◌}
+use Rattle.std.proofs.lemmas.Bool.{cases_lt, cases_order}
+use Rattle.std.proofs.lemmas.Bool.Decides.{nat_tests}
+use Rattle.std.proofs.lemmas.Map.Keys.{sorted_head, sorted_tail}
+use Rattle.std.specs.FinMap.{FinMap, entries, get, get-entries}
+use Rattle.std.specs.FinMap.Entries.{find}
+use Rattle.std.specs.List.{AllByRecursion}
+use Rattle.std.specs.List.Sorted.{IsStrictlySortedBy}
+use Rattle.std.specs.Map.{keys_of}
+use Rattle.std.specs.Ordering.{eq_by_cmp, nat_cmp}
+use Rattle.std.specs.declared.cmp.Ordering.TheVariants.{Less}
 
 pub same_key : (k : ℕ) → eq_by_cmp nat_cmp k k ≡ true
 same_key k = grind (arith, nat_tests)
@@ -49,30 +59,36 @@ module _ {X : Type 0} where
   same_value x y e = ap (λ o. unwrap_or o x) e
 
   -- none is left where none is found from n on
-  none_from : (n : ℕ) (es : List (ℕ × X)) → IsStrictlySortedBy nat_cmp (keys_of es) → ((j : ℕ) → n ≤ j → find nat_cmp j es ≡ None) → from_on n es ≡ []
+  none_from : (n : ℕ) (es : List (ℕ × X)) → IsStrictlySortedBy nat_cmp (keys_of es) → ((j : ℕ) → n ≤ j → find nat_cmp j es ≡ None)
+      → from_on n es ≡ []
   none_from n [] s h = refl
   none_from n (e ∷ es) s h = elim (cases_lt e.0 n) [
-    | inl lt ↦ skips n e es lt ∙ none_from n es (sorted_tail nat_cmp e.0 (keys_of es) s) (λ j le. sym (find_other j e es (λ q. omega (arith, le, lt, q))) ∙ h j le)
+    | inl lt ↦ skips n e es lt ∙ none_from n es (sorted_tail nat_cmp e.0 (keys_of es) s)
+        (λ j le. sym (find_other j e es (λ q. omega (arith, le, lt, q))) ∙ h j le)
     | inr le ↦ absurd (no_value e.1 (sym (find_head e es) ∙ h e.0 le))
   ]
 
   -- the first that is found from n on stands in front of those behind it
-  some_from : (n k : ℕ) (x : X) (es : List (ℕ × X)) → IsStrictlySortedBy nat_cmp (keys_of es) → n ≤ k → find nat_cmp k es ≡ Some x → ((j : ℕ) → n ≤ j → j < k → find nat_cmp j es ≡ None) → from_on n es ≡ (k, x) ∷ from_on (k + 1) es
+  some_from : (n k : ℕ) (x : X) (es : List (ℕ × X)) → IsStrictlySortedBy nat_cmp (keys_of es) → n ≤ k → find nat_cmp k es ≡ Some x
+      → ((j : ℕ) → n ≤ j → j < k → find nat_cmp j es ≡ None) → from_on n es ≡ (k, x) ∷ from_on (k + 1) es
   some_from n k x [] s le found first = absurd (no_value x (sym found))
   some_from n k x (e ∷ es) s le found first =
       let above = sorted_head nat_cmp e.0 (keys_of es) s in
       elim (cases_lt e.0 n) [
         | inl lt ↦
             skips n e es lt
-            ∙ some_from n k x es (sorted_tail nat_cmp e.0 (keys_of es) s) le (sym (find_other k e es (λ q. omega (arith, le, lt, q))) ∙ found) (λ j low high. sym (find_other j e es (λ q. omega (arith, low, lt, q))) ∙ first j low high)
+            ∙ some_from n k x es (sorted_tail nat_cmp e.0 (keys_of es) s) le (sym (find_other k e es (λ q. omega (arith, le, lt, q))) ∙
+            found) (λ j low high. sym (find_other j e es (λ q. omega (arith, low, lt, q))) ∙ first j low high)
             ∙ ap (λ l. (k, x) ∷ l) (sym (skips (k + 1) e es (omega (arith, le, lt))))
         | inr here ↦ elim (cases_order k e.0) [
           | inl same ↦
               let value : x ≡ e.1 = same_value x e.1 (sym found ∙ ap (λ q. find nat_cmp q (e ∷ es)) same ∙ find_head e es) in
-              let left : from_on (k + 1) (e ∷ es) ≡ es = skips (k + 1) e es (omega (arith, same)) ∙ ap (λ q. from_on (q + 1) es) same ∙ keeps_all e.0 es above in
+              let left : from_on (k + 1) (e ∷ es) ≡ es = skips (k + 1) e es (omega (arith, same)) ∙ ap (λ q. from_on (q + 1) es) same ∙
+              keeps_all e.0 es above in
               keeps n e es here ∙ (λ i. (sym same i, sym value i) ∷ sym left i)
           | inr other ↦ elim other [
-            | inl before ↦ absurd (no_value x (sym found ∙ find_other k e es (λ q. omega (arith, before, q)) ∙ not_found e.0 k es (omega (arith, before)) above))
+            | inl before ↦ absurd (no_value x (sym found ∙ find_other k e es (λ q. omega (arith, before, q)) ∙ not_found e.0 k es
+                (omega (arith, before)) above))
             | inr behind ↦ absurd (no_value e.1 (sym (find_head e es) ∙ first e.0 here behind))
           ]
         ]
@@ -90,8 +106,10 @@ module _ {X : Type 0} where
   pub no_entry_from : (m : FinMap nat_cmp X) (n : ℕ) → ((j : ℕ) → n ≤ j → get m j ≡ None) → entries_from n m ≡ []
   no_entry_from m n h = none_from n (entries m) (map_sorted nat_cmp m) (λ j le. sym (get-entries m j) ∙ h j le)
 
-  pub entry_from : (m : FinMap nat_cmp X) (n k : ℕ) (x : X) → n ≤ k → get m k ≡ Some x → ((j : ℕ) → n ≤ j → j < k → get m j ≡ None) → entries_from n m ≡ (k, x) ∷ entries_from (k + 1) m
-  entry_from m n k x le found first = some_from n k x (entries m) (map_sorted nat_cmp m) le (sym (get-entries m k) ∙ found) (λ j low high. sym (get-entries m j) ∙ first j low high)
+  pub entry_from : (m : FinMap nat_cmp X) (n k : ℕ) (x : X) → n ≤ k → get m k ≡ Some x → ((j : ℕ) → n ≤ j → j < k → get m j ≡ None)
+      → entries_from n m ≡ (k, x) ∷ entries_from (k + 1) m
+  entry_from m n k x le found first = some_from n k x (entries m) (map_sorted nat_cmp m) le (sym (get-entries m k) ∙ found)
+      (λ j low high. sym (get-entries m j) ∙ first j low high)
 
   pub all_entries_from : (m : FinMap nat_cmp X) (n : ℕ) → ((k : ℕ) (x : X) → get m k ≡ Some x → n ≤ k) → entries_from n m ≡ entries m
   all_entries_from m n h = all_from n (entries m) (λ k x found. h k x (get-entries m k ∙ found))

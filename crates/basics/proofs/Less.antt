@@ -1,6 +1,11 @@
 -- A total order by the test whether one is less than another.
-use Rattle.basics.proofs.Common.{Bool, Equal, Greater, IsTotalOrder, Less, Ordering, ap, arith, false, false≢true, is_gt, is_le, is_lt, not, ordering_reverse, refl, sym, true, ◌∙◌, ◌≡◌}
 use Rattle.basics.proofs.Bools.{contrary}
+use Rattle.std.proofs.Common.{Bool, ap, arith, false, not, refl, sym, true, ◌∙◌, ◌≡◌}
+use Rattle.std.proofs.lemmas.Bool.{false≢true}
+use Rattle.std.specs.Cmp.{IsTotalOrder}
+use Rattle.std.specs.Ordering.{is_gt, is_le, is_lt, ordering_reverse}
+use Rattle.std.specs.declared.cmp.Ordering.{Ordering}
+use Rattle.std.specs.declared.cmp.Ordering.TheVariants.{Equal, Greater, Less}
 
 pub equal_self : (o : Ordering) → o ≡ ordering_reverse o → o ≡ Equal
 equal_self o h = grind arith

@@ -17,4 +17,3 @@ pub mod Digits
 pub mod Cuts
 pub mod Round
 pub mod Utf8
-pub mod Common

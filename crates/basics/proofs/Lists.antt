@@ -1,8 +1,17 @@
 -- Lists of any values.
-use Rattle.basics.proofs.Common.{Bool, IsAscii-cons, IsAscii-nil, IsUtf8, IsUtf8-from_ascii, List, Some, [], and_parts, ap, append_assoc, arith, drop, drop-append_seam, drop-cons, drop_of_length-le, get_or, length, length-decimal-le, list_all, refl, suc, sum_by-cons, sym, take, take-append-drop, true, zero, ℕ, ◌++◌, ◌+◌, ◌-◌, ◌<◌, ◌^◌, ◌∙◌, ◌∷◌, ◌≡◌, ◌≤◌}
-use Rattle.std.proofs.Common.{length-append, slice_get}
-use Rattle.basics.specs.Prelude.{decimal, slice_get}
-use Rattle.std.specs.List.{sum}
+use Rattle.std.proofs.Common.{Bool, List, Some, ap, append_assoc, arith, drop, get_or, length, length-append, refl, slice_get, suc, sym}
+use Rattle.std.proofs.Common.{take, true, zero, ℕ, [], ◌++◌, ◌+◌, ◌-◌, ◌<◌, ◌^◌, ◌∙◌, ◌∷◌, ◌≡◌, ◌≤◌}
+use Rattle.std.proofs.Math.ListN.{drop_of_length-le}
+use Rattle.std.proofs.Math.Seq.{drop-append_seam, drop-cons}
+use Rattle.std.proofs.lemmas.Bool.{and_parts}
+use Rattle.std.proofs.lemmas.Fmt.{length-decimal-le}
+use Rattle.std.proofs.lemmas.List.{take-append-drop}
+use Rattle.std.proofs.lemmas.List.Sums.{sum_by-cons}
+use Rattle.std.proofs.lemmas.Str.{IsUtf8-from_ascii}
+use Rattle.std.proofs.lemmas.Str.Ascii.{IsAscii-cons, IsAscii-nil}
+use Rattle.std.specs.Fmt.{decimal}
+use Rattle.std.specs.List.{list_all, slice_get, sum}
+use Rattle.std.specs.Str.{IsUtf8}
 
 pub sum_first : (n : ℕ) (ns : List ℕ) → sum (n ∷ ns) ≡ n + sum ns
 sum_first n ns = sum_by-cons (λ x. x) n ns
@@ -45,12 +54,14 @@ pub one_longer : {A : Type 0} (xs : List A) (x : A) → length (xs ++ x ∷ []) 
 one_longer xs x = length-append xs (x ∷ [])
 
 -- what holds of each value that passes a stronger test
-pub weaker : {A : Type 0} (p q : A → Bool) → ((b : A) → p b ≡ true → q b ≡ true) → (xs : List A) → list_all p xs ≡ true → list_all q xs ≡ true
+pub weaker : {A : Type 0} (p q : A → Bool) → ((b : A) → p b ≡ true → q b ≡ true) → (xs : List A) → list_all p xs ≡ true
+    → list_all q xs ≡ true
 weaker p q f [] h = refl
 weaker p q f (x ∷ xs) h = let k = and_parts (p x) (list_all p xs) h in rw (f x k.0, weaker p q f xs k.1) refl
 
 -- a list whose last number is b
 pub last_is : (b : ℕ) (bs : List ℕ) (i : ℕ) → suc i ≡ length bs → get_or bs i 0 ≡ b → bs ≡ take i bs ++ b ∷ []
 last_is b bs i e at =
-    let end : drop i bs ≡ b ∷ [] = drop-cons bs i 0 (omega arith) ∙ ap (λ (x : ℕ). x ∷ drop (suc i) bs) at ∙ ap (λ (l : List ℕ). b ∷ l) (drop_of_length-le bs {i = suc i} (omega arith)) in
+    let end : drop i bs ≡ b ∷ [] = drop-cons bs i 0 (omega arith) ∙ ap (λ (x : ℕ). x ∷ drop (suc i) bs) at ∙ ap (λ (l : List ℕ). b ∷ l)
+    (drop_of_length-le bs {i = suc i} (omega arith)) in
     sym (take-append-drop i bs) ∙ ap (λ (l : List ℕ). take i bs ++ l) end

@@ -1,7 +1,15 @@
 -- What is one of a list, texts and numbers that are the same or not, and maps at a key.
-use Rattle.basics.proofs.Common.{Bool, List, None, Option, Some, [], ap, arith, cond, false, inl, inr, map, nat_eq, nat_tests, refl, subst, sym, true, ℕ, ◌++◌, ◌∙◌, ◌∷◌, ◌≡◌, ◌⊎◌}
-use Rattle.basics.specs.Prelude.{filter, eq_by_cmp, nat_cmp, nat_cmp_total, FinMap, insert, remove, get, get-insert, get-remove, slice_cmp-IsAntisymmetric, nat_cmp-IsAntisymmetric, IsAntisymmetric, text_cmp, text_eq, text_equiv, text_ties, text_total, IsIn}
 use Rattle.basics.proofs.Tree.{tied}
+use Rattle.basics.specs.Members.{IsIn}
+use Rattle.basics.specs.Order.{text_cmp, text_eq, text_equiv, text_ties, text_total}
+use Rattle.std.proofs.Common.{Bool, List, None, Option, Some, ap, arith, cond, false, inl, inr, map, nat_eq, refl, subst, sym, true, ℕ, []}
+use Rattle.std.proofs.Common.{◌++◌, ◌∙◌, ◌∷◌, ◌≡◌, ◌⊎◌}
+use Rattle.std.proofs.lemmas.Bool.Decides.{nat_tests}
+use Rattle.std.specs.Cmp.{nat_cmp_total}
+use Rattle.std.specs.FinMap.{FinMap, IsAntisymmetric, get, get-insert, get-remove, insert, nat_cmp-IsAntisymmetric, remove}
+use Rattle.std.specs.FinMap.{slice_cmp-IsAntisymmetric}
+use Rattle.std.specs.List.{filter}
+use Rattle.std.specs.Ordering.{eq_by_cmp, nat_cmp}
 
 -- ---- plain facts
 
@@ -117,7 +125,8 @@ pub in_filter : {X : Type 0} (f : X → Bool) (x : X) (xs : List X) → IsIn x (
 in_filter f x [] h = absurd h
 in_filter {X = X} f x (y ∷ xs) h = by (f y) refl h (in_filter f x xs)
   where
-    by : (b : Bool) → f y ≡ b → IsIn x (cond b (y ∷ filter f xs) (filter f xs)) → (IsIn x (filter f xs) → IsIn x xs × (f x ≡ true)) → IsIn x (y ∷ xs) × (f x ≡ true)
+    by : (b : Bool) → f y ≡ b → IsIn x (cond b (y ∷ filter f xs) (filter f xs)) → (IsIn x (filter f xs) → IsIn x xs × (f x ≡ true))
+        → IsIn x (y ∷ xs) × (f x ≡ true)
     by true e (inl i) old = (inl i, ap f i ∙ e)
     by true e (inr i) old = let o = old i in (inr o.0, o.1)
     by false e i old = let o = old i in (inr o.0, o.1)

@@ -1,5 +1,8 @@
 -- Comparisons of numbers as tests.
-use Rattle.basics.proofs.Common.{Bool, Greater, Less, arith, cond, false, nat_cmp, nat_eq, nat_le, nat_lt, nat_tests, suc, true, zero, ℕ, ◌*◌, ◌+◌, ◌<◌, ◌==◌, ◌||◌, ◌≡◌, ◌≤◌}
+use Rattle.std.proofs.Common.{Bool, arith, cond, false, nat_eq, nat_le, nat_lt, suc, true, zero, ℕ, ◌*◌, ◌+◌, ◌<◌, ◌==◌, ◌||◌, ◌≡◌, ◌≤◌}
+use Rattle.std.proofs.lemmas.Bool.Decides.{nat_tests}
+use Rattle.std.specs.Ordering.{nat_cmp}
+use Rattle.std.specs.declared.cmp.Ordering.TheVariants.{Greater, Less}
 
 pub not_below : (j k : ℕ) → k ≤ j → nat_lt j k ≡ false
 not_below j k h = grind (arith, nat_tests)

@@ -1,6 +1,8 @@
 -- Laws of reading that ends at the first fault.
-use Rattle.basics.proofs.Common.{Bool, Err, Fails, IfOk, List, None, Ok, Option, Read, Result, Some, Unless, [], ap, append_assoc, check, cond, false, need, passing, refl, subst, sym, true, ℕ, ⊤, ◌++◌, ◌>>=◌, ◌∙◌, ◌∷◌, ◌≡◌}
-use Rattle.basics.specs.Reading.{made, GivesBy, Gives}
+use Rattle.basics.specs.Reading.{Fails, Gives, GivesBy, Read, Unless, check, made, need, passing, ◌>>=◌}
+use Rattle.std.proofs.Common.{Bool, Err, List, None, Ok, Option, Result, Some, ap, append_assoc, cond, false, refl, subst, sym, true, ℕ, []}
+use Rattle.std.proofs.Common.{◌++◌, ◌∙◌, ◌∷◌, ◌≡◌}
+use Rattle.std.specs.Prelude.{IfOk, ⊤}
 
 -- ---- steps that end well
 
@@ -26,7 +28,8 @@ checked true e u h = refl
 checked false e u h = absurd cc
 
 -- what holds of all that a function makes of a step's value
-pub made_so : {F A B : Type 0} (P : B → Type 0) (r : Result A F) (make : A → B) (y : B) → (r >>= λ x. Ok (make x)) ≡ Ok y → ((x : A) → r ≡ Ok x → P (make x)) → P y
+pub made_so : {F A B : Type 0} (P : B → Type 0) (r : Result A F) (make : A → B) (y : B) → (r >>= λ x. Ok (make x)) ≡ Ok y
+    → ((x : A) → r ≡ Ok x → P (make x)) → P y
 made_so P r make y h f = let a = parted r (λ x. Ok (make x)) y h in subst P (same_ok (make a.value) y a.next) (f a.value a.first)
 
 -- what passes a test
@@ -47,15 +50,20 @@ module _ {F A : Type 0} (r : Read F A) (p q : A → Bool) (d e : F) (x : A × Li
       let b = parted (passing p d a.value) (λ m. passing q e m) x a.next in
       let first = passed (p a.value.0) d a.value b.value b.first in
       let second = passed (q b.value.0) e b.value x b.next in
-      let same : a.value ≡ x = first.1 ∙ second.1 in
-      (a.first ∙ ap (λ (y : A × List ℕ). Ok y) same, subst (λ (y : A × List ℕ). p y.0 ≡ true) same first.0, subst (λ (y : A × List ℕ). q y.0 ≡ true) second.1 second.0)
+      let same : a.value ≡ x = first.1 ∙ second.1 in (
+        a.first ∙ ap (λ (y : A × List ℕ). Ok y) same,
+        subst (λ (y : A × List ℕ). p y.0 ≡ true) same first.0,
+        subst
+            (λ (y : A × List ℕ). q y.0 ≡ true) second.1 second.0,
+      )
 
   -- and again
   pub tested_again : r ≡ Ok x → p x.0 ≡ true → q x.0 ≡ true → (r >>= λ n. passing p d n >>= λ m. passing q e m) ≡ Ok x
   tested_again h f g = rw (h, f, g) refl
 
 -- the value of which a function made what was read
-pub unmade : {F A B : Type 0} (f : A → B) (r : Read F A) (y : B) (rest : List ℕ) → made f r ≡ Ok (y, rest) → (x : A) × (r ≡ Ok (x, rest)) × (y ≡ f x)
+pub unmade : {F A B : Type 0} (f : A → B) (r : Read F A) (y : B) (rest : List ℕ) → made f r ≡ Ok (y, rest) → (x : A) × (r ≡ Ok (x, rest))
+    × (y ≡ f x)
 unmade {F} {A} {B} f (Ok x) y rest h =
     let same : ◌≡◌ {A = B × List ℕ} (f x.0, x.1) (y, rest) = same_ok {F = F} _ _ h in
     (x.0, ap (λ (t : List ℕ). Ok (x.0, t)) (ap (λ (p : B × List ℕ). p.1) same), sym (ap (λ (p : B × List ℕ). p.0) same))
@@ -85,7 +93,8 @@ module _ {F : Type 0} (wanting : F → Bool) where
   unmade_fault f r e h = unless_more (wanting e) (unmade_err f r e) h
 
   -- what a call returned is a fault that reading gives
-  pub gives_fault : {A B : Type 0} (view : A → B) (result : Result A F) (e : F) (read : Result B F) → result ≡ Err e → Fails wanting e read → GivesBy wanting view result read
+  pub gives_fault : {A B : Type 0} (view : A → B) (result : Result A F) (e : F) (read : Result B F) → result ≡ Err e → Fails wanting e read
+      → GivesBy wanting view result read
   gives_fault {A} view result e read is fault = subst (λ (r : Result A F). GivesBy wanting view r read) (sym is) fault
 
   -- what was read is what reading gives
@@ -94,7 +103,8 @@ module _ {F : Type 0} (wanting : F → Bool) where
   found (Err e) read h = tt
 
   -- what follows from what reading gives holds of what was read
-  pub found_so : {A : Type 0} (P : A → Type 0) (result read : Result A F) → ((x : A) → read ≡ Ok x → P x) → Gives wanting result read → IfOk result P
+  pub found_so : {A : Type 0} (P : A → Type 0) (result read : Result A F) → ((x : A) → read ≡ Ok x → P x) → Gives wanting result read
+      → IfOk result P
   found_so P (Ok x) read f h = f x h
   found_so P (Err e) read f h = tt
 
@@ -118,9 +128,13 @@ module _ {F A : Type 0} where
   regroup front x (Err e) = refl
 
   -- one more value of a list
-  pub one_more : (front : List A) (first : Result A F) (x : A) (rest total : Result (List A) F) → first ≡ Ok x → with_front front (listed first rest) ≡ total → with_front (front ++ x ∷ []) rest ≡ total
-  one_more front first x rest total is so_far = sym (regroup front x rest) ∙ sym (ap (λ (r : Result A F). with_front front (listed r rest)) is) ∙ so_far
+  pub one_more : (front : List A) (first : Result A F) (x : A) (rest total : Result (List A) F) → first ≡ Ok x
+      → with_front front (listed first rest) ≡ total → with_front (front ++ x ∷ []) rest ≡ total
+  one_more front first x rest total is so_far = sym (regroup front x rest) ∙ sym
+      (ap (λ (r : Result A F). with_front front (listed r rest)) is) ∙ so_far
 
   -- a value's fault is the list's
-  pub ends : (wanting : F → Bool) (e : F) (front : List A) (first : Result A F) (rest total : Result (List A) F) → Fails wanting e first → with_front front (listed first rest) ≡ total → Fails wanting e total
-  ends wanting e front first rest total h so_far = unless_more (wanting e) (λ is. sym so_far ∙ ap (λ (r : Result A F). with_front front (listed r rest)) is) h
+  pub ends : (wanting : F → Bool) (e : F) (front : List A) (first : Result A F) (rest total : Result (List A) F) → Fails wanting e first
+      → with_front front (listed first rest) ≡ total → Fails wanting e total
+  ends wanting e front first rest total h so_far = unless_more (wanting e) (λ is. sym so_far ∙ ap
+      (λ (r : Result A F). with_front front (listed r rest)) is) h

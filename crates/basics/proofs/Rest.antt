@@ -1,6 +1,15 @@
 -- The entries whose keys are greater than one of them.
-use Rattle.basics.proofs.Common.{AllByRecursion, Bool, IsStrictlySortedBy, IsTotalOrder, Less, List, Ordering, [], ap, cond, false, false≢true, filter, is_lt, keys_of, refl, sorted_head, sorted_tail, subst, sym, true, ◌∙◌, ◌∷◌, ◌≡◌}
-use Rattle.basics.proofs.Less.{lt, irrefl, lt_trans}
+use Rattle.basics.proofs.Less.{irrefl, lt, lt_trans}
+use Rattle.std.proofs.Common.{Bool, List, ap, cond, false, refl, subst, sym, true, [], ◌∙◌, ◌∷◌, ◌≡◌}
+use Rattle.std.proofs.lemmas.Bool.{false≢true}
+use Rattle.std.proofs.lemmas.Map.Keys.{sorted_head, sorted_tail}
+use Rattle.std.specs.Cmp.{IsTotalOrder}
+use Rattle.std.specs.List.{AllByRecursion, filter}
+use Rattle.std.specs.List.Sorted.{IsStrictlySortedBy}
+use Rattle.std.specs.Map.{keys_of}
+use Rattle.std.specs.Ordering.{is_lt}
+use Rattle.std.specs.declared.cmp.Ordering.{Ordering}
+use Rattle.std.specs.declared.cmp.Ordering.TheVariants.{Less}
 
 by_bool : (b : Bool) {G : Type 0} → (b ≡ true → G) → (b ≡ false → G) → G
 by_bool true f g = f refl
@@ -31,7 +40,8 @@ module _ {K X : Type 0} {R : K → K → Ordering} (o : IsTotalOrder R) where
     pub passes : lt R a e.0 ≡ true
     pub rest : fs ≡ above e.0 es
 
-  found : (a : K) (es : List (K × X)) → IsStrictlySortedBy R (keys_of es) → (e : K × X) (fs : List (K × X)) → above a es ≡ e ∷ fs → Found a e es fs
+  found : (a : K) (es : List (K × X)) → IsStrictlySortedBy R (keys_of es) → (e : K × X) (fs : List (K × X)) → above a es ≡ e ∷ fs
+      → Found a e es fs
   found a [] s e fs h = absurd (cc)
   found a (x ∷ es) s e fs h = by (lt R a x.0) refl (found a es (sorted_tail R x.0 (keys_of es) s) e fs)
     where
@@ -49,12 +59,14 @@ module _ {K X : Type 0} {R : K → K → Ordering} (o : IsTotalOrder R) where
           }
       by false t ih =
           let w = ih (ap (λ b. cond b (x ∷ above a es) (above a es)) (sym t) ∙ h) in
-          let n : lt R e.0 x.0 ≡ false = by_bool (lt R e.0 x.0) (λ l. absurd (false≢true (sym t ∙ lt_trans o a e.0 x.0 w.passes l))) (λ l. l) in
+          let n : lt R e.0 x.0 ≡ false = by_bool (lt R e.0 x.0) (λ l. absurd (false≢true (sym t ∙ lt_trans o a e.0 x.0 w.passes l)))
+          (λ l. l) in
           record {
             passes = w.passes;
             rest = w.rest ∙ sym (ap (λ b. cond b (x ∷ above e.0 es) (above e.0 es)) n);
           }
 
   -- the first of the entries after a key is followed by those after it
-  pub after_found : (a : K) (es : List (K × X)) → IsStrictlySortedBy R (keys_of es) → (e : K × X) (fs : List (K × X)) → above a es ≡ e ∷ fs → fs ≡ above e.0 es
+  pub after_found : (a : K) (es : List (K × X)) → IsStrictlySortedBy R (keys_of es) → (e : K × X) (fs : List (K × X)) → above a es ≡ e ∷ fs
+      → fs ≡ above e.0 es
   after_found a es s e fs h = (found a es s e fs h).rest

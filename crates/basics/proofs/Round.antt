@@ -1,14 +1,21 @@
 -- The lines of words that a text was made of are read in it again.
-use Rattle.basics.proofs.Common.{AllByRecursion, Bool, IsBare, IsLine, IsWord, List, Some, [], ap, append_assoc, arith, cond, decimal, digit_value_digit, ended, false, get_or, is_bare, is_other, is_plain, joined, length, list_all, lit<, map, not, parts_of, refl, suc, text_of, true, words_of, zero, ℕ, ◌&&◌, ◌*◌, ◌++◌, ◌+◌, ◌-◌, ◌<◌, ◌==◌, ◌^◌, ◌∙◌, ◌∷◌, ◌≡◌, ◌≤◌, and_parts, decimal_nonempty, flat_map-cons, le-leb, leb-true, length-decimal-le}
-use Rattle.std.specs.Char.{digit_value}
-use Rattle.std.specs.Str.Parse.{AllDigits, digits_value_after}
-use Rattle.std.proofs.lemmas.Str.Parse.{IsNumeralModel, digit_from_value}
-use Rattle.std.proofs.lemmas.Fmt.{digits_decimal, digits_value-decimal}
+use Rattle.basics.proofs.Bools.{not_so}
+use Rattle.basics.proofs.Lists.{weaker}
+use Rattle.basics.proofs.Split.{first_from, lone_from, part_from}
 use Rattle.basics.specs.Lines.{is_inside, lines_from, lines_of, without_return}
 use Rattle.basics.specs.Numbers.{digits_from, is_digit, number_in, number_of}
-use Rattle.basics.proofs.Split.{first_from, lone_from, part_from}
-use Rattle.basics.proofs.Lists.{weaker}
-use Rattle.basics.proofs.Bools.{not_so}
+use Rattle.basics.specs.Parts.{is_other, parts_of}
+use Rattle.basics.specs.Words.{IsBare, IsLine, IsWord, ended, is_bare, is_plain, joined, text_of, words_of}
+use Rattle.std.proofs.Common.{Bool, List, Some, ap, append_assoc, arith, cond, decimal, false, get_or, length, lit<, map, not, refl, suc}
+use Rattle.std.proofs.Common.{true, zero, ℕ, [], ◌&&◌, ◌*◌, ◌++◌, ◌+◌, ◌-◌, ◌<◌, ◌==◌, ◌^◌, ◌∙◌, ◌∷◌, ◌≡◌, ◌≤◌}
+use Rattle.std.proofs.lemmas.Bool.{and_parts, le-leb, leb-true}
+use Rattle.std.proofs.lemmas.Fmt.{decimal_nonempty, digits_decimal, digits_value-decimal, length-decimal-le}
+use Rattle.std.proofs.lemmas.List.Concat.{flat_map-cons}
+use Rattle.std.proofs.lemmas.Str.{digit_value_digit}
+use Rattle.std.proofs.lemmas.Str.Parse.{IsNumeralModel, digit_from_value}
+use Rattle.std.specs.Char.{digit_value}
+use Rattle.std.specs.List.{AllByRecursion, list_all}
+use Rattle.std.specs.Str.Parse.{AllDigits, digits_value_after}
 
 plain_letter : (b : ℕ) → is_plain b ≡ true → is_other 32 b ≡ true
 plain_letter b h = (and_parts (is_other 32 b) _ h).0
@@ -17,7 +24,8 @@ plain_letter b h = (and_parts (is_other 32 b) _ h).0
 
 pub words-joined : (w : List ℕ) (ws : List (List ℕ)) → IsLine (w ∷ ws) → words_of (joined (w ∷ ws)) ≡ w ∷ ws
 words-joined w [] h = lone_from 32 [] w (weaker is_plain (is_other 32) plain_letter w h.0)
-words-joined w (v ∷ ws) h = part_from 32 [] w (joined (v ∷ ws)) (weaker is_plain (is_other 32) plain_letter w h.0) ∙ ap (λ (l : List (List ℕ)). w ∷ l) (words-joined v ws (h.1.0, h.1.1))
+words-joined w (v ∷ ws) h = part_from 32 [] w (joined (v ∷ ws)) (weaker is_plain (is_other 32) plain_letter w h.0) ∙ ap
+    (λ (l : List (List ℕ)). w ∷ l) (words-joined v ws (h.1.0, h.1.1))
 
 -- ---- lines
 
@@ -34,7 +42,8 @@ plain_inner b h = (and_parts (is_other 32 b) _ h).1
 
 joined_inner : (w : List ℕ) (ws : List (List ℕ)) → IsLine (w ∷ ws) → list_all is_inner (joined (w ∷ ws)) ≡ true
 joined_inner w [] h = weaker is_plain is_inner plain_inner w h.0
-joined_inner w (v ∷ ws) h = all-append is_inner w (32 ∷ joined (v ∷ ws)) (weaker is_plain is_inner plain_inner w h.0) (joined_inner v ws (h.1.0, h.1.1))
+joined_inner w (v ∷ ws) h = all-append is_inner w (32 ∷ joined (v ∷ ws)) (weaker is_plain is_inner plain_inner w h.0)
+    (joined_inner v ws (h.1.0, h.1.1))
 
 at_index : (p : ℕ → Bool) (xs : List ℕ) (i : ℕ) → i < length xs → list_all p xs ≡ true → p (get_or xs i 0) ≡ true
 at_index p [] i lt h = absurd (omega arith)
@@ -50,17 +59,20 @@ no_return line h = grind (arith, and_parts, at_index, not_so, neither)
 inner_inside : (b : ℕ) → is_inner b ≡ true → is_inside b ≡ true
 inner_inside b h = (and_parts (is_inside b) _ h).0
 
-pub one_line : (w : List ℕ) (ws : List (List ℕ)) (rest : List ℕ) → IsLine (w ∷ ws) → lines_of (ended (w ∷ ws) ++ rest) ≡ joined (w ∷ ws) ∷ lines_of rest
+pub one_line : (w : List ℕ) (ws : List (List ℕ)) (rest : List ℕ) → IsLine (w ∷ ws)
+    → lines_of (ended (w ∷ ws) ++ rest) ≡ joined (w ∷ ws) ∷ lines_of rest
 one_line w ws rest h =
     let line = joined (w ∷ ws) in
     let inner = joined_inner w ws h in
-    ap lines_of (append_assoc line (10 ∷ []) rest) ∙ first_from [] line rest (weaker is_inner is_inside inner_inside line inner) ∙ ap (λ (l : List ℕ). l ∷ lines_of rest) (no_return line inner)
+    ap lines_of (append_assoc line (10 ∷ []) rest) ∙ first_from [] line rest (weaker is_inner is_inside inner_inside line inner) ∙ ap
+    (λ (l : List ℕ). l ∷ lines_of rest) (no_return line inner)
 
 pub lines-text_of : (ls : List (List (List ℕ))) → AllByRecursion IsLine ls → lines_of (text_of ls) ≡ map joined ls
 unfolding lines_from
 lines-text_of [] h = refl
 lines-text_of ([] ∷ ls) h = absurd h.0
-lines-text_of ((w ∷ ws) ∷ ls) h = ap lines_of (flat_map-cons ended (w ∷ ws) ls) ∙ one_line w ws (text_of ls) h.0 ∙ ap (λ (l : List (List ℕ)). joined (w ∷ ws) ∷ l) (lines-text_of ls h.1)
+lines-text_of ((w ∷ ws) ∷ ls) h = ap lines_of (flat_map-cons ended (w ∷ ws) ls) ∙ one_line w ws (text_of ls) h.0 ∙ ap
+    (λ (l : List (List ℕ)). joined (w ∷ ws) ∷ l) (lines-text_of ls h.1)
 
 -- ---- numbers
 
@@ -96,7 +108,8 @@ number-decimal n h =
     let fits : n < 2 ^ 64 = omega arith in
     let b : length (decimal n) ≤ 18 = length-decimal-le 18 n (lit< tt) h fits in
     let some : 0 < length (decimal n) = decimal_nonempty n fits in
-    rw (le-leb 1 (length (decimal n)) some, le-leb (length (decimal n)) 18 b, digit_inside n fits) (ap (λ (m : ℕ). Some m) (digits_value-decimal own n fits))
+    rw (le-leb 1 (length (decimal n)) some, le-leb (length (decimal n)) 18 b, digit_inside n fits)
+    (ap (λ (m : ℕ). Some m) (digits_value-decimal own n fits))
 
 -- ---- words of digits
 
@@ -117,7 +130,8 @@ pub decimal_other : (s n : ℕ) → s < 48 → n < 2 ^ 64 → list_all (is_other
 decimal_other s n h fits = weaker is_digit (is_other s) (digit_other s h) (decimal n) (digit_inside n fits)
 
 pub two_numbers : (s n m : ℕ) → s < 48 → n < 2 ^ 64 → m < 2 ^ 64 → parts_of s (decimal n ++ s ∷ decimal m) ≡ decimal n ∷ decimal m ∷ []
-two_numbers s n m h f g = part_from s [] (decimal n) (decimal m) (decimal_other s n h f) ∙ ap (λ (l : List (List ℕ)). decimal n ∷ l) (lone_from s [] (decimal m) (decimal_other s m h g))
+two_numbers s n m h f g = part_from s [] (decimal n) (decimal m) (decimal_other s n h f) ∙ ap (λ (l : List (List ℕ)). decimal n ∷ l)
+    (lone_from s [] (decimal m) (decimal_other s m h g))
 
 -- ---- words that may hold a CR, but for the end of the line
 
@@ -140,7 +154,8 @@ word_bare w h = weaker is_plain is_bare plain_bare w h
 
 pub bare-joined : (w : List ℕ) (ws : List (List ℕ)) → AllByRecursion IsBare (w ∷ ws) → words_of (joined (w ∷ ws)) ≡ w ∷ ws
 bare-joined w [] h = lone_from 32 [] w (weaker is_bare (is_other 32) bare_letter w h.0)
-bare-joined w (v ∷ ws) h = part_from 32 [] w (joined (v ∷ ws)) (weaker is_bare (is_other 32) bare_letter w h.0) ∙ ap (λ (l : List (List ℕ)). w ∷ l) (bare-joined v ws h.1)
+bare-joined w (v ∷ ws) h = part_from 32 [] w (joined (v ∷ ws)) (weaker is_bare (is_other 32) bare_letter w h.0) ∙ ap
+    (λ (l : List (List ℕ)). w ∷ l) (bare-joined v ws h.1)
 
 bare_line : (w : List ℕ) (ws : List (List ℕ)) → AllByRecursion IsBare (w ∷ ws) → list_all is_inside (joined (w ∷ ws)) ≡ true
 bare_line w [] h = weaker is_bare is_inside bare_inside w h.0
@@ -167,12 +182,14 @@ some_more : (xs : List ℕ) (x : ℕ) (ys : List ℕ) → 0 < length (xs ++ x �
 some_more [] x ys = omega arith
 some_more (a ∷ xs) x ys = omega arith
 
-last_at : (xs : List ℕ) (x : ℕ) (ys : List ℕ) (i : ℕ) → i + 1 ≡ length (xs ++ x ∷ ys) → get_or (xs ++ x ∷ ys) i 0 ≡ get_or (x ∷ ys) (length (x ∷ ys) - 1) 0
+last_at : (xs : List ℕ) (x : ℕ) (ys : List ℕ) (i : ℕ) → i + 1 ≡ length (xs ++ x ∷ ys)
+    → get_or (xs ++ x ∷ ys) i 0 ≡ get_or (x ∷ ys) (length (x ∷ ys) - 1) 0
 last_at [] x ys i h = let e : i ≡ length (x ∷ ys) - 1 = omega (arith, h) in ap (λ (j : ℕ). get_or (x ∷ ys) j 0) e
 last_at (a ∷ xs) x ys zero h = let some = some_more xs x ys in absurd (omega arith)
 last_at (a ∷ xs) x ys (suc i) h = last_at xs x ys i (omega (arith, h))
 
-last_of : (xs : List ℕ) (x : ℕ) (ys : List ℕ) → get_or (xs ++ x ∷ ys) (length (xs ++ x ∷ ys) - 1) 0 ≡ get_or (x ∷ ys) (length (x ∷ ys) - 1) 0
+last_of : (xs : List ℕ) (x : ℕ) (ys : List ℕ) → get_or (xs ++ x ∷ ys) (length (xs ++ x ∷ ys) - 1) 0 ≡ get_or (x ∷ ys) (length (x ∷ ys) - 1)
+    0
 last_of xs x ys = let some = some_more xs x ys in last_at xs x ys (length (xs ++ x ∷ ys) - 1) (omega arith)
 
 -- a word with no CR ends a line that keeps its end

@@ -1,9 +1,21 @@
 -- A `BTreeMap`'s entries seen as a finite map.
-use Rattle.basics.proofs.Common.{Bool, CmpEqualImpliesEq, List, None, Option, Some, T, [], and_yes, ap, arith, cond, false, length, refl, sorted_head, sorted_tail, sym, true, ◌∙◌, ◌∷◌, ◌≡◌}
-use Rattle.basics.specs.Prelude.{FinMap, from_entries, insert, remove, get, entries, len, get-from_entries, get-insert, get-remove, same_map, entries-insert, len-entries, empty, entries_sorted, find, put, by_order, below_all, is_sorted, eq_by_cmp, is_eq, is_lt, Ordering, Less, Equal, IsTotalOrder, eq_by_cmp_equiv, is_at, lookup, keys_of, AllByRecursion, filter, slice_get, option_map}
-use Rattle.std.specs.FinMap.{len-empty}
-use Rattle.std.specs.Map.Iter.{TakesFirst}
+use Rattle.std.proofs.Common.{Bool, List, None, Option, Some, T, ap, arith, cond, false, length, refl, sym, true, [], ◌∙◌, ◌∷◌, ◌≡◌}
+use Rattle.std.proofs.Math.Facts.{and_yes}
+use Rattle.std.proofs.lemmas.Map.Keys.{sorted_head, sorted_tail}
+use Rattle.std.proofs.lemmas.Map.Lookups.{CmpEqualImpliesEq}
+use Rattle.std.specs.BTreeMap.{is_at}
+use Rattle.std.specs.Cmp.{IsTotalOrder, eq_by_cmp_equiv}
+use Rattle.std.specs.FinMap.{FinMap, empty, entries, entries-insert, entries_sorted, from_entries, get, get-from_entries, get-insert}
+use Rattle.std.specs.FinMap.{get-remove, insert, len, len-empty, len-entries, remove, same_map}
+use Rattle.std.specs.FinMap.Entries.{below_all, by_order, find, is_sorted, put}
+use Rattle.std.specs.List.{AllByRecursion, filter, slice_get}
 use Rattle.std.specs.List.Sorted.{IsStrictlySortedBy}
+use Rattle.std.specs.Map.{keys_of, lookup}
+use Rattle.std.specs.Map.Iter.{TakesFirst}
+use Rattle.std.specs.Option.{option_map}
+use Rattle.std.specs.Ordering.{eq_by_cmp, is_eq, is_lt}
+use Rattle.std.specs.declared.cmp.Ordering.{Ordering}
+use Rattle.std.specs.declared.cmp.Ordering.TheVariants.{Equal, Less}
 
 no_length : {A : Type 0} (es : List A) → length es ≡ 0 → es ≡ []
 no_length [] e = refl
@@ -27,7 +39,8 @@ module _ {K X : Type 0} {R : K → K → Ordering} (o : IsTotalOrder R) (exact :
 
   -- a new key that is put in and taken out
   pub insert_remove : (m : FinMap R X) (k : K) (v : X) → get m k ≡ None → remove (insert m k v) k ≡ m
-  insert_remove m k v h = same_map o exact _ _ (λ q. get-remove o (insert m k v) k q ∙ ap (cond (eq_by_cmp R q k) None) (get-insert o m k v q) ∙ by q (eq_by_cmp R q k) refl)
+  insert_remove m k v h = same_map o exact _ _ (λ q. get-remove o (insert m k v) k q ∙ ap (cond (eq_by_cmp R q k) None)
+      (get-insert o m k v q) ∙ by q (eq_by_cmp R q k) refl)
     where
       by : (q : K) (b : Bool) → eq_by_cmp R q k ≡ b → cond (eq_by_cmp R q k) None (cond (eq_by_cmp R q k) (Some v) (get m q)) ≡ get m q
       by q true e = ap (λ b. cond b None (cond b (Some v) (get m q))) e ∙ sym h ∙ ap (get m) (sym (exact q k (tied (R q k) e)))
@@ -42,12 +55,16 @@ module _ {K X : Type 0} {R : K → K → Ordering} (o : IsTotalOrder R) where
   pub get_made : (es : List (K × X)) (q : K) → get (from_entries {R = R} es) q ≡ lookup (is_at (R q)) es
   get_made es q = get-from_entries o es q ∙ find_lookup es q
 
-  pub made_insert : CmpEqualImpliesEq R → (es fs : List (K × X)) (k : K) (v : X) → ((q : K) → lookup (is_at (R q)) fs ≡ cond (is_at (R k) q) (Some v) (lookup (is_at (R q)) es)) → from_entries {R = R} fs ≡ insert (from_entries es) k v
+  pub made_insert : CmpEqualImpliesEq R → (es fs : List (K × X)) (k : K) (v : X)
+      → ((q : K) → lookup (is_at (R q)) fs ≡ cond (is_at (R k) q) (Some v) (lookup (is_at (R q)) es))
+      → from_entries {R = R} fs ≡ insert (from_entries es) k v
   made_insert exact es fs k v h = same_map o exact _ _ (λ q.
       get_made fs q ∙ h q ∙ ap (λ b. cond b (Some v) (lookup (is_at (R q)) es)) ((eq_by_cmp_equiv o).symm k q)
       ∙ sym (get-insert o (from_entries es) k v q ∙ ap (cond (is_at (R q) k) (Some v)) (get_made es q)))
 
-  pub made_remove : CmpEqualImpliesEq R → (es fs : List (K × X)) (k : K) → ((q : K) → lookup (is_at (R q)) fs ≡ cond (is_at (R k) q) None (lookup (is_at (R q)) es)) → from_entries {R = R} fs ≡ remove (from_entries es) k
+  pub made_remove : CmpEqualImpliesEq R → (es fs : List (K × X)) (k : K)
+      → ((q : K) → lookup (is_at (R q)) fs ≡ cond (is_at (R k) q) None (lookup (is_at (R q)) es))
+      → from_entries {R = R} fs ≡ remove (from_entries es) k
   made_remove exact es fs k h = same_map o exact _ _ (λ q.
       get_made fs q ∙ h q ∙ ap (λ b. cond b None (lookup (is_at (R q)) es)) ((eq_by_cmp_equiv o).symm k q)
       ∙ sym (get-remove o (from_entries es) k q ∙ ap (cond (is_at (R q) k) None) (get_made es q)))

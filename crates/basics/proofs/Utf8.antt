@@ -1,5 +1,8 @@
 -- A text in UTF-8 cut at an ASCII byte.
-use Rattle.basics.proofs.Common.{IsCharBoundary-after_ascii, IsCharBoundary-before_ascii, IsUtf8, IsUtf8-drop, IsUtf8-take, List, [], arith, drop-append-add, get_or, get_or-append_seam, length, subst, sym, take-append_seam, ℕ, ◌++◌, ◌+◌, ◌<◌, ◌∷◌}
+use Rattle.std.proofs.Common.{List, arith, get_or, length, subst, sym, ℕ, [], ◌++◌, ◌+◌, ◌<◌, ◌∷◌}
+use Rattle.std.proofs.Math.Seq.{drop-append-add, get_or-append_seam, take-append_seam}
+use Rattle.std.proofs.lemmas.Str.{IsCharBoundary-after_ascii, IsCharBoundary-before_ascii, IsUtf8-drop, IsUtf8-take}
+use Rattle.std.specs.Str.{IsUtf8}
 
 shorter : (xs : List ℕ) (b : ℕ) (ys : List ℕ) → length xs < length (xs ++ b ∷ ys)
 shorter [] b ys = omega arith

@@ -6,4 +6,3 @@ pub mod Lines
 pub mod Numbers
 pub mod Words
 pub mod Shapes
-pub mod Prelude

@@ -1,6 +1,7 @@
 -- The numbers that words write.
-use Rattle.std.specs.Prelude.{ℕ, ◌+◌, ◌*◌, ◌-◌, ◌&&◌, nat_le, List, [], ◌∷◌, length, Bool, Option, Some, None, option_and_then, if◌then◌else◌}
-use Rattle.basics.specs.Prelude.{list_all}
+use Rattle.std.specs.List.{list_all}
+use Rattle.std.specs.Prelude.{Bool, List, None, Option, Some, if◌then◌else◌, length, nat_le, option_and_then, ℕ, [], ◌&&◌, ◌*◌, ◌+◌, ◌-◌}
+use Rattle.std.specs.Prelude.{◌∷◌}
 
 -- a decimal digit
 abbrev pub is_digit : ℕ → Bool

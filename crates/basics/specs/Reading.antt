@@ -1,4 +1,5 @@
--- Reading that ends at the first fault, and what a call returned of what reading gives. Faults are of any type F; `wanting` tells those that are want of memory, which may come at any place.
+-- Reading that ends at the first fault, and what a call returned of what reading gives. Faults are of any type F; `wanting` tells those
+-- that are want of memory, which may come at any place.
 use Rattle.std.specs.Prelude.{◌≡◌, ℕ, ⊤, Bool, true, false, List, Option, Some, None, Result, Ok, Err, if◌then◌else◌}
 
 -- what the first step gives goes to the second, unless it is a fault

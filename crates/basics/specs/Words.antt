@@ -1,7 +1,7 @@
 -- The words of a line, and the text of lines of words.
-use Rattle.std.specs.Prelude.{◌≡◌, true, ℕ, ◌==◌, ◌&&◌, not, List, [], ◌∷◌, ◌++◌, Bool, Option}
-use Rattle.basics.specs.Prelude.{list_all, flat_map, AllByRecursion}
-use Rattle.basics.specs.Parts.{parts_of, parts_after}
+use Rattle.basics.specs.Parts.{parts_after, parts_of}
+use Rattle.std.specs.List.{AllByRecursion, flat_map, list_all}
+use Rattle.std.specs.Prelude.{Bool, List, Option, not, true, ℕ, [], ◌&&◌, ◌++◌, ◌==◌, ◌∷◌, ◌≡◌}
 
 -- one blank stands between two words
 abbrev pub words_of : List ℕ → List (List ℕ)

@@ -1,11 +1,18 @@
 -- What a stream that has ended well has stored.
-use Rattle.std.specs.Prelude.{◌≡◌, ℕ, Bool, true, List, Option, Some, None}
-use Rattle.block_stream.proofs.Common.{BucketContent, Done, Fine, Holds, HoldsIn, IsWritten, Scene, Stream, arith, asks, stage_of, standing, wanted}
+use Rattle.block_stream.specs.Holds.{Holds, HoldsIn, IsWritten}
+use Rattle.block_stream.specs.Stream.{Stream, asks, stage_of, standing, wanted}
+use Rattle.block_stream.specs.declared.mode.StreamEnd.TheVariants.{Done}
+use Rattle.machine.specs.Standing.{Fine}
+use Rattle.s3_types.specs.Store.{BucketContent, Scene}
+use Rattle.std.proofs.Common.{arith}
+use Rattle.std.specs.Prelude.{Bool, List, None, Option, Some, true, ℕ, ◌≡◌}
 
 -- a closed stream that has not ended asks something
-asks_on : (m : Stream) (s : Scene) (repeated : Bool) (bytes : List ℕ) (c : BucketContent) (u : Option ℕ) → m.closed ≡ true → HoldsIn None u m c repeated bytes → asks (stage_of None u m) m ≡ None → ⊥
+asks_on : (m : Stream) (s : Scene) (repeated : Bool) (bytes : List ℕ) (c : BucketContent) (u : Option ℕ) → m.closed ≡ true
+    → HoldsIn None u m c repeated bytes → asks (stage_of None u m) m ≡ None → ⊥
 asks_on m s repeated bytes c u h g = grind arith
 
 -- a closed stream that asks nothing more, and has no fault, has stored all that was written
-pub stored : (m : Stream) (s : Scene) (repeated : Bool) (bytes : List ℕ) → (h : Holds m s repeated bytes) → m.closed ≡ true → wanted m ≡ None → standing m ≡ Fine → (m.end ≡ Some Done) × IsWritten m.mode m h.content bytes
+pub stored : (m : Stream) (s : Scene) (repeated : Bool) (bytes : List ℕ) → (h : Holds m s repeated bytes) → m.closed ≡ true
+    → wanted m ≡ None → standing m ≡ Fine → (m.end ≡ Some Done) × IsWritten m.mode m h.content bytes
 stored m s repeated bytes h g e f = grind (arith, asks_on)

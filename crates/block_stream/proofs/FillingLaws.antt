@@ -1,11 +1,35 @@
 -- Laws of an upload that is being filled: its parts, its room, and what is known once all was sent. Contracts cite none of them.
-use Rattle.std.specs.Prelude.{◌≡◌, ◌⊎◌, ℕ, ◌+◌, ◌-◌, ◌*◌, ◌<◌, ◌≤◌, ◌&&◌, Bool, true, false, not, cond, List, [], ◌∷◌, ◌++◌, length, map, drop, Option, Some, None}
-use Rattle.block_stream.proofs.Common.{AreBlocks, AreLong, Beginning, BucketContent, Completing, Content, Done, Fills, HasParts, HasRoom, Holds, HoldsIn, IsUpload, IsUploadOf, IsWritten, Putting, Request, Scene, Sending, Spelled, Stage, Stream, StreamEnd, StreamMode, UploadPart, and_parts, answer, answer_at, answer_in, ap, append-nil, apply, apply_at, apply_in, arith, begin_or_wait, begun, bucket_of, chunk, complete_or_wait, concat, drop_all, ended, exact_unsigned, has_part, has_some, id_of, inl, inr, is_direct, is_part_number, is_settled, is_small, length-drop, length-map, live, nat_cmp_total, nat_tests, none-some, numbered, one_longer, part_put, parted, plain_tag, refl, settled, stage, stage_of, subst, sym, true≢false, with_key, with_part, ◌∙◌}
-use Rattle.retries.specs.Prelude.{text_eq, text_equiv, text_total, Upload}
 use Rattle.basics.proofs.Bools.{not_so}
-use Rattle.std.specs.FinMap as fin
+use Rattle.basics.proofs.Lists.{one_longer}
 use Rattle.basics.proofs.Tree.{insert_same}
-use Rattle.block_stream.proofs.PartLaws.{get_same, numbered_more, last_stands}
+use Rattle.basics.specs.Order.{text_eq, text_equiv, text_total}
+use Rattle.block_stream.proofs.PartLaws.{get_same, last_stands, numbered_more}
+use Rattle.block_stream.specs.Holds.{AreBlocks, AreLong, Fills, HasParts, HasRoom, Holds, HoldsIn, IsUpload, IsUploadOf, IsWritten}
+use Rattle.block_stream.specs.Holds.{numbered}
+use Rattle.block_stream.specs.Stream.{Stream, begin_or_wait, begun, chunk, complete_or_wait, ended, has_part, has_some, id_of, is_direct}
+use Rattle.block_stream.specs.Stream.{is_settled, is_small, parted, settled, stage, stage_of}
+use Rattle.block_stream.specs.declared.mode.StreamEnd.{StreamEnd}
+use Rattle.block_stream.specs.declared.mode.StreamEnd.TheVariants.{Done}
+use Rattle.block_stream.specs.declared.mode.StreamMode.{StreamMode}
+use Rattle.block_stream.specs.declared.stage.Stage.{Stage}
+use Rattle.block_stream.specs.declared.stage.Stage.TheVariants.{Beginning, Completing, Putting, Sending}
+use Rattle.s3_types.specs.Answer.{answer, answer_at, answer_in, apply, apply_at, apply_in, bucket_of, part_put}
+use Rattle.s3_types.specs.Multipart.{is_part_number, live, with_key, with_part}
+use Rattle.s3_types.specs.Store.{BucketContent, Content, Scene, Upload}
+use Rattle.s3_types.specs.Tags.{Spelled, plain_tag}
+use Rattle.s3_types.specs.declared.request.Request.{Request}
+use Rattle.s3_types.specs.declared.request.Request.TheVariants.{UploadPart}
+use Rattle.std.proofs.Common.{ap, arith, inl, inr, length-drop, refl, subst, sym, true≢false, ◌∙◌}
+use Rattle.std.proofs.lemmas.Bool.{and_parts}
+use Rattle.std.proofs.lemmas.Bool.Decides.{nat_tests}
+use Rattle.std.proofs.lemmas.List.{append-nil, drop_all, length-map}
+use Rattle.std.proofs.lemmas.Map.Lookups.{exact_unsigned}
+use Rattle.std.proofs.lemmas.Option.{none-some}
+use Rattle.std.specs.Cmp.{nat_cmp_total}
+use Rattle.std.specs.List.{concat}
+use Rattle.std.specs.Prelude.{Bool, List, None, Option, Some, cond, drop, false, length, map, not, true, ℕ, [], ◌&&◌, ◌*◌, ◌++◌, ◌+◌, ◌-◌}
+use Rattle.std.specs.Prelude.{◌<◌, ◌∷◌, ◌≡◌, ◌≤◌, ◌⊎◌}
+use Rattle.std.specs.FinMap as fin
 
 -- ---- what a stage tells
 
@@ -16,10 +40,12 @@ AtStage Sending m = (m.end ≡ None) × (m.upload ≡ Some (id_of m)) × (has_pa
 AtStage Completing m = (m.end ≡ None) × (m.upload ≡ Some (id_of m)) × (has_part m ≡ false) × (m.closed ≡ true)
 AtStage _ m = Unit {0}
 
-at_first : (m : Stream) → m.end ≡ None → m.upload ≡ None → (a b : Bool) → is_small m ≡ a → has_part m ≡ b → AtStage (cond a Putting (begin_or_wait b)) m
+at_first : (m : Stream) → m.end ≡ None → m.upload ≡ None → (a b : Bool) → is_small m ≡ a → has_part m ≡ b
+    → AtStage (cond a Putting (begin_or_wait b)) m
 at_first m h g a b e f = grind arith
 
-at_later : (m : Stream) → m.end ≡ None → m.upload ≡ Some (id_of m) → (a b : Bool) → has_part m ≡ a → m.closed ≡ b → AtStage (cond a Sending (complete_or_wait b)) m
+at_later : (m : Stream) → m.end ≡ None → m.upload ≡ Some (id_of m) → (a b : Bool) → has_part m ≡ a → m.closed ≡ b
+    → AtStage (cond a Sending (complete_or_wait b)) m
 at_later m h g a b e f = grind arith
 
 at_by : (e : Option StreamEnd) (u : Option ℕ) (m : Stream) → m.end ≡ e → m.upload ≡ u → AtStage (stage_of e u m) m
@@ -31,8 +57,10 @@ at_stage m = at_by m.end m.upload m refl refl
 -- ---- the bucket that is written to
 
 -- what a request leaves of a bucket that is there
-bucket_after : (c : Content) (b : BucketContent) (r : Request) (o : Option BucketContent) → o ≡ Some b → fin.get (apply_at o c r).buckets (bucket_of r) ≡ Some (apply_in b c.next c.minimum r)
-bucket_after c b r o h = ap (λ o. fin.get (apply_at o c r).buckets (bucket_of r)) h ∙ get_same text_total c.buckets (bucket_of r) (apply_in b c.next c.minimum r)
+bucket_after : (c : Content) (b : BucketContent) (r : Request) (o : Option BucketContent) → o ≡ Some b
+    → fin.get (apply_at o c r).buckets (bucket_of r) ≡ Some (apply_in b c.next c.minimum r)
+bucket_after c b r o h = ap (λ o. fin.get (apply_at o c r).buckets (bucket_of r)) h ∙ get_same text_total c.buckets (bucket_of r)
+    (apply_in b c.next c.minimum r)
 
 minimum_after : (c : Content) (r : Request) (o : Option BucketContent) → (apply_at o c r).minimum ≡ c.minimum
 minimum_after c r o = grind arith
@@ -49,8 +77,10 @@ pub record IsPlace (bucket : List ℕ) (block : ℕ) (s : Scene) (c : BucketCont
   pub least : s.content.minimum ≤ block
 
 -- a request leaves it there, and is answered there
-pub sent_to : (bucket : List ℕ) (block : ℕ) (s : Scene) (r : Request) (c : BucketContent) → IsStoreRequest r bucket s → IsPlace bucket block s c
-    → IsPlace bucket block (apply s r) (apply_in c s.content.next s.content.minimum r) × (answer s r ≡ answer_in c s.content.next s.content.minimum r)
+pub sent_to : (bucket : List ℕ) (block : ℕ) (s : Scene) (r : Request) (c : BucketContent) → IsStoreRequest r bucket s
+    → IsPlace bucket block s c
+    → IsPlace bucket block (apply s r) (apply_in c s.content.next s.content.minimum r)
+    × (answer s r ≡ answer_in c s.content.next s.content.minimum r)
 sent_to bucket block s r c h g = grind (arith, bucket_after, minimum_after)
 
 -- ---- arithmetic of the room
@@ -94,7 +124,8 @@ pub room_after : (m : Stream) (t : Spelled) → HasRoom m → Due m → HasRoom 
 room_after m t r (Whole l) = record {
   some = r.some;
   few = subst (λ n. m.block * n + length (drop m.block m.pending) ≤ m.block * 10000) (sym (longer_tags m t))
-      (subst (λ n. m.block * (length m.tags + 1) + n ≤ m.block * 10000) (sym (length-drop m.block m.pending)) (room_block m.block (length m.tags) (length m.pending) r.few l));
+      (subst (λ n. m.block * (length m.tags + 1) + n ≤ m.block * 10000) (sym (length-drop m.block m.pending))
+      (room_block m.block (length m.tags) (length m.pending) r.few l));
   counted = λ o e. r.counted o e ∙ same_count m.block (length m.tags) (length m.pending) l
       ∙ ap (λ n. m.block * (length m.tags + 1) + n) (sym (length-drop m.block m.pending))
       ∙ ap (λ n. m.block * n + length (drop m.block m.pending)) (sym (longer_tags m t));
@@ -104,7 +135,8 @@ room_after m t r (Last l c k) =
     record {
       some = r.some;
       few = subst (λ n. m.block * n + length (drop m.block m.pending) ≤ m.block * 10000) (sym (longer_tags m t))
-          (subst (λ (p : List ℕ). m.block * (length m.tags + 1) + length p ≤ m.block * 10000) (sym (drop_all m.block m.pending small)) (room_last m.block (length m.tags) (due_number m r (Last l c k))));
+          (subst (λ (p : List ℕ). m.block * (length m.tags + 1) + length p ≤ m.block * 10000) (sym (drop_all m.block m.pending small))
+          (room_last m.block (length m.tags) (due_number m r (Last l c k))));
       counted = λ o e. absurd (true≢false (sym c ∙ o));
     }
 
@@ -116,37 +148,50 @@ room_begun m id r = record { some = r.some; few = r.few; counted = r.counted }
 
 -- ---- parts in the upload
 
-pub live_is : {c : BucketContent} {id : ℕ} {key : List ℕ} {bs : List (List ℕ)} (h : HasParts c id key bs) → live c.uploads key id ≡ Some h.upload
-live_is {key = key} h = ap (with_key key) h.there ∙ ap (λ k. cond (text_eq k key) (Some h.upload) None) h.its_key ∙ ap (λ b. cond b (Some h.upload) None) (text_equiv.refl key)
+pub live_is : {c : BucketContent} {id : ℕ} {key : List ℕ} {bs : List (List ℕ)} (h : HasParts c id key bs)
+    → live c.uploads key id ≡ Some h.upload
+live_is {key = key} h = ap (with_key key) h.there ∙ ap (λ k. cond (text_eq k key) (Some h.upload) None) h.its_key ∙ ap
+    (λ b. cond b (Some h.upload) None) (text_equiv.refl key)
 
-parts_sent : (c : BucketContent) (id next minimum n : ℕ) (bucket key x : List ℕ) (bs cs : List (List ℕ)) (h : HasParts c id key bs) → is_part_number n ≡ true
+parts_sent : (c : BucketContent) (id next minimum n : ℕ) (bucket key x : List ℕ) (bs cs : List (List ℕ)) (h : HasParts c id key bs)
+    → is_part_number n ≡ true
     → fin.insert (numbered bs) n x ≡ numbered cs
     → HasParts (apply_in c next minimum (UploadPart bucket key id n x)) id key cs
 parts_sent c id next minimum n bucket key x bs cs h k e =
     subst (λ v. HasParts v id key cs)
     (sym (ap (λ o. record { objects = c.objects; uploads = part_put c.uploads id o n x }) (live_is h)
     ∙ ap (λ b. record { objects = c.objects; uploads = cond b (fin.insert c.uploads id (with_part h.upload n x)) c.uploads }) k))
-    (record { upload = with_part h.upload n x; there = get_same nat_cmp_total c.uploads id (with_part h.upload n x); its_key = h.its_key; parts = ap (λ m. fin.insert m n x) h.parts ∙ e })
+    (record {
+      upload = with_part h.upload n x;
+      there = get_same nat_cmp_total c.uploads id (with_part h.upload n x);
+      its_key = h.its_key;
+      parts = ap (λ m. fin.insert m n x) h.parts ∙ e;
+    })
 
 one_more : (bs : List (List ℕ)) (n : ℕ) (x : List ℕ) → n ≡ length bs → fin.insert (numbered bs) (n + 1) x ≡ numbered (bs ++ x ∷ [])
 one_more bs n x e = ap (λ k. fin.insert (numbered bs) (k + 1) x) e ∙ sym (numbered_more 1 fin.empty bs x)
 
-the_same : (bs : List (List ℕ)) (n : ℕ) (x : List ℕ) → n ≡ length bs → fin.insert (numbered (bs ++ x ∷ [])) (n + 1) x ≡ numbered (bs ++ x ∷ [])
-the_same bs n x e = ap (λ k. fin.insert (numbered (bs ++ x ∷ [])) (k + 1) x) e ∙ insert_same nat_cmp_total exact_unsigned (numbered (bs ++ x ∷ [])) (length bs + 1) x (last_stands bs x)
+the_same : (bs : List (List ℕ)) (n : ℕ) (x : List ℕ) → n ≡ length bs
+    → fin.insert (numbered (bs ++ x ∷ [])) (n + 1) x ≡ numbered (bs ++ x ∷ [])
+the_same bs n x e = ap (λ k. fin.insert (numbered (bs ++ x ∷ [])) (k + 1) x) e ∙ insert_same nat_cmp_total exact_unsigned
+    (numbered (bs ++ x ∷ [])) (length bs + 1) x (last_stands bs x)
 
 -- the part is there once it was sent, be it again
-pub sent_now : (m : Stream) (c : BucketContent) (id next minimum : ℕ) (repeated : Bool) (bytes : List ℕ) (f : Fills m c id repeated bytes) → length m.tags < 10000
+pub sent_now : (m : Stream) (c : BucketContent) (id next minimum : ℕ) (repeated : Bool) (bytes : List ℕ) (f : Fills m c id repeated bytes)
+    → length m.tags < 10000
     → HasParts (apply_in c next minimum (UploadPart m.bucket m.key id (length m.tags + 1) (chunk m))) id m.key (f.sent ++ chunk m ∷ [])
 sent_now m c id next minimum repeated bytes f few =
     let n : length m.tags ≡ length f.sent = ap length f.tags ∙ length-map f.sent plain_tag in
-    let put = λ (bs : List (List ℕ)) (h : HasParts c id m.key bs). parts_sent c id next minimum (length m.tags + 1) m.bucket m.key (chunk m) bs (f.sent ++ chunk m ∷ []) h
+    let put = λ (bs : List (List ℕ)) (h : HasParts c id m.key bs). parts_sent c id next minimum (length m.tags + 1) m.bucket m.key (chunk m)
+    bs (f.sent ++ chunk m ∷ []) h
     (is_number (length m.tags) few) in
     elim f.parts [
       | inl h ↦ put f.sent h (one_more f.sent (length m.tags) (chunk m) n)
       | inr k ↦ put (f.sent ++ chunk m ∷ []) k.2 (the_same f.sent (length m.tags) (chunk m) n)
     ]
 
-pub live_now : (m : Stream) (c : BucketContent) (id : ℕ) (repeated : Bool) (bytes : List ℕ) (f : Fills m c id repeated bytes) → (u : Upload) × (live c.uploads m.key id ≡ Some u)
+pub live_now : (m : Stream) (c : BucketContent) (id : ℕ) (repeated : Bool) (bytes : List ℕ) (f : Fills m c id repeated bytes) → (u : Upload)
+    × (live c.uploads m.key id ≡ Some u)
 live_now m c id repeated bytes f = elim f.parts [ inl h ↦ (h.upload, live_is h) | inr k ↦ (k.2.upload, live_is k.2) ]
 
 -- ---- all was sent
@@ -169,11 +214,22 @@ are_blocks n (b ∷ []) l p h =
     let k : length b ≤ n = omega (arith, h.0) in
     (record { front = []; last = b; are = refl; long = tt; short = k; some = inl s }, s)
 are_blocks n (b ∷ c ∷ bs) l p h =
-    let k = are_blocks n (c ∷ bs) l (omega arith) h.1 in
-    (record { front = b ∷ k.0.front; last = k.0.last; are = ap (λ l. b ∷ l) k.0.are; long = (h.0, k.0.long); short = k.0.short; some = inl k.1 }, k.1)
+    let k = are_blocks n (c ∷ bs) l (omega arith) h.1 in (
+      record {
+        front = b ∷ k.0.front;
+        last = k.0.last;
+        are = ap (λ l. b ∷ l) k.0.are;
+        long = (h.0, k.0.long);
+        short = k.0.short;
+        some = inl
+            k.1;
+      },
+      k.1,
+    )
 
 -- what a filled upload has once all was sent
-pub full : (m : Stream) (c : BucketContent) (id : ℕ) (repeated : Bool) (bytes : List ℕ) → HasRoom m → has_part m ≡ false → m.closed ≡ true → Fills m c id repeated bytes → IsUpload m c id bytes
+pub full : (m : Stream) (c : BucketContent) (id : ℕ) (repeated : Bool) (bytes : List ℕ) → HasRoom m → has_part m ≡ false → m.closed ≡ true
+    → Fills m c id repeated bytes → IsUpload m c id bytes
 full m c id repeated bytes r n o f =
     let a = all_sent m n o in
     let some : 0 < length f.sent = has_mapped f.sent (ap has_some (sym f.tags) ∙ a.1) in
@@ -193,10 +249,12 @@ full m c id repeated bytes r n o f =
 
 -- ---- settling
 
-delayed_written : (mode : StreamMode) (m : Stream) (c : BucketContent) (bytes : List ℕ) → is_direct mode ≡ false → IsUploadOf m.upload m c bytes → IsWritten mode m c bytes
+delayed_written : (mode : StreamMode) (m : Stream) (c : BucketContent) (bytes : List ℕ) → is_direct mode ≡ false
+    → IsUploadOf m.upload m c bytes → IsWritten mode m c bytes
 delayed_written mode m c bytes h g = grind arith
 
-pub direct_written : (mode : StreamMode) (m : Stream) (c : BucketContent) (bytes : List ℕ) → is_direct mode ≡ true → fin.get c.objects m.key ≡ Some (record { bytes = bytes; header = None }) → IsWritten mode m c bytes
+pub direct_written : (mode : StreamMode) (m : Stream) (c : BucketContent) (bytes : List ℕ) → is_direct mode ≡ true
+    → fin.get c.objects m.key ≡ Some (record { bytes = bytes; header = None }) → IsWritten mode m c bytes
 direct_written mode m c bytes h g = grind arith
 
 -- what is so of a stream that goes on, and of one that is done, is so once it is settled
@@ -204,19 +262,26 @@ pub settled_by : (P : Stream → Type 0) (m : Stream) → P (ended m Done) → P
 settled_by P m e h = elim (is_settled m) as (λ z. P (cond z (ended m Done) m)) [ true ↦ e | false ↦ h ]
 
 -- what is held, by the fields that tell where the stream stands
-pub held_at : (m : Stream) (c : BucketContent) (repeated : Bool) (bytes : List ℕ) (e : Option StreamEnd) (u : Option ℕ) → m.end ≡ e → m.upload ≡ u → HoldsIn m.end m.upload m c repeated bytes → HoldsIn e u m c repeated bytes
-held_at m c repeated bytes e u p q h = subst (λ v. HoldsIn e v m c repeated bytes) q (subst (λ v. HoldsIn v m.upload m c repeated bytes) p h)
+pub held_at : (m : Stream) (c : BucketContent) (repeated : Bool) (bytes : List ℕ) (e : Option StreamEnd) (u : Option ℕ) → m.end ≡ e
+    → m.upload ≡ u → HoldsIn m.end m.upload m c repeated bytes → HoldsIn e u m c repeated bytes
+held_at m c repeated bytes e u p q h = subst (λ v. HoldsIn e v m c repeated bytes) q
+    (subst (λ v. HoldsIn v m.upload m c repeated bytes) p h)
 
-pub held_from : (m : Stream) (c : BucketContent) (repeated : Bool) (bytes : List ℕ) (e : Option StreamEnd) (u : Option ℕ) → m.end ≡ e → m.upload ≡ u → HoldsIn e u m c repeated bytes → HoldsIn m.end m.upload m c repeated bytes
-held_from m c repeated bytes e u p q h = subst (λ v. HoldsIn v m.upload m c repeated bytes) (sym p) (subst (λ v. HoldsIn e v m c repeated bytes) (sym q) h)
+pub held_from : (m : Stream) (c : BucketContent) (repeated : Bool) (bytes : List ℕ) (e : Option StreamEnd) (u : Option ℕ) → m.end ≡ e
+    → m.upload ≡ u → HoldsIn e u m c repeated bytes → HoldsIn m.end m.upload m c repeated bytes
+held_from m c repeated bytes e u p q h = subst (λ v. HoldsIn v m.upload m c repeated bytes) (sym p)
+    (subst (λ v. HoldsIn e v m c repeated bytes) (sym q) h)
 
-pub holds_of : (m : Stream) (s : Scene) (repeated : Bool) (bytes : List ℕ) (c : BucketContent) → IsPlace m.bucket m.block s c → HasRoom m → HoldsIn m.end m.upload m c repeated bytes → Holds m s repeated bytes
+pub holds_of : (m : Stream) (s : Scene) (repeated : Bool) (bytes : List ℕ) (c : BucketContent) → IsPlace m.bucket m.block s c → HasRoom m
+    → HoldsIn m.end m.upload m c repeated bytes → Holds m s repeated bytes
 holds_of m s repeated bytes c p r h = record { content = c; there = p.there; least = p.least; room = r; held = h }
 
-pub place_of : {m : Stream} {s : Scene} {repeated : Bool} {bytes : List ℕ} (h : Holds m s repeated bytes) → IsPlace m.bucket m.block s h.content
+pub place_of : {m : Stream} {s : Scene} {repeated : Bool} {bytes : List ℕ} (h : Holds m s repeated bytes)
+    → IsPlace m.bucket m.block s h.content
 place_of h = record { there = h.there; least = h.least }
 
-pub settle : (m : Stream) (s : Scene) (c : BucketContent) (id : ℕ) (repeated : Bool) (bytes : List ℕ) → m.end ≡ None → m.upload ≡ Some id → IsPlace m.bucket m.block s c → HasRoom m → Fills m c id repeated bytes → Holds (settled m) s repeated bytes
+pub settle : (m : Stream) (s : Scene) (c : BucketContent) (id : ℕ) (repeated : Bool) (bytes : List ℕ) → m.end ≡ None → m.upload ≡ Some id
+    → IsPlace m.bucket m.block s c → HasRoom m → Fills m c id repeated bytes → Holds (settled m) s repeated bytes
 settle m s c id repeated bytes e u p r f =
     elim (is_settled m) as (λ z. is_settled m ≡ z → Holds (cond z (ended m Done) m) s repeated bytes) [
       | true ↦ λ z.
@@ -226,7 +291,8 @@ settle m s c id repeated bytes e u p r f =
           holds_of (ended m Done) s repeated bytes c (record { there = p.there; least = p.least }) (room_ended m Done r) (
             o.0,
             delayed_written m.mode (ended m Done) c bytes (not_so (is_direct m.mode) d.0)
-                (subst (λ v. IsUploadOf v (ended m Done) c bytes) (sym u) (record { sent = k.sent; parts = k.parts; joined = k.joined; blocks = k.blocks; tags = k.tags })),
+                (subst (λ v. IsUploadOf v (ended m Done) c bytes) (sym u) (record
+                { sent = k.sent; parts = k.parts; joined = k.joined; blocks = k.blocks; tags = k.tags })),
           )
       | false ↦ λ z. holds_of m s repeated bytes c p r (held_from m c repeated bytes None (Some id) e u (inl (f, z)))
     ] refl

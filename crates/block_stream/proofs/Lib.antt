@@ -9,4 +9,3 @@ pub mod FillingLaws
 pub mod KeepingLaws
 pub mod PartLaws
 pub mod StreamLaws
-mod Common

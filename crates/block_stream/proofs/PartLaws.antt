@@ -1,11 +1,28 @@
 -- Laws of numbered parts and of their completion. Contracts cite none of them.
-use Rattle.std.specs.Prelude.{◌≡◌, ℕ, suc, ◌+◌, ◌-◌, ◌<◌, ◌≤◌, ◌&&◌, Bool, true, false, nat_le, nat_eq, cond, List, [], ◌∷◌, ◌++◌, length, map, take, Option, Some, Ok, Err}
-use Rattle.block_stream.proofs.Common.{AreBlocks, AreLong, NamedPart, Ordering, Parts, Spelled, ap, arith, at_most_so, below_so, concat, eq_by_cmp_equiv, flat_map, joined, list_all, map-append, named_from, nat_cmp, nat_cmp_total, nat_tests, numbered, numbered_from, one_longer, plain_tag, refl, subst, sym, ◌∙◌}
-use Rattle.retries.specs.Prelude.{FinMap, get-insert, eq_by_cmp, IsTotalOrder, text_equiv, Upload, rises_from, rises, is_sent, has_tag, tag_eq, is_large, bytes_of, is_none_named}
+use Rattle.basics.proofs.Lists.{one_longer}
+use Rattle.basics.proofs.Naturals.{at_most_so, below_so}
+use Rattle.basics.specs.Order.{text_equiv}
+use Rattle.block_stream.specs.Holds.{AreBlocks, AreLong, numbered, numbered_from}
+use Rattle.s3_types.specs.Blocks.{named_from}
+use Rattle.s3_types.specs.Multipart.{bytes_of, has_tag, is_large, is_none_named, is_sent, joined, rises, rises_from, tag_eq}
+use Rattle.s3_types.specs.Store.{Parts, Upload}
+use Rattle.s3_types.specs.Tags.{Spelled, plain_tag}
+use Rattle.s3_types.specs.declared.request.NamedPart.{NamedPart}
+use Rattle.std.proofs.Common.{ap, arith, refl, subst, sym, ◌∙◌}
+use Rattle.std.proofs.lemmas.Bool.Decides.{nat_tests}
+use Rattle.std.proofs.lemmas.List.{map-append}
+use Rattle.std.specs.Cmp.{IsTotalOrder, eq_by_cmp_equiv, nat_cmp_total}
+use Rattle.std.specs.FinMap.{FinMap, get-insert}
+use Rattle.std.specs.List.{concat, flat_map, list_all}
+use Rattle.std.specs.Ordering.{eq_by_cmp, nat_cmp}
+use Rattle.std.specs.Prelude.{Bool, Err, List, Ok, Option, Some, cond, false, length, map, nat_eq, nat_le, suc, take, true, ℕ, [], ◌&&◌}
+use Rattle.std.specs.Prelude.{◌++◌, ◌+◌, ◌-◌, ◌<◌, ◌∷◌, ◌≡◌, ◌≤◌}
+use Rattle.std.specs.declared.cmp.Ordering.{Ordering}
 use Rattle.std.specs.FinMap as fin
 
 -- what was put stands
-pub get_same : {K X : Type 0} {R : K → K → Ordering} (o : IsTotalOrder R) (m : FinMap R X) (k : K) (v : X) → fin.get (fin.insert m k v) k ≡ Some v
+pub get_same : {K X : Type 0} {R : K → K → Ordering} (o : IsTotalOrder R) (m : FinMap R X) (k : K) (v : X)
+    → fin.get (fin.insert m k v) k ≡ Some v
 get_same o m k v = get-insert o m k v k ∙ ap (λ b. cond b (Some v) (fin.get m k)) ((eq_by_cmp_equiv o).refl k)
 
 get_lower : (m : Parts) (k : ℕ) (v : List ℕ) (q : ℕ) → q < k → fin.get (fin.insert m k v) q ≡ fin.get m q
@@ -14,7 +31,8 @@ get_lower m k v q h =
     get-insert nat_cmp_total m k v q ∙ ap (λ b. cond b (Some v) (fin.get m q)) e
 
 -- one part more
-pub numbered_more : (n : ℕ) (m : Parts) (bs : List (List ℕ)) (x : List ℕ) → numbered_from n m (bs ++ x ∷ []) ≡ fin.insert (numbered_from n m bs) (length bs + n) x
+pub numbered_more : (n : ℕ) (m : Parts) (bs : List (List ℕ)) (x : List ℕ)
+    → numbered_from n m (bs ++ x ∷ []) ≡ fin.insert (numbered_from n m bs) (length bs + n) x
 numbered_more n m [] x =
     let e : n ≡ length {A = List ℕ} [] + n = omega arith in
     ap (λ k. fin.insert m k x) e
@@ -38,7 +56,8 @@ numbered_stand n m (b ∷ bs) =
 
 -- the last part stands
 pub last_stands : (bs : List (List ℕ)) (x : List ℕ) → fin.get (numbered (bs ++ x ∷ [])) (length bs + 1) ≡ Some x
-last_stands bs x = ap (λ m. fin.get m (length bs + 1)) (numbered_more 1 fin.empty bs x) ∙ get_same nat_cmp_total (numbered bs) (length bs + 1) x
+last_stands bs x = ap (λ m. fin.get m (length bs + 1)) (numbered_more 1 fin.empty bs x) ∙ get_same nat_cmp_total (numbered bs)
+    (length bs + 1) x
 
 -- ---- a completion that names them all
 
@@ -52,22 +71,28 @@ all_sent m n (b ∷ bs) h =
     ∙ ap (λ v. v && list_all (is_sent m) (named_from (n + 1) (map plain_tag bs))) (same_tag (plain_tag b))
     ∙ all_sent m (n + 1) bs h.1
 
-all_large : (m : Parts) (minimum size n : ℕ) (bs rest : List (List ℕ)) → StandFrom m n (bs ++ rest) → AreLong size bs → minimum ≤ size → list_all (is_large m minimum) (named_from n (map plain_tag bs)) ≡ true
+all_large : (m : Parts) (minimum size n : ℕ) (bs rest : List (List ℕ)) → StandFrom m n (bs ++ rest) → AreLong size bs → minimum ≤ size
+    → list_all (is_large m minimum) (named_from n (map plain_tag bs)) ≡ true
 all_large m minimum size n [] rest h k l = refl
 all_large m minimum size n (b ∷ bs) rest h k l =
-    ap (λ (o : Option (List ℕ)). nat_le minimum (length (Rattle.std.specs.Option.unwrap_or o [])) && list_all (is_large m minimum) (named_from (n + 1) (map plain_tag bs))) h.0
-    ∙ ap (λ v. v && list_all (is_large m minimum) (named_from (n + 1) (map plain_tag bs))) (at_most_so minimum (length b) (subst (λ n. minimum ≤ n) (sym k.0) l))
+    ap (λ (o : Option (List ℕ)). nat_le minimum (length (Rattle.std.specs.Option.unwrap_or o [])) && list_all (is_large m minimum)
+    (named_from (n + 1) (map plain_tag bs))) h.0
+    ∙ ap (λ v. v && list_all (is_large m minimum) (named_from (n + 1) (map plain_tag bs)))
+    (at_most_so minimum (length b) (subst (λ n. minimum ≤ n) (sym k.0) l))
     ∙ all_large m minimum size (n + 1) bs rest h.1 k.1 l
 
-all_bytes : (m : Parts) (n : ℕ) (bs : List (List ℕ)) → StandFrom m n bs → flat_map (bytes_of m) (named_from n (map plain_tag bs)) ≡ concat bs
+all_bytes : (m : Parts) (n : ℕ) (bs : List (List ℕ)) → StandFrom m n bs
+    → flat_map (bytes_of m) (named_from n (map plain_tag bs)) ≡ concat bs
 all_bytes m n [] h = refl
 all_bytes m n (b ∷ bs) h =
-    ap (λ (o : Option (List ℕ)). Rattle.std.specs.Option.unwrap_or o [] ++ flat_map (bytes_of m) (named_from (n + 1) (map plain_tag bs))) h.0
+    ap (λ (o : Option (List ℕ)). Rattle.std.specs.Option.unwrap_or o [] ++ flat_map (bytes_of m) (named_from (n + 1) (map plain_tag bs)))
+    h.0
     ∙ ap (λ l. b ++ l) (all_bytes m (n + 1) bs h.1)
 
 all_rise : (n k : ℕ) (ts : List Spelled) → n < k → rises_from n (named_from k ts) ≡ true
 all_rise n k [] h = refl
-all_rise n k (t ∷ ts) h = let l : k < k + 1 = omega arith in ap (λ b. b && rises_from k (named_from (k + 1) ts)) (below_so n k h) ∙ all_rise k (k + 1) ts l
+all_rise n k (t ∷ ts) h = let l : k < k + 1 = omega arith in ap (λ b. b && rises_from k (named_from (k + 1) ts)) (below_so n k h) ∙ all_rise
+    k (k + 1) ts l
 
 rise : (n : ℕ) (ts : List Spelled) → rises (named_from n ts) ≡ true
 rise n [] = refl
@@ -87,7 +112,8 @@ not_none n [] t = refl
 not_none n (x ∷ ts) t = refl
 
 -- blocks of no less than the minimum are joined
-module _ (u : Upload) (f : List (List ℕ)) (x : List ℕ) (size minimum : ℕ) (is : u.parts ≡ numbered (f ++ x ∷ [])) (long : AreLong size f) (least : minimum ≤ size) where
+module _ (u : Upload) (f : List (List ℕ)) (x : List ℕ) (size minimum : ℕ) (is : u.parts ≡ numbered (f ++ x ∷ [])) (long : AreLong size f)
+    (least : minimum ≤ size) where
   abbrev tags : List Spelled
   tags = map plain_tag (f ++ x ∷ [])
 
@@ -107,12 +133,17 @@ module _ (u : Upload) (f : List (List ℕ)) (x : List ℕ) (size minimum : ℕ) 
   fronts = grind (arith, split, length_named, one_less, front_named)
 
   checks : (a b c d : Bool) (l : List ℕ) → a ≡ false → b ≡ true → c ≡ true → d ≡ true
-      → cond a (Err Rattle.s3_types.specs.declared.reply.Refusal.TheVariants.MalformedList) (cond b (cond c (cond d (Ok l) (Err Rattle.s3_types.specs.declared.reply.Refusal.TheVariants.EntityTooSmall)) (Err Rattle.s3_types.specs.declared.reply.Refusal.TheVariants.InvalidPart)) (Err Rattle.s3_types.specs.declared.reply.Refusal.TheVariants.InvalidPartOrder)) ≡ Ok l
+      → cond a (Err Rattle.s3_types.specs.declared.reply.Refusal.TheVariants.MalformedList)
+      (cond b (cond c (cond d (Ok l) (Err Rattle.s3_types.specs.declared.reply.Refusal.TheVariants.EntityTooSmall))
+      (Err Rattle.s3_types.specs.declared.reply.Refusal.TheVariants.InvalidPart))
+      (Err Rattle.s3_types.specs.declared.reply.Refusal.TheVariants.InvalidPartOrder)) ≡ Ok l
   checks a b c d l ea eb ec ed = cc
 
   all_joined : joined (Some u) ns minimum ≡ Ok (concat (f ++ x ∷ []))
-  all_joined = checks (is_none_named ns) (rises ns) (list_all (is_sent u.parts) ns) (list_all (is_large u.parts minimum) (take (length ns - 1) ns)) (flat_map (bytes_of u.parts) ns)
-      (ap (λ ts. is_none_named (named_from 1 ts)) split ∙ not_none 1 (map plain_tag f) (plain_tag x)) (rise 1 tags) (all_sent u.parts 1 (f ++ x ∷ []) stand)
+  all_joined = checks (is_none_named ns) (rises ns) (list_all (is_sent u.parts) ns)
+      (list_all (is_large u.parts minimum) (take (length ns - 1) ns)) (flat_map (bytes_of u.parts) ns)
+      (ap (λ ts. is_none_named (named_from 1 ts)) split ∙ not_none 1 (map plain_tag f) (plain_tag x)) (rise 1 tags)
+      (all_sent u.parts 1 (f ++ x ∷ []) stand)
       (ap (list_all (is_large u.parts minimum)) fronts ∙ all_large u.parts minimum size 1 f (x ∷ []) stand long least)
       ∙ ap Ok (all_bytes u.parts 1 (f ++ x ∷ []) stand)
 

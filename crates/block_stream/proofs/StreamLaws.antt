@@ -1,8 +1,18 @@
 -- The laws of a stream as a machine. Contracts cite none of them; the machine names `stream_laws` as what holds of it.
-use Rattle.std.specs.Prelude.{◌≡◌, Bool, true, false}
-use Rattle.block_stream.proofs.Common.{Beginning, Completed, Completing, Fine, Fits, IsReady, Laws, Part, Putting, Refusal, Refused, Reply, Sending, Stage, Stored, Stream, Upload, answers, ap, arith, is_no_upload, left, moved, parted, refl, refused, stage, standing, standing_of, sym, told, wanted, ◌∙◌}
 use Rattle.block_stream.proofs.FillingLaws.{settled_by}
-use Rattle.block_stream.proofs.KeepingLaws.{hidden, took, lost, gave_up, fit, falls, some_left, asks_alive}
+use Rattle.block_stream.proofs.KeepingLaws.{asks_alive, falls, fit, gave_up, hidden, lost, some_left, took}
+use Rattle.block_stream.specs.Holds.{IsReady}
+use Rattle.block_stream.specs.Stream.{Fits, Stream, answers, is_no_upload, left, moved, parted, refused, stage, standing, standing_of, told}
+use Rattle.block_stream.specs.Stream.{wanted}
+use Rattle.block_stream.specs.declared.stage.Stage.{Stage}
+use Rattle.block_stream.specs.declared.stage.Stage.TheVariants.{Beginning, Completing, Putting, Sending}
+use Rattle.machine.specs.Laws.{Laws}
+use Rattle.machine.specs.Standing.{Fine}
+use Rattle.s3_types.specs.declared.reply.Refusal.{Refusal}
+use Rattle.s3_types.specs.declared.reply.Reply.{Reply}
+use Rattle.s3_types.specs.declared.reply.Reply.TheVariants.{Completed, Part, Refused, Stored, Upload}
+use Rattle.std.proofs.Common.{ap, arith, refl, sym, ◌∙◌}
+use Rattle.std.specs.Prelude.{Bool, false, true, ◌≡◌}
 
 -- no reply is a fault of the store or of memory
 fine_refused : (m : Stream) (b : Bool) (r : Refusal) → standing m ≡ Fine → is_no_upload r ≡ true → standing (refused m b r) ≡ Fine

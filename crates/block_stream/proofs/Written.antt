@@ -1,9 +1,23 @@
 -- What a write and the close keep.
-use Rattle.std.specs.Prelude.{◌≡◌, ◌+◌, ◌*◌, ◌≤◌, ◌&&◌, ℕ, Bool, true, false, nat_lt, cond, List, [], ◌++◌, length, take, Option, Some, None, IsSome, is_some}
-use Rattle.block_stream.proofs.Common.{Beginning, BucketContent, Done, Holds, Request, Scene, Sending, Spelled, Stage, Stream, StreamMode, added, and_right, ap, arith, asks, asks_with, close, closed_by, ended, fresh, has_part, id_of, is_direct, is_small, refl, seen, shut, stage_of, subst, sym, take-append-le, wanted, wrote, ◌∙◌}
-use Rattle.std.specs.FinMap as fin
+use Rattle.block_stream.proofs.Grown.{holds_close, holds_wrote, is_due, longer, open_due}
 use Rattle.block_stream.proofs.KeepingLaws.{asks_alive, unsettled}
-use Rattle.block_stream.proofs.Grown.{open_due, is_due, longer, holds_wrote, holds_close}
+use Rattle.block_stream.specs.Holds.{Holds}
+use Rattle.block_stream.specs.Kept.{seen}
+use Rattle.block_stream.specs.Stream.{Stream, added, asks, asks_with, close, closed_by, ended, fresh, has_part, id_of, is_direct, is_small}
+use Rattle.block_stream.specs.Stream.{shut, stage_of, wanted, wrote}
+use Rattle.block_stream.specs.declared.mode.StreamEnd.TheVariants.{Done}
+use Rattle.block_stream.specs.declared.mode.StreamMode.{StreamMode}
+use Rattle.block_stream.specs.declared.stage.Stage.{Stage}
+use Rattle.block_stream.specs.declared.stage.Stage.TheVariants.{Beginning, Sending}
+use Rattle.s3_types.specs.Store.{BucketContent, Scene}
+use Rattle.s3_types.specs.Tags.{Spelled}
+use Rattle.s3_types.specs.declared.request.Request.{Request}
+use Rattle.std.proofs.Common.{ap, arith, refl, subst, sym, ◌∙◌}
+use Rattle.std.proofs.lemmas.Bool.{and_right}
+use Rattle.std.proofs.lemmas.List.{take-append-le}
+use Rattle.std.specs.Prelude.{Bool, IsSome, List, None, Option, Some, cond, false, is_some, length, nat_lt, take, true, ℕ, [], ◌&&◌, ◌*◌}
+use Rattle.std.specs.Prelude.{◌++◌, ◌+◌, ◌≡◌, ◌≤◌}
+use Rattle.std.specs.FinMap as fin
 
 -- ---- what is held
 
@@ -11,7 +25,8 @@ no_parts : (n : ℕ) → n * 0 + 0 ≡ 0
 no_parts n = grind arith
 
 -- of a stream that was just made nothing was written
-fresh_holds : (mode : StreamMode) (bucket key : List ℕ) (n : ℕ) (s : Scene) (c : BucketContent) → 1 ≤ n → fin.get s.content.buckets bucket ≡ Some c → s.content.minimum ≤ n → Holds (fresh mode bucket key n) s false []
+fresh_holds : (mode : StreamMode) (bucket key : List ℕ) (n : ℕ) (s : Scene) (c : BucketContent) → 1 ≤ n
+    → fin.get s.content.buckets bucket ≡ Some c → s.content.minimum ≤ n → Holds (fresh mode bucket key n) s false []
 fresh_holds mode bucket key n s c some there least =
     let few : n * 0 + 0 ≤ n * 10000 = omega (arith, no_parts n) in
     record {
@@ -22,7 +37,8 @@ fresh_holds mode bucket key n s c some there least =
       held = (refl, refl);
     }
 
-pub start_holds : (mode : StreamMode) (bucket key : List ℕ) (n : ℕ) (q : List (List ℕ)) (r : List ℕ) (tags : List Spelled) → q ≡ [] → r ≡ [] → tags ≡ [] → (s : Scene) (c : BucketContent) → 1 ≤ n → fin.get s.content.buckets bucket ≡ Some c → s.content.minimum ≤ n
+pub start_holds : (mode : StreamMode) (bucket key : List ℕ) (n : ℕ) (q : List (List ℕ)) (r : List ℕ) (tags : List Spelled) → q ≡ [] → r ≡ []
+    → tags ≡ [] → (s : Scene) (c : BucketContent) → 1 ≤ n → fin.get s.content.buckets bucket ≡ Some c → s.content.minimum ≤ n
     → Holds (seen mode bucket key n q r None tags 0 false None) s false []
 start_holds mode bucket key n q r tags hq hr ht s c some there least =
     rw (hq, hr, ht) (fresh_holds mode bucket key n s c some there least)
@@ -31,7 +47,8 @@ pub holds_written : (m m' : Stream) (piece : List ℕ) → m.closed ≡ false �
     → (s : Scene) (repeated : Bool) (bytes : List ℕ) → Holds m s repeated bytes → Holds m' s repeated (bytes ++ piece)
 holds_written m m' piece o e l s b bytes h = subst (λ v. Holds v s b (bytes ++ piece)) (sym e) (holds_wrote m s b bytes o h piece l)
 
-pub holds_closed : (m m' : Stream) → m.closed ≡ false → m' ≡ close m → (s : Scene) (repeated : Bool) (bytes : List ℕ) → Holds m s repeated bytes → Holds m' s repeated bytes
+pub holds_closed : (m m' : Stream) → m.closed ≡ false → m' ≡ close m → (s : Scene) (repeated : Bool) (bytes : List ℕ)
+    → Holds m s repeated bytes → Holds m' s repeated bytes
 holds_closed m m' o e s b bytes h = subst (λ v. Holds v s b bytes) (sym e) (holds_close m s b bytes o h)
 
 -- ---- what is asked
@@ -67,14 +84,51 @@ wrote_asked m piece o r w =
     let e = asks_alive m r w in
     let d = part_due m o r w in
     let l = open_due m o d in
-    let new : Stream = record { mode = m.mode; bucket = m.bucket; key = m.key; block = m.block; pending = m.pending ++ piece; upload = m.upload; tags = m.tags; count = m.count + length piece; closed = m.closed; end = m.end } in
-    let is : wrote m piece ≡ new = ap (λ v. record { mode = m.mode; bucket = m.bucket; key = m.key; block = m.block; pending = added v m.pending piece; upload = m.upload; tags = m.tags; count = m.count + length piece; closed = m.closed; end = m.end }) e in
+    let new : Stream = record {
+      mode = m.mode;
+      bucket = m.bucket;
+      key = m.key;
+      block = m.block;
+      pending = m.pending ++ piece;
+      upload =
+          m.upload;
+      tags = m.tags;
+      count = m.count + length piece;
+      closed = m.closed;
+      end = m.end;
+    } in
+    let is : wrote m piece ≡ new = ap (λ v. record {
+      mode = m.mode;
+      bucket = m.bucket;
+      key = m.key;
+      block = m.block;
+      pending = added v
+          m.pending piece;
+      upload = m.upload;
+      tags = m.tags;
+      count = m.count + length piece;
+      closed = m.closed;
+      end = m.end;
+    }) e in
     ap wanted is
     ∙ due_wanted new e (open_not_small new o) (is_due new (longer m.block m.pending piece l))
     ∙ sym (by m.upload (take-append-le m.block m.pending piece l))
     ∙ sym (due_wanted m e (open_not_small m o) d)
   where
-    by : (u : Option ℕ) → take m.block (m.pending ++ piece) ≡ take m.block m.pending → asks (sends u) m ≡ asks (sends u) (record { mode = m.mode; bucket = m.bucket; key = m.key; block = m.block; pending = m.pending ++ piece; upload = m.upload; tags = m.tags; count = m.count + length piece; closed = m.closed; end = m.end })
+    by : (u : Option ℕ) → take m.block (m.pending ++ piece) ≡ take m.block m.pending
+        → asks (sends u) m ≡ asks (sends u) (record {
+          mode = m.mode;
+          bucket = m.bucket;
+          key = m.key;
+          block = m.block;
+          pending = m.pending ++
+              piece;
+          upload = m.upload;
+          tags = m.tags;
+          count = m.count + length piece;
+          closed = m.closed;
+          end = m.end;
+        })
     by None h = refl
     by (Some id) h = ap (λ x. asks_with Sending m.bucket m.key (id_of m) m.tags x) (sym h)
 
@@ -91,7 +145,8 @@ close_asked m o r w =
     by None = refl
     by (Some id) = refl
 
-of_some : (m m' : Stream) (v : Option Request) → wanted m ≡ v → ((r : Request) → wanted m ≡ Some r → wanted m' ≡ wanted m) → IsSome v → wanted m' ≡ wanted m
+of_some : (m m' : Stream) (v : Option Request) → wanted m ≡ v → ((r : Request) → wanted m ≡ Some r → wanted m' ≡ wanted m) → IsSome v
+    → wanted m' ≡ wanted m
 of_some m m' v h g e = grind arith
 
 pub asked_written : (m m' : Stream) (piece : List ℕ) → m.closed ≡ false → m' ≡ wrote m piece → IsSome (wanted m) → wanted m' ≡ wanted m

@@ -1,11 +1,13 @@
 -- Codes, by which proofs tell streams apart; each stands with the law that it is read back.
-use Rattle.std.specs.Prelude.{Bool, List, Option, false, refl, true, ℕ, ◌≡◌}
-use Rattle.s3_types.specs.Prelude.{Coded, Spelled, code_by, coded_bool, coded_list, coded_option, coded_text, coded_ℕ, coded×}
-use Rattle.block_stream.specs.declared.mode.StreamMode.{StreamMode}
-use Rattle.block_stream.specs.declared.mode.StreamMode.TheVariants.{Delayed, Direct}
+use Rattle.block_stream.specs.Stream.{Stream}
 use Rattle.block_stream.specs.declared.mode.StreamEnd.{StreamEnd}
 use Rattle.block_stream.specs.declared.mode.StreamEnd.TheVariants.{Done, Gone, NoMemory, StoreFault}
-use Rattle.block_stream.specs.Stream.{Stream}
+use Rattle.block_stream.specs.declared.mode.StreamMode.{StreamMode}
+use Rattle.block_stream.specs.declared.mode.StreamMode.TheVariants.{Delayed, Direct}
+use Rattle.s3_types.specs.Coded.{coded_text}
+use Rattle.s3_types.specs.Tags.{Spelled}
+use Rattle.std.specs.Coded.{Coded, code_by, coded_bool, coded_list, coded_option, coded_ℕ, coded×}
+use Rattle.std.specs.Prelude.{Bool, List, Option, false, refl, true, ℕ, ◌≡◌}
 
 -- a stream's mode as a bit
 abbrev pub mode_bit : StreamMode → Bool
@@ -51,13 +53,28 @@ coded_end = code_by (Bool × Bool) (coded× coded_bool coded_bool) end_bits (λ 
 
 -- the code of a part's tag
 abbrev pub coded_spelled : Coded Spelled
-coded_spelled = code_by (List ℕ × ℕ) (coded× coded_text coded_ℕ) (λ t. (t.digits, t.parts)) (λ p. record { digits = p.0; parts = p.1 }) (λ _. refl)
+coded_spelled = code_by (List ℕ × ℕ) (coded× coded_text coded_ℕ) (λ t. (t.digits, t.parts)) (λ p. record { digits = p.0; parts = p.1 })
+    (λ _. refl)
 
 -- the code of a stream
 abbrev pub coded_stream : Coded Stream
 coded_stream =
     code_by (StreamMode × (List ℕ × (List ℕ × (ℕ × (List ℕ × (Option ℕ × (List Spelled × (ℕ × (Bool × Option StreamEnd)))))))))
-    (coded× coded_mode (coded× coded_text (coded× coded_text (coded× coded_ℕ (coded× coded_text (coded× (coded_option coded_ℕ) (coded× (coded_list coded_spelled) (coded× coded_ℕ (coded× coded_bool (coded_option coded_end))))))))))
+    (coded× coded_mode (coded× coded_text (coded× coded_text (coded× coded_ℕ
+    (coded× coded_text (coded× (coded_option coded_ℕ) (coded× (coded_list coded_spelled)
+    (coded× coded_ℕ (coded× coded_bool (coded_option coded_end))))))))))
     (λ m. (m.mode, (m.bucket, (m.key, (m.block, (m.pending, (m.upload, (m.tags, (m.count, (m.closed, m.end))))))))))
-    (λ t. record { mode = t.0; bucket = t.1.0; key = t.1.1.0; block = t.1.1.1.0; pending = t.1.1.1.1.0; upload = t.1.1.1.1.1.0; tags = t.1.1.1.1.1.1.0; count = t.1.1.1.1.1.1.1.0; closed = t.1.1.1.1.1.1.1.1.0; end = t.1.1.1.1.1.1.1.1.1 })
+    (λ t. record {
+      mode = t.0;
+      bucket = t.1.0;
+      key = t.1.1.0;
+      block = t.1.1.1.0;
+      pending = t.1.1.1.1.0;
+      upload = t.1.1.1.1.1.0;
+      tags =
+          t.1.1.1.1.1.1.0;
+      count = t.1.1.1.1.1.1.1.0;
+      closed = t.1.1.1.1.1.1.1.1.0;
+      end = t.1.1.1.1.1.1.1.1.1;
+    })
     (λ _. refl)

@@ -1,15 +1,16 @@
 -- What a stream that is alone has stored and still holds: all bytes that were written, at every moment.
-use Rattle.std.specs.Prelude.{◌≡◌, ◌⊎◌, ℕ, ◌+◌, ◌*◌, ◌≤◌, ◌<◌, Bool, true, false, List, [], ◌∷◌, ◌++◌, length, map, Option, Some, None}
-use Rattle.machine.specs.Prelude.{concat, Scene, BucketContent, Parts, live}
-use Rattle.retries.specs.Prelude.{Upload}
-use Rattle.std.specs.FinMap as fin
+use Rattle.block_stream.specs.Stream.{Stream, chunk, has_part, is_direct, is_settled}
+use Rattle.block_stream.specs.declared.mode.StreamEnd.{StreamEnd}
+use Rattle.block_stream.specs.declared.mode.StreamEnd.TheVariants.{Done, Gone, NoMemory, StoreFault}
+use Rattle.block_stream.specs.declared.mode.StreamMode.{StreamMode}
+use Rattle.block_stream.specs.declared.mode.StreamMode.TheVariants.{Delayed, Direct}
+use Rattle.s3_types.specs.Multipart.{live}
+use Rattle.s3_types.specs.Store.{BucketContent, Parts, Scene, Upload}
 use Rattle.s3_types.specs.Tags.{plain_tag}
 use Rattle.s3_types.specs.declared.limits.TheConstants.{MOST_PARTS}
-use Rattle.block_stream.specs.declared.mode.StreamMode.{StreamMode}
-use Rattle.block_stream.specs.declared.mode.StreamMode.TheVariants.{Direct, Delayed}
-use Rattle.block_stream.specs.declared.mode.StreamEnd.{StreamEnd}
-use Rattle.block_stream.specs.declared.mode.StreamEnd.TheVariants.{Done, Gone, StoreFault, NoMemory}
-use Rattle.block_stream.specs.Stream.{Stream, is_direct, has_part, is_settled, chunk}
+use Rattle.std.specs.List.{concat}
+use Rattle.std.specs.Prelude.{Bool, List, None, Option, Some, false, length, map, true, ℕ, [], ◌*◌, ◌++◌, ◌+◌, ◌<◌, ◌∷◌, ◌≡◌, ◌≤◌, ◌⊎◌}
+use Rattle.std.specs.FinMap as fin
 
 -- parts numbered from n on
 abbrev pub numbered_from : ℕ → Parts → List (List ℕ) → Parts

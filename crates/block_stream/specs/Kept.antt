@@ -1,14 +1,18 @@
 -- How a stream keeps what is pending: blocks that are cut off, and a rest.
-use Rattle.std.specs.Prelude.{◌≡◌, ℕ, ◌<◌, ◌≤◌, ◌&&◌, ◌||◌, Bool, true, false, not, nat_le, cond, List, [], ◌∷◌, ◌++◌, length, Option, Some, None}
-use Rattle.machine.specs.Prelude.{concat, unwrap_or, Spelled, Request}
-use Rattle.block_stream.specs.declared.mode.StreamMode.{StreamMode}
-use Rattle.block_stream.specs.declared.mode.StreamMode.TheVariants.{Delayed}
+use Rattle.block_stream.specs.Holds.{AreLong, HasRoom}
+use Rattle.block_stream.specs.Stream.{Stream, asks_with, begin_or_wait, complete_or_wait, has_some, is_direct, wanted}
 use Rattle.block_stream.specs.declared.mode.StreamEnd.{StreamEnd}
 use Rattle.block_stream.specs.declared.mode.StreamEnd.TheVariants.{Done}
+use Rattle.block_stream.specs.declared.mode.StreamMode.{StreamMode}
+use Rattle.block_stream.specs.declared.mode.StreamMode.TheVariants.{Delayed}
 use Rattle.block_stream.specs.declared.stage.Stage.{Stage}
-use Rattle.block_stream.specs.declared.stage.Stage.TheVariants.{Putting, Sending, Completing, Over}
-use Rattle.block_stream.specs.Stream.{Stream, is_direct, has_some, begin_or_wait, complete_or_wait, asks_with, wanted}
-use Rattle.block_stream.specs.Holds.{AreLong, HasRoom}
+use Rattle.block_stream.specs.declared.stage.Stage.TheVariants.{Completing, Over, Putting, Sending}
+use Rattle.s3_types.specs.Tags.{Spelled}
+use Rattle.s3_types.specs.declared.request.Request.{Request}
+use Rattle.std.specs.List.{concat}
+use Rattle.std.specs.Option.{unwrap_or}
+use Rattle.std.specs.Prelude.{Bool, List, None, Option, Some, cond, false, length, nat_le, not, true, ℕ, [], ◌&&◌, ◌++◌, ◌<◌, ◌||◌, ◌∷◌}
+use Rattle.std.specs.Prelude.{◌≡◌, ◌≤◌}
 
 -- all but the last are n long, and the last is at most, and not empty
 abbrev pub AreCut : ℕ → List (List ℕ) → Type 0
@@ -28,7 +32,18 @@ CutUp (Some e) n closed queue rest = Unit {0}
 
 -- the stream that these fields stand for
 abbrev pub seen : StreamMode → List ℕ → List ℕ → ℕ → List (List ℕ) → List ℕ → Option ℕ → List Spelled → ℕ → Bool → Option StreamEnd → Stream
-seen mode bucket key block queue rest upload tags count closed end = record { mode = mode; bucket = bucket; key = key; block = block; pending = concat queue ++ rest; upload = upload; tags = tags; count = count; closed = closed; end = end }
+seen mode bucket key block queue rest upload tags count closed end = record {
+  mode = mode;
+  bucket = bucket;
+  key = key;
+  block = block;
+  pending = concat queue ++ rest;
+  upload = upload;
+  tags = tags;
+  count = count;
+  closed = closed;
+  end = end;
+}
 
 -- what its fields keep
 pub record IsKept (m : Stream) (queue : List (List ℕ)) (rest : List ℕ) (asked : Option Request) : Type 0 where
@@ -78,9 +93,11 @@ settles Delayed Completing = (Over, Some Done)
 settles _ g = (g, None)
 
 -- what is asked, or the end, with these blocks and tags
-abbrev pub next_at : Stage × Option StreamEnd → List ℕ → List ℕ → List (List ℕ) → List Spelled → Option ℕ → Option Request × Option StreamEnd
+abbrev pub next_at : Stage × Option StreamEnd → List ℕ → List ℕ → List (List ℕ) → List Spelled → Option ℕ → Option Request
+    × Option StreamEnd
 next_at g bucket key queue tags upload = (asks_with g.0 bucket key (unwrap_or upload 0) tags (first_of queue), g.1)
 
 -- what is asked next, or the end
 abbrev pub next_by : StreamMode → List ℕ → List ℕ → ℕ → List (List ℕ) → Bool → List Spelled → Option ℕ → Option Request × Option StreamEnd
-next_by mode bucket key block queue closed tags upload = next_at (settles mode (stage_by mode block queue closed tags upload)) bucket key queue tags upload
+next_by mode bucket key block queue closed tags upload = next_at (settles mode (stage_by mode block queue closed tags upload)) bucket key
+    queue tags upload

@@ -1,10 +1,10 @@
 -- What a stream that ended well leaves in a scene.
-use Rattle.std.specs.Prelude.{◌≡◌, ℕ, List, Some}
-use Rattle.machine.specs.Prelude.{Scene, BucketContent}
-use Rattle.std.specs.FinMap as fin
-use Rattle.block_stream.specs.declared.mode.StreamEnd.TheVariants.{Done}
-use Rattle.block_stream.specs.Stream.{Stream}
 use Rattle.block_stream.specs.Holds.{IsWritten}
+use Rattle.block_stream.specs.Stream.{Stream}
+use Rattle.block_stream.specs.declared.mode.StreamEnd.TheVariants.{Done}
+use Rattle.s3_types.specs.Store.{BucketContent, Scene}
+use Rattle.std.specs.Prelude.{List, Some, ℕ, ◌≡◌}
+use Rattle.std.specs.FinMap as fin
 
 -- it is done, and its output in its bucket is these bytes: the object, or the live upload's parts joined
 pub record IsStored (m : Stream) (s : Scene) (bytes : List ℕ) : Type 0 where

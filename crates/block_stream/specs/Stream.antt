@@ -1,12 +1,24 @@
--- A block output stream, as a state that pieces, replies and the close move on (Hadoop, S3A: fs.s3a.fast.upload, block output; Amazon S3 API: multipart upload).
-use Rattle.std.specs.Prelude.{◌≡◌, ℕ, ◌+◌, ◌&&◌, ◌||◌, Bool, true, false, not, nat_le, nat_lt, cond, List, [], ◌∷◌, ◌++◌, length, take, drop, Option, Some, None}
-use Rattle.machine.specs.Prelude.{unwrap_or, Spelled, Request, PutObject, CreateUpload, UploadPart, CompleteUpload, Reply, Stored, Upload, Part, Completed, Refused, Refusal, NoSuchUpload, Item, Got, WornOut, OutOfMemory, Standing, Fine, Faulted, Broken, named_from}
-use Rattle.block_stream.specs.declared.mode.StreamMode.{StreamMode}
-use Rattle.block_stream.specs.declared.mode.StreamMode.TheVariants.{Direct, Delayed}
+-- A block output stream, as a state that pieces, replies and the close move on (Hadoop, S3A: fs.s3a.fast.upload, block output; Amazon S3
+-- API: multipart upload).
 use Rattle.block_stream.specs.declared.mode.StreamEnd.{StreamEnd}
-use Rattle.block_stream.specs.declared.mode.StreamEnd.TheVariants.{Done, Gone, StoreFault, NoMemory}
+use Rattle.block_stream.specs.declared.mode.StreamEnd.TheVariants.{Done, Gone, NoMemory, StoreFault}
+use Rattle.block_stream.specs.declared.mode.StreamMode.{StreamMode}
+use Rattle.block_stream.specs.declared.mode.StreamMode.TheVariants.{Delayed, Direct}
 use Rattle.block_stream.specs.declared.stage.Stage.{Stage}
-use Rattle.block_stream.specs.declared.stage.Stage.TheVariants.{Waiting, Putting, Beginning, Sending, Completing, Over}
+use Rattle.block_stream.specs.declared.stage.Stage.TheVariants.{Beginning, Completing, Over, Putting, Sending, Waiting}
+use Rattle.machine.specs.Standing.{Broken, Faulted, Fine, Standing}
+use Rattle.retries.specs.Retries.{Got, Item, OutOfMemory, WornOut}
+use Rattle.s3_types.specs.Blocks.{named_from}
+use Rattle.s3_types.specs.Tags.{Spelled}
+use Rattle.s3_types.specs.declared.reply.Refusal.{Refusal}
+use Rattle.s3_types.specs.declared.reply.Refusal.TheVariants.{NoSuchUpload}
+use Rattle.s3_types.specs.declared.reply.Reply.{Reply}
+use Rattle.s3_types.specs.declared.reply.Reply.TheVariants.{Completed, Part, Refused, Stored, Upload}
+use Rattle.s3_types.specs.declared.request.Request.{Request}
+use Rattle.s3_types.specs.declared.request.Request.TheVariants.{CompleteUpload, CreateUpload, PutObject, UploadPart}
+use Rattle.std.specs.Option.{unwrap_or}
+use Rattle.std.specs.Prelude.{Bool, List, None, Option, Some, cond, drop, false, length, nat_le, nat_lt, not, take, true, ℕ, [], ◌&&◌, ◌++◌}
+use Rattle.std.specs.Prelude.{◌+◌, ◌||◌, ◌∷◌, ◌≡◌}
 
 -- a block output stream
 pub record Stream : Type 0 where
@@ -28,7 +40,18 @@ pub record Stream : Type 0 where
 
 -- nothing was written yet
 abbrev pub fresh : StreamMode → List ℕ → List ℕ → ℕ → Stream
-fresh mode bucket key block = record { mode = mode; bucket = bucket; key = key; block = block; pending = []; upload = None; tags = []; count = 0; closed = false; end = None }
+fresh mode bucket key block = record {
+  mode = mode;
+  bucket = bucket;
+  key = key;
+  block = block;
+  pending = [];
+  upload = None;
+  tags = [];
+  count = 0;
+  closed = false;
+  end = None;
+}
 
 -- the stream's output is an object, and no pending upload
 abbrev pub is_direct : StreamMode → Bool
@@ -96,7 +119,18 @@ wanted m = asks (stage m) m
 
 -- the stream, ended so
 abbrev pub ended : Stream → StreamEnd → Stream
-ended m e = record { mode = m.mode; bucket = m.bucket; key = m.key; block = m.block; pending = m.pending; upload = m.upload; tags = m.tags; count = m.count; closed = m.closed; end = Some e }
+ended m e = record {
+  mode = m.mode;
+  bucket = m.bucket;
+  key = m.key;
+  block = m.block;
+  pending = m.pending;
+  upload = m.upload;
+  tags = m.tags;
+  count = m.count;
+  closed = m.closed;
+  end = Some e;
+}
 
 -- a delayed output is not completed: it is done once it is closed and no part is due
 abbrev pub is_settled : Stream → Bool
@@ -108,11 +142,33 @@ settled m = cond (is_settled m) (ended m Done) m
 
 -- the stream with its upload
 abbrev pub begun : Stream → ℕ → Stream
-begun m id = record { mode = m.mode; bucket = m.bucket; key = m.key; block = m.block; pending = m.pending; upload = Some id; tags = m.tags; count = m.count; closed = m.closed; end = m.end }
+begun m id = record {
+  mode = m.mode;
+  bucket = m.bucket;
+  key = m.key;
+  block = m.block;
+  pending = m.pending;
+  upload = Some id;
+  tags = m.tags;
+  count = m.count;
+  closed = m.closed;
+  end = m.end;
+}
 
 -- the next part was answered
 abbrev pub parted : Stream → Spelled → Stream
-parted m tag = record { mode = m.mode; bucket = m.bucket; key = m.key; block = m.block; pending = drop m.block m.pending; upload = m.upload; tags = m.tags ++ tag ∷ []; count = m.count; closed = m.closed; end = m.end }
+parted m tag = record {
+  mode = m.mode;
+  bucket = m.bucket;
+  key = m.key;
+  block = m.block;
+  pending = drop m.block m.pending;
+  upload = m.upload;
+  tags = m.tags ++ tag ∷ [];
+  count = m.count;
+  closed = m.closed;
+  end = m.end;
+}
 
 -- where there is no upload it is gone, unless a completion that was sent before has ended it
 abbrev pub refused : Stream → Bool → Refusal → Stream
@@ -131,7 +187,18 @@ told _ m repeated _ = m
 
 -- after want of memory nothing is held any more
 abbrev pub broken : Stream → Stream
-broken m = record { mode = m.mode; bucket = m.bucket; key = m.key; block = m.block; pending = []; upload = None; tags = []; count = m.count; closed = m.closed; end = Some NoMemory }
+broken m = record {
+  mode = m.mode;
+  bucket = m.bucket;
+  key = m.key;
+  block = m.block;
+  pending = [];
+  upload = None;
+  tags = [];
+  count = m.count;
+  closed = m.closed;
+  end = Some NoMemory;
+}
 
 -- where an item leads
 abbrev pub moved : Stream → Item → Stream
@@ -165,11 +232,34 @@ added (Some e) pending piece = pending
 
 -- the stream once a piece was written
 abbrev pub wrote : Stream → List ℕ → Stream
-wrote m piece = record { mode = m.mode; bucket = m.bucket; key = m.key; block = m.block; pending = added m.end m.pending piece; upload = m.upload; tags = m.tags; count = m.count + length piece; closed = m.closed; end = m.end }
+wrote m piece = record {
+  mode = m.mode;
+  bucket = m.bucket;
+  key = m.key;
+  block = m.block;
+  pending = added m.end m.pending piece;
+  upload =
+      m.upload;
+  tags = m.tags;
+  count = m.count + length piece;
+  closed = m.closed;
+  end = m.end;
+}
 
 -- the close; a fault that came before stays
 abbrev pub shut : Stream → Stream
-shut m = record { mode = m.mode; bucket = m.bucket; key = m.key; block = m.block; pending = m.pending; upload = m.upload; tags = m.tags; count = m.count; closed = true; end = m.end }
+shut m = record {
+  mode = m.mode;
+  bucket = m.bucket;
+  key = m.key;
+  block = m.block;
+  pending = m.pending;
+  upload = m.upload;
+  tags = m.tags;
+  count = m.count;
+  closed = true;
+  end = m.end;
+}
 
 -- the stream once it was closed, by the end that it had
 abbrev pub closed_by : Option StreamEnd → Stream → Stream

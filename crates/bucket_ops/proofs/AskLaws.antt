@@ -1,9 +1,19 @@
 -- What requests on the objects of one bucket do.
-use Rattle.std.specs.Prelude.{◌≡◌, ℕ, Bool, true, false, nat_lt, cond, List, [], ◌∷◌, Option, Some, None, length}
-use Rattle.bucket_ops.proofs.Common.{Ask, BucketContent, Buckets, Copy, Drop, DropAll, Head, Object, Objects, Put, Repeats, Request, Scene, answer, answer_at, ap, apply, apply_at, copied, copy_answer, edited, exact_bytes, inl, inr, insert_same, objects_at, refl, reply_at, reply_in, request_of, same_or_other, sym, text_cmp, text_gone, text_here, text_left, text_other, text_total, with_objects, with_objects_if, without, ◌∙◌, ◌⊎◌}
-use Rattle.s3_types.specs.Prelude.{same_map}
+use Rattle.basics.proofs.Members.{same_or_other, text_gone, text_here, text_left, text_other}
+use Rattle.basics.proofs.Tree.{insert_same}
+use Rattle.basics.specs.Order.{text_cmp, text_total}
+use Rattle.bucket_ops.specs.Asks.{Ask, Copy, Drop, DropAll, Head, Put, edited, objects_at, objects_of, reply_at, reply_in, request_of}
+use Rattle.bucket_ops.specs.Asks.{with_objects, with_objects_if}
+use Rattle.operations.specs.Plans.{Repeats}
+use Rattle.s3_types.specs.Answer.{answer, answer_at, apply, apply_at, copied, copy_answer, without}
+use Rattle.s3_types.specs.Store.{BucketContent, Buckets, Objects, Scene}
+use Rattle.s3_types.specs.declared.object.Object.{Object}
+use Rattle.s3_types.specs.declared.request.Request.{Request}
+use Rattle.std.proofs.Common.{ap, inl, inr, refl, sym, ◌∙◌, ◌⊎◌}
+use Rattle.std.proofs.lemmas.Map.Lookups.{exact_bytes}
+use Rattle.std.specs.FinMap.{same_map}
+use Rattle.std.specs.Prelude.{Bool, List, None, Option, Some, cond, false, length, nat_lt, true, ℕ, [], ◌∷◌, ◌≡◌}
 use Rattle.std.specs.FinMap as fin
-use Rattle.bucket_ops.specs.Asks.{objects_of}
 
 -- ---- finite maps
 
@@ -50,9 +60,14 @@ are_gone m (k ∷ ks) = (gone_still (fin.remove m k) ks k (text_gone m k k refl)
 
 -- ---- what is asked twice
 
-copied_twice : (m : Objects) (k q : List ℕ) (o : Option Object) → fin.get m k ≡ o → (fin.get (copied m q o) k ≡ o) × (copied (copied m q o) q o ≡ copied m q o)
+copied_twice : (m : Objects) (k q : List ℕ) (o : Option Object) → fin.get m k ≡ o → (fin.get (copied m q o) k ≡ o)
+    × (copied (copied m q o) q o ≡ copied m q o)
 copied_twice m k q None h = (h, refl)
-copied_twice m k q (Some v) h = (elim (same_or_other k q) [ inl e ↦ text_here m q k v e | inr n ↦ text_other m q k v n ∙ h ], put_put m q v v)
+copied_twice m k q (Some v) h = (
+  elim (same_or_other k q) [ inl e ↦ text_here m q k v e | inr n ↦ text_other m q k v n ∙ h ],
+  put_put m q v
+      v,
+)
 
 abbrev gone_if : Bool → Objects → List (List ℕ) → Objects
 gone_if b m ks = cond b m (without m ks)
@@ -112,17 +127,20 @@ no_objects (Some c) h = absurd (cc)
 pub applied_none : (s : Scene) (b : List ℕ) (a : Ask) → objects_at s b ≡ None → apply s (request_of b a) ≡ s
 applied_none s b a h = applied s b a ∙ ap (λ o. edited_if o a s b) (no_objects (fin.get s.content.buckets b) h)
 
-pub applied_some : (s : Scene) (b : List ℕ) (a : Ask) (m : Objects) → objects_at s b ≡ Some m → apply s (request_of b a) ≡ with_objects s b (edited a m)
+pub applied_some : (s : Scene) (b : List ℕ) (a : Ask) (m : Objects) → objects_at s b ≡ Some m
+    → apply s (request_of b a) ≡ with_objects s b (edited a m)
 applied_some s b a m h =
     let c = some_objects (fin.get s.content.buckets b) m h in
-    applied s b a ∙ ap (λ o. edited_if o a s b) c.1 ∙ ap (λ n. with_objects_if (Some c.0) s b (edited a n)) c.2 ∙ ap (λ o. with_objects_if o s b (edited a m)) (sym c.1)
+    applied s b a ∙ ap (λ o. edited_if o a s b) c.1 ∙ ap (λ n. with_objects_if (Some c.0) s b (edited a n)) c.2 ∙ ap
+    (λ o. with_objects_if o s b (edited a m)) (sym c.1)
 
 -- the objects that are there
 pub with_same : (s : Scene) (b : List ℕ) (m : Objects) → objects_at s b ≡ Some m → with_objects s b m ≡ s
 with_same s b m h =
     let c = some_objects (fin.get s.content.buckets b) m h in
     ap (λ o. with_objects_if o s b m) c.1 ∙ ap (λ n. with_objects_if (Some c.0) s b n) (sym c.2)
-    ∙ ap (λ (x : Buckets). record { content = record { buckets = x; next = s.content.next; minimum = s.content.minimum }; files = s.files }) (insert_same text_total exact_bytes s.content.buckets b c.0 c.1)
+    ∙ ap (λ (x : Buckets). record { content = record { buckets = x; next = s.content.next; minimum = s.content.minimum }; files = s.files })
+    (insert_same text_total exact_bytes s.content.buckets b c.0 c.1)
 
 pub objects_with : (s : Scene) (b : List ℕ) (m n : Objects) → objects_at s b ≡ Some m → objects_at (with_objects s b n) b ≡ Some n
 objects_with s b m n h =
@@ -130,17 +148,21 @@ objects_with s b m n h =
     ap (λ o. objects_at (with_objects_if o s b n) b) c.1
     ∙ ap objects_of (get_put s.content.buckets b (record { objects = n; uploads = c.0.uploads }))
 
-pub with_with : (s : Scene) (b : List ℕ) (m n l : Objects) → objects_at s b ≡ Some m → with_objects (with_objects s b n) b l ≡ with_objects s b l
+pub with_with : (s : Scene) (b : List ℕ) (m n l : Objects) → objects_at s b ≡ Some m
+    → with_objects (with_objects s b n) b l ≡ with_objects s b l
 with_with s b m n l h =
     let c = some_objects (fin.get s.content.buckets b) m h in
     ap (λ o. with_objects (with_objects_if o s b n) b l) c.1
-    ∙ ap (λ o. with_objects_if o (with_objects_if (Some c.0) s b n) b l) (get_put s.content.buckets b (record { objects = n; uploads = c.0.uploads }))
-    ∙ ap (λ (x : Buckets). record { content = record { buckets = x; next = s.content.next; minimum = s.content.minimum }; files = s.files }) (put_put s.content.buckets b _ _)
+    ∙ ap (λ o. with_objects_if o (with_objects_if (Some c.0) s b n) b l) (get_put s.content.buckets b
+    (record { objects = n; uploads = c.0.uploads }))
+    ∙ ap (λ (x : Buckets). record { content = record { buckets = x; next = s.content.next; minimum = s.content.minimum }; files = s.files })
+    (put_put s.content.buckets b _ _)
     ∙ ap (λ o. with_objects_if o s b l) (sym c.1)
 
 -- ---- it may be asked twice
 
-effect_by : (s : Scene) (b : List ℕ) (a : Ask) (o : Option Objects) → objects_at s b ≡ o → apply (apply s (request_of b a)) (request_of b a) ≡ apply s (request_of b a)
+effect_by : (s : Scene) (b : List ℕ) (a : Ask) (o : Option Objects) → objects_at s b ≡ o
+    → apply (apply s (request_of b a)) (request_of b a) ≡ apply s (request_of b a)
 effect_by s b a None h = ap (λ v. apply v (request_of b a)) (applied_none s b a h)
 effect_by s b a (Some m) h =
     ap (λ v. apply v (request_of b a)) (applied_some s b a m h)
@@ -149,7 +171,8 @@ effect_by s b a (Some m) h =
     ∙ ap (with_objects s b) (edited_twice a m)
     ∙ sym (applied_some s b a m h)
 
-reply_by : (s : Scene) (b : List ℕ) (a : Ask) (o : Option Objects) → objects_at s b ≡ o → answer (apply s (request_of b a)) (request_of b a) ≡ answer s (request_of b a)
+reply_by : (s : Scene) (b : List ℕ) (a : Ask) (o : Option Objects) → objects_at s b ≡ o
+    → answer (apply s (request_of b a)) (request_of b a) ≡ answer s (request_of b a)
 reply_by s b a None h = ap (λ v. answer v (request_of b a)) (applied_none s b a h)
 reply_by s b a (Some m) h =
     ap (λ v. answer v (request_of b a)) (applied_some s b a m h)

@@ -1,8 +1,18 @@
 -- The keys below a prefix, and objects without some keys.
-use Rattle.bucket_ops.proofs.Common.{IsIn, List, None, Object, Objects, Some, [], arith, begins, false, false≢true, inl, inr, keys_below, keys_on, length, listed, refl, same_or_other, subst, sym, take_all, text_gone, text_left, true, without, ℕ, ◌∙◌, ◌∷◌, ◌≡◌, ◌⊎◌}
-use Rattle.std.specs.FinMap as fin
-use Rattle.store_frame.proofs.Flat.{listed_all, page_begins}
+use Rattle.basics.proofs.Members.{same_or_other, text_gone, text_left}
+use Rattle.basics.specs.Members.{IsIn}
 use Rattle.bucket_ops.proofs.AskLaws.{gone_still}
+use Rattle.bucket_ops.specs.Walking.{keys_below}
+use Rattle.list_walk.specs.Walks.{keys_on}
+use Rattle.s3_types.specs.Answer.{without}
+use Rattle.s3_types.specs.Pages.{begins, listed}
+use Rattle.s3_types.specs.Store.{Objects}
+use Rattle.s3_types.specs.declared.object.Object.{Object}
+use Rattle.std.proofs.Common.{List, None, Some, arith, false, inl, inr, length, refl, subst, sym, true, ℕ, [], ◌∙◌, ◌∷◌, ◌≡◌, ◌⊎◌}
+use Rattle.std.proofs.lemmas.Bool.{false≢true}
+use Rattle.std.proofs.lemmas.List.{take_all}
+use Rattle.store_frame.proofs.Flat.{listed_all, page_begins}
+use Rattle.std.specs.FinMap as fin
 
 -- a key is one of these or not
 pub is_in : (k : List ℕ) (ks : List (List ℕ)) → IsIn k ks ⊎ (IsIn k ks → ⊥)
@@ -28,11 +38,14 @@ kept_out m [] k h = refl
 kept_out m (x ∷ ks) k h = kept_out (fin.remove m x) ks k (λ g. h (inr g)) ∙ text_left m x k (λ e. h (inl e))
 
 -- the keys that are below begin so, and stand
-pub below_stands : (q : List ℕ) (z : Objects) (k : List ℕ) → IsIn k (keys_below q z) → (begins q k ≡ true) × ((v : Object) × (fin.get z k ≡ Some v))
+pub below_stands : (q : List ℕ) (z : Objects) (k : List ℕ) → IsIn k (keys_below q z) → (begins q k ≡ true)
+    × ((v : Object) × (fin.get z k ≡ Some v))
 below_stands q z k h =
-    page_begins (length (listed q false [] z)) q [] k z (subst (λ l. IsIn k (keys_on l)) (sym (take_all (length (listed q false [] z)) (listed q false [] z) (omega arith))) h)
+    page_begins (length (listed q false [] z)) q [] k z (subst (λ l. IsIn k (keys_on l))
+    (sym (take_all (length (listed q false [] z)) (listed q false [] z) (omega arith))) h)
 
 -- and those that begin so and stand are below, where the prefix is not empty
-pub stands_below : (x : ℕ) (q : List ℕ) (z : Objects) (k : List ℕ) (v : Object) → begins (x ∷ q) k ≡ true → fin.get z k ≡ Some v → IsIn k (keys_below (x ∷ q) z)
+pub stands_below : (x : ℕ) (q : List ℕ) (z : Objects) (k : List ℕ) (v : Object) → begins (x ∷ q) k ≡ true → fin.get z k ≡ Some v
+    → IsIn k (keys_below (x ∷ q) z)
 stands_below x q z [] v b e = absurd (false≢true b)
 stands_below x q z (y ∷ k) v b e = listed_all (x ∷ q) [] z (y ∷ k) v e b refl

@@ -1,12 +1,14 @@
 -- A walk finds exactly the keys below its prefix.
-use Rattle.bucket_ops.proofs.Common.{IsWalked, List, More, Objects, PageEntry, Walked, Whole, [], ap, arith, keys_below, refl, reply_in}
-use Rattle.bucket_ops.proofs.Common.{suc, walk_asks, walk_left, walked_entries, ℕ, ◌∷◌, ◌≡◌}
-use Rattle.std.specs.Prelude.{zero, ◌≤◌}
-use Rattle.bucket_ops.specs.Prelude.{LessWalked, all_below}
-use Rattle.bucket_ops.specs.Walking.{FindsAll, told_pages}
 use Rattle.bucket_ops.proofs.Below.{below_stands}
 use Rattle.bucket_ops.proofs.Rising.{sorted}
 use Rattle.bucket_ops.proofs.Walks.{walk_begins, walk_falls, walk_goes}
+use Rattle.bucket_ops.specs.Asks.{reply_in}
+use Rattle.bucket_ops.specs.Walking.{FindsAll, IsWalked, LessWalked, all_below, keys_below, told_pages, walk_asks, walk_left}
+use Rattle.list_walk.specs.Walks.{More, Walked, Whole, walked_entries}
+use Rattle.s3_types.specs.Store.{Objects}
+use Rattle.s3_types.specs.declared.reply.PageEntry.{PageEntry}
+use Rattle.std.proofs.Common.{List, ap, arith, refl, suc, ℕ, [], ◌∷◌, ◌≡◌}
+use Rattle.std.specs.Prelude.{zero, ◌≤◌}
 use Rattle.store_frame.proofs.Flat.{listed_all, listed_rises}
 
 module _ (q : List ℕ) (z : Objects) where

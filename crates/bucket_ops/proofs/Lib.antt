@@ -7,4 +7,3 @@ pub mod Finding
 pub mod Batches
 pub mod Sweeps
 pub mod UploadLaws
-mod Common

@@ -1,8 +1,11 @@
 -- Texts that rise.
-use Rattle.std.specs.Prelude.{◌≡◌, ℕ, true, List, [], ◌∷◌}
-use Rattle.bucket_ops.specs.Prelude.{AllByRecursion, Less, text_cmp, text_total, RisesFrom}
+use Rattle.basics.proofs.Less.{less_of, lt, lt_trans}
+use Rattle.basics.specs.Members.{RisesFrom}
+use Rattle.basics.specs.Order.{text_cmp, text_total}
+use Rattle.std.specs.List.{AllByRecursion}
 use Rattle.std.specs.List.Sorted.{IsStrictlySortedBy}
-use Rattle.basics.proofs.Less.{lt, lt_trans, less_of}
+use Rattle.std.specs.Prelude.{List, true, ℕ, [], ◌∷◌, ◌≡◌}
+use Rattle.std.specs.declared.cmp.Ordering.TheVariants.{Less}
 
 -- what rises from a text rises from a lower one
 pub lower : (l k : List ℕ) (ks : List (List ℕ)) → lt text_cmp l k ≡ true → RisesFrom k ks → RisesFrom l ks

@@ -1,8 +1,25 @@
 -- A sweep lists all keys and deletes them, and ends.
-use Rattle.bucket_ops.proofs.Common.{Bool, Deleted, Deleting, DropAll, FitsSweep, IsDeleted, IsSweeping, IsSwept, IsWalked, IsWalking, LessLeft, LessWalked, List, Listing, More, Objects, PageEntry, Refused, Reply, Sweep, TooManyKeys, Walked, Whole, [], all_go, ap, arith, cond, deleting, drop, edited, false, false≢true, filter, filter_all, fits, keys_below, keys_on, last_of, length, length-drop, listed, map, nat_lt, on_keys, refl, reply_in, subst, suc, sweep_asks, sweep_hears, sweep_left, sweep_start, swept, sym, take, true, walk_asks, walked_entries, walked_keys, ℕ, ◌*◌, ◌+◌, ◌<◌, ◌∙◌, ◌∷◌, ◌≡◌}
-use Rattle.bucket_ops.proofs.Walks.{fits_decides, page_fits, walk_goes, walk_falls}
-use Rattle.bucket_ops.proofs.Batches.{within, deleting_all, batch_goes}
+use Rattle.basics.proofs.Tree.{filter_all}
+use Rattle.bucket_ops.proofs.Batches.{batch_goes, deleting_all, within}
+use Rattle.bucket_ops.proofs.Walks.{fits_decides, page_fits, walk_falls, walk_goes}
+use Rattle.bucket_ops.specs.Asks.{DropAll, edited, reply_in}
+use Rattle.bucket_ops.specs.Sweeping.{IsDeleted, IsSweeping, IsSwept, LessLeft, sweep_asks, sweep_left}
+use Rattle.bucket_ops.specs.Walking.{IsWalked, IsWalking, LessWalked, fits, keys_below, walk_asks}
+use Rattle.list_walk.proofs.Keys.{on_keys, walked_keys}
+use Rattle.list_walk.specs.Fitting.{FitsSweep}
+use Rattle.list_walk.specs.Walks.{Deleting, Listing, More, Sweep, Walked, Whole, all_go, deleting, keys_on, last_of, sweep_hears}
+use Rattle.list_walk.specs.Walks.{sweep_start, swept, walked_entries}
+use Rattle.s3_types.specs.Pages.{listed}
+use Rattle.s3_types.specs.Store.{Objects}
+use Rattle.s3_types.specs.declared.reply.PageEntry.{PageEntry}
 use Rattle.s3_types.specs.declared.reply.PageEntry.TheVariants.{Object as Single}
+use Rattle.s3_types.specs.declared.reply.Refusal.TheVariants.{TooManyKeys}
+use Rattle.s3_types.specs.declared.reply.Reply.{Reply}
+use Rattle.s3_types.specs.declared.reply.Reply.TheVariants.{Deleted, Refused}
+use Rattle.std.proofs.Common.{Bool, List, ap, arith, cond, drop, false, length, length-drop, map, nat_lt, refl, subst, suc, sym, take, true}
+use Rattle.std.proofs.Common.{ℕ, [], ◌*◌, ◌+◌, ◌<◌, ◌∙◌, ◌∷◌, ◌≡◌}
+use Rattle.std.proofs.lemmas.Bool.{false≢true}
+use Rattle.std.specs.List.{filter}
 
 pub sweep_fits : (q : List ℕ) (w : Sweep) (m : Objects) → fits (reply_in m (sweep_asks q w)) ≡ true
 sweep_fits q (Listing keys) m = page_fits 1000 q (last_of keys) m
@@ -27,19 +44,24 @@ module _ (q : List ℕ) (z : Objects) where
 
   swept_walk : (w : Walked PageEntry) → IsWalked q z w → IsSwept q z (swept all_go (on_keys w)) z
   swept_walk (More found) h = (refl, (found, refl, h))
-  swept_walk (Whole found) h = swept_batch (filter all_go (keys_on found)) z (deleting_all z (keys_below q z) (filter all_go (keys_on found)) (filter_all (keys_on found) ∙ ap keys_on h))
+  swept_walk (Whole found) h = swept_batch (filter all_go (keys_on found)) z (deleting_all z (keys_below q z)
+      (filter all_go (keys_on found)) (filter_all (keys_on found) ∙ ap keys_on h))
 
-  listing_goes : (found : List PageEntry) → IsWalking q z found → IsSwept q z (sweep_hears all_go (Listing (keys_on found)) (reply_in z (walk_asks q found))) z
+  listing_goes : (found : List PageEntry) → IsWalking q z found
+      → IsSwept q z (sweep_hears all_go (Listing (keys_on found)) (reply_in z (walk_asks q found))) z
   listing_goes found h =
       subst (λ w. IsSwept q z (swept all_go w) z) (sym (walked_keys found (reply_in z (walk_asks q found))))
       (swept_walk (walked_entries found (reply_in z (walk_asks q found))) (walk_goes q z found h))
 
   -- the honest reply keeps it
-  pub sweep_goes : (w : Sweep) (m : Objects) → IsSweeping q z w m → IsSwept q z (sweep_hears all_go w (reply_in m (sweep_asks q w))) (edited (sweep_asks q w) m)
+  pub sweep_goes : (w : Sweep) (m : Objects) → IsSweeping q z w m
+      → IsSwept q z (sweep_hears all_go w (reply_in m (sweep_asks q w))) (edited (sweep_asks q w) m)
   sweep_goes (Listing keys) m h =
       subst (λ m. IsSwept q z (sweep_hears all_go (Listing keys) (reply_in m (sweep_asks q (Listing keys)))) m) (sym h.0)
-      (subst (λ ks. IsSwept q z (sweep_hears all_go (Listing ks) (reply_in z (sweep_asks q (Listing ks)))) z) (sym h.1.1) (listing_goes h.1.0 h.1.2))
-  sweep_goes (Deleting k ks) m h = swept_batch (drop 1000 (k ∷ ks)) (edited (DropAll (take 1000 (k ∷ ks))) m) (batch_goes z (keys_below q z) (k ∷ ks) m h)
+      (subst (λ ks. IsSwept q z (sweep_hears all_go (Listing ks) (reply_in z (sweep_asks q (Listing ks)))) z) (sym h.1.1)
+      (listing_goes h.1.0 h.1.2))
+  sweep_goes (Deleting k ks) m h = swept_batch (drop 1000 (k ∷ ks)) (edited (DropAll (take 1000 (k ∷ ks))) m)
+      (batch_goes z (keys_below q z) (k ∷ ks) m h)
 
 -- ---- what is left
 
@@ -61,18 +83,26 @@ less_deleting q m (k ∷ ks) n h = h
 
 less_swept : (q : List ℕ) (m : Objects) (w : Walked PageEntry) (n : ℕ) → LessWalked q m w n → LessLeft q m (swept all_go (on_keys w)) n
 less_swept q m (More found) n h = let e = length_keys found in omega (arith, e, h)
-less_swept q m (Whole found) n h = less_deleting q m (filter all_go (keys_on found)) n (let a = ap length (filter_all (keys_on found)) in let b = length_keys found in omega (arith, a, b, h))
+less_swept q m (Whole found) n h = less_deleting q m (filter all_go (keys_on found)) n
+    (let a = ap length (filter_all (keys_on found)) in let b = length_keys found in omega (arith, a, b, h))
 
-less_listing : (q : List ℕ) (found : List PageEntry) (m : Objects) → LessLeft q m (sweep_hears all_go (Listing (keys_on found)) (reply_in m (walk_asks q found))) (sweep_left q (Listing (keys_on found)) m)
+less_listing : (q : List ℕ) (found : List PageEntry) (m : Objects)
+    → LessLeft q m (sweep_hears all_go (Listing (keys_on found)) (reply_in m (walk_asks q found)))
+    (sweep_left q (Listing (keys_on found)) m)
 less_listing q found m =
-    subst (λ w. LessLeft q m (swept all_go w) (sweep_left q (Listing (keys_on found)) m)) (sym (walked_keys found (reply_in m (walk_asks q found))))
+    subst (λ w. LessLeft q m (swept all_go w) (sweep_left q (Listing (keys_on found)) m))
+    (sym (walked_keys found (reply_in m (walk_asks q found))))
     (less_swept q m (walked_entries found (reply_in m (walk_asks q found))) (sweep_left q (Listing (keys_on found)) m)
-    (subst (λ n. LessWalked q m (walked_entries found (reply_in m (walk_asks q found))) (1 + n + 2 * length (listed q false (last_of (keys_on found)) m))) (sym (length_keys found)) (walk_falls q found m)))
+    (subst (λ n. LessWalked q m (walked_entries found (reply_in m (walk_asks q found)))
+    (1 + n + 2 * length (listed q false (last_of (keys_on found)) m))) (sym (length_keys found)) (walk_falls q found m)))
 
-pub sweep_falls : (q : List ℕ) (w : Sweep) (m : Objects) → LessLeft q (edited (sweep_asks q w) m) (sweep_hears all_go w (reply_in m (sweep_asks q w))) (sweep_left q w m)
+pub sweep_falls : (q : List ℕ) (w : Sweep) (m : Objects)
+    → LessLeft q (edited (sweep_asks q w) m) (sweep_hears all_go w (reply_in m (sweep_asks q w))) (sweep_left q w m)
 sweep_falls q (Listing keys) m =
-    subst (λ ks. LessLeft q m (sweep_hears all_go (Listing ks) (reply_in m (sweep_asks q (Listing ks)))) (sweep_left q (Listing ks) m)) (keys_back keys) (less_listing q (map single keys) m)
-sweep_falls q (Deleting k ks) m = less_deleting q (edited (DropAll (take 1000 (k ∷ ks))) m) (drop 1000 (k ∷ ks)) (length (k ∷ ks)) (let a = length-drop 1000 (k ∷ ks) in omega (arith, a))
+    subst (λ ks. LessLeft q m (sweep_hears all_go (Listing ks) (reply_in m (sweep_asks q (Listing ks)))) (sweep_left q (Listing ks) m))
+    (keys_back keys) (less_listing q (map single keys) m)
+sweep_falls q (Deleting k ks) m = less_deleting q (edited (DropAll (take 1000 (k ∷ ks))) m) (drop 1000 (k ∷ ks)) (length (k ∷ ks))
+    (let a = length-drop 1000 (k ∷ ks) in omega (arith, a))
 
 pub sweep_stays : (q : List ℕ) (w : Sweep) (m : Objects) → sweep_left q w (edited (sweep_asks q w) m) ≡ sweep_left q w m
 sweep_stays q (Listing keys) m = refl

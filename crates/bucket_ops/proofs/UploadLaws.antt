@@ -1,12 +1,21 @@
 -- The walk over live uploads is an operation whose requests may all be made again.
-use Rattle.std.specs.Prelude.{◌≡◌, nat_lt, Bool, true, false, List, [], ◌++◌, take, drop, length, Option, Some, None, option_map}
-use Rattle.bucket_ops.proofs.Common.{BucketContent, Falls, Goes, IsPlan, MaySend, Repeats, Scene, UploadRef, answer, answer_at, ap, append_assoc, apply, arith, below_is, below_not, last_ref, length-drop, reached, refl, sends_of, subst, sym, take-append-drop, take_all, uploads_from, walked_by, ◌∙◌}
-use Rattle.std.specs.FinMap as fin
-use Rattle.s3_types.specs.Multipart.{listed}
-use Rattle.store_frame.proofs.Reading.{reads_nothing}
-use Rattle.list_walk.proofs.Uploads.{behind_uploads, refs_append}
+use Rattle.basics.proofs.Naturals.{below_is, below_not}
+use Rattle.bucket_ops.specs.Uploads.{Begins, Gives, IsListing, IsSame, Pages, asks, goes, led, left, size, uploads_from}
 use Rattle.bucket_ops.specs.declared.uploads.UploadsBelow.{UploadsBelow}
-use Rattle.bucket_ops.specs.Uploads.{asks, led, goes, Begins, IsListing, Gives, IsSame, Pages, size, left}
+use Rattle.list_walk.proofs.Uploads.{behind_uploads, refs_append}
+use Rattle.list_walk.specs.Walks.{last_ref, walked_by}
+use Rattle.operations.proofs.PlanLaws.{sends_of}
+use Rattle.operations.specs.Courses.{MaySend, reached}
+use Rattle.operations.specs.Plans.{Falls, Goes, IsPlan, Repeats}
+use Rattle.s3_types.specs.Answer.{answer, answer_at, apply}
+use Rattle.s3_types.specs.Multipart.{listed}
+use Rattle.s3_types.specs.Store.{BucketContent, Scene}
+use Rattle.s3_types.specs.declared.request.UploadRef.{UploadRef}
+use Rattle.std.proofs.Common.{ap, append_assoc, arith, length-drop, refl, subst, sym, ◌∙◌}
+use Rattle.std.proofs.lemmas.List.{take-append-drop, take_all}
+use Rattle.std.specs.Prelude.{Bool, List, None, Option, Some, drop, false, length, nat_lt, option_map, take, true, [], ◌++◌, ◌≡◌}
+use Rattle.store_frame.proofs.Reading.{reads_nothing}
+use Rattle.std.specs.FinMap as fin
 
 still : (w : UploadsBelow) (s : Scene) → apply s (asks w) ≡ s
 still w s = reads_nothing s (asks w) refl
@@ -32,13 +41,15 @@ module _ (o : UploadsBelow) (z : Scene) (w : UploadsBelow) where
   Rest c = listed w.prefix (last_ref None w.walk) c.uploads
 
   -- what is left behind a page
-  behind : (c : BucketContent) → fin.get z.content.buckets w.bucket ≡ Some c → uploads_from z w.bucket w.prefix (last_ref None (w.walk ++ take 1000 (Rest c))) ≡ Some (drop 1000 (Rest c))
+  behind : (c : BucketContent) → fin.get z.content.buckets w.bucket ≡ Some c
+      → uploads_from z w.bucket w.prefix (last_ref None (w.walk ++ take 1000 (Rest c))) ≡ Some (drop 1000 (Rest c))
   behind c e =
       ap (option_map (λ (d : BucketContent). listed w.prefix (last_ref None (w.walk ++ take 1000 (Rest c))) d.uploads)) e
       ∙ ap (λ m. Some (listed w.prefix m c.uploads)) (refs_append None w.walk (take 1000 (Rest c)))
       ∙ ap Some (behind_uploads w.prefix c.uploads 1000 (last_ref None w.walk) (Rest c) refl)
 
-  page_goes : (c : BucketContent) → fin.get z.content.buckets w.bucket ≡ Some c → IsListing o z w z → (b : Bool) → nat_lt 1000 (length (Rest c)) ≡ b
+  page_goes : (c : BucketContent) → fin.get z.content.buckets w.bucket ≡ Some c → IsListing o z w z → (b : Bool)
+      → nat_lt 1000 (length (Rest c)) ≡ b
       → Goes (IsListing o z) (Gives o z) (led w (walked_by b (w.walk ++ take 1000 (Rest c)))) z
   page_goes c e h true t = record {
     same = refl;
@@ -47,16 +58,23 @@ module _ (o : UploadsBelow) (z : Scene) (w : UploadsBelow) where
     whole =
         ap (option_map (λ x. (w.walk ++ take 1000 (Rest c)) ++ x)) (behind c e)
         ∙ ap Some (append_assoc w.walk (take 1000 (Rest c)) (drop 1000 (Rest c)) ∙ ap (λ x. w.walk ++ x) (take-append-drop 1000 (Rest c)))
-        ∙ ap (λ v. option_map (λ l. w.walk ++ l) (option_map (λ (c : BucketContent). listed w.prefix (last_ref None w.walk) c.uploads) v)) (sym e) ∙ h.whole;
+        ∙ ap (λ v. option_map (λ l. w.walk ++ l) (option_map (λ (c : BucketContent). listed w.prefix (last_ref None w.walk) c.uploads) v))
+        (sym e) ∙ h.whole;
   }
   page_goes c e h false t = (
     refl,
     ap (λ x. Some (w.walk ++ x)) (take_all 1000 (Rest c) (below_not 1000 (length (Rest c)) t))
-        ∙ ap (λ v. option_map (λ l. w.walk ++ l) (option_map (λ (c : BucketContent). listed w.prefix (last_ref None w.walk) c.uploads) v)) (sym e) ∙ h.whole,
+        ∙ ap (λ v. option_map (λ l. w.walk ++ l) (option_map (λ (c : BucketContent). listed w.prefix (last_ref None w.walk) c.uploads) v))
+        (sym e) ∙ h.whole,
   )
 
-  told_goes : (v : Option BucketContent) → fin.get z.content.buckets w.bucket ≡ v → IsListing o z w z → Goes (IsListing o z) (Gives o z) (goes w (answer_at v z.content.next z.content.minimum (asks w))) z
-  told_goes None e h = (refl, ap (λ v. option_map (λ l. w.walk ++ l) (option_map (λ (c : BucketContent). listed w.prefix (last_ref None w.walk) c.uploads) v)) (sym e) ∙ h.whole)
+  told_goes : (v : Option BucketContent) → fin.get z.content.buckets w.bucket ≡ v → IsListing o z w z
+      → Goes (IsListing o z) (Gives o z) (goes w (answer_at v z.content.next z.content.minimum (asks w))) z
+  told_goes None e h = (
+    refl,
+    ap (λ v. option_map (λ l. w.walk ++ l) (option_map
+        (λ (c : BucketContent). listed w.prefix (last_ref None w.walk) c.uploads) v)) (sym e) ∙ h.whole,
+  )
   told_goes (Some c) e h = page_goes c e h (nat_lt 1000 (length (Rest c))) refl
 
   goes_on : (s : Scene) → IsListing o z w s → Goes (IsListing o z) (Gives o z) (goes w (answer s (asks w))) (apply s (asks w))
@@ -71,12 +89,14 @@ module _ (o : UploadsBelow) (z : Scene) (w : UploadsBelow) where
   page_falls c e false t = tt
 
   told_falls : (v : Option BucketContent) → fin.get z.content.buckets w.bucket ≡ v
-      → Falls left (goes w (answer_at v z.content.next z.content.minimum (asks w))) z (size (option_map (λ (c : BucketContent). listed w.prefix (last_ref None w.walk) c.uploads) v))
+      → Falls left (goes w (answer_at v z.content.next z.content.minimum (asks w))) z
+      (size (option_map (λ (c : BucketContent). listed w.prefix (last_ref None w.walk) c.uploads) v))
   told_falls None e = tt
   told_falls (Some c) e = page_falls c e (nat_lt 1000 (length (Rest c))) refl
 
 falls : (w : UploadsBelow) (s : Scene) → Falls left (goes w (answer s (asks w))) (apply s (asks w)) (left w s)
-falls w s = subst (λ v. Falls left (goes w (answer s (asks w))) v (left w s)) (sym (still w s)) (told_falls w s w (fin.get s.content.buckets w.bucket) refl)
+falls w s = subst (λ v. Falls left (goes w (answer s (asks w))) v (left w s)) (sym (still w s))
+    (told_falls w s w (fin.get s.content.buckets w.bucket) refl)
 
 pub uploads_plan : IsPlan {P = UploadsBelow} Begins asks goes IsListing Gives IsSame left
 uploads_plan = record {
@@ -90,7 +110,11 @@ uploads_plan = record {
 }
 
 page_sent : (o : UploadsBelow) (z : Scene) (w : UploadsBelow) (s : Scene) → IsListing o z w s → Pages o z (asks w)
-page_sent o z w s h = (w.walk, ap (λ b. asks (record { bucket = b; prefix = w.prefix; walk = w.walk })) h.bucket ∙ ap (λ p. asks (record { bucket = o.bucket; prefix = p; walk = w.walk })) h.prefix)
+page_sent o z w s h = (
+  w.walk,
+  ap (λ b. asks (record { bucket = b; prefix = w.prefix; walk = w.walk })) h.bucket ∙ ap
+      (λ p. asks (record { bucket = o.bucket; prefix = p; walk = w.walk })) h.prefix,
+)
 
 pub uploads_asked : MaySend {P = UploadsBelow} asks (reached asks IsListing) Pages
 uploads_asked = sends_of asks IsListing Pages page_sent

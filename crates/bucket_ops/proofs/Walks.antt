@@ -1,9 +1,22 @@
 -- A walk goes on by pages, and ends.
-use Rattle.bucket_ops.proofs.Common.{Bool, Decides, FitsPage, IsWalked, IsWalking, LessWalked, List, NoSuchBucket, Objects, PageEntry, Refused, Reply, [], ap, append_assoc, arith, below_is, below_not, drop, false, fits, keys_joined, keys_on, last_of, length, length-append, length-drop, length-take, listed, nat_lt, page, page_keys, refl, reply_in, sym, take, take-append-drop, take_all, true, true≢false, walk_asks, walk_left, walked_by, walked_entries, ℕ, ◌*◌, ◌++◌, ◌+◌, ◌∙◌, ◌≡◌}
-use Rattle.machine.specs.Prelude.{Page}
+use Rattle.basics.proofs.Naturals.{below_is, below_not}
+use Rattle.bucket_ops.specs.Asks.{reply_in}
+use Rattle.bucket_ops.specs.Walking.{IsWalked, IsWalking, LessWalked, fits, is_there, walk_asks, walk_left}
 use Rattle.list_walk.proofs.Fitted.{keys_decide}
-use Rattle.list_walk.proofs.Listing.{last_append, behind_page}
-use Rattle.bucket_ops.specs.Walking.{is_there}
+use Rattle.list_walk.proofs.Keys.{keys_joined, page_keys}
+use Rattle.list_walk.proofs.Listing.{behind_page, last_append}
+use Rattle.list_walk.specs.Fitting.{FitsPage}
+use Rattle.list_walk.specs.Walks.{keys_on, last_of, walked_by, walked_entries}
+use Rattle.s3_types.specs.Pages.{listed, page}
+use Rattle.s3_types.specs.Store.{Objects}
+use Rattle.s3_types.specs.declared.reply.PageEntry.{PageEntry}
+use Rattle.s3_types.specs.declared.reply.Refusal.TheVariants.{NoSuchBucket}
+use Rattle.s3_types.specs.declared.reply.Reply.{Reply}
+use Rattle.s3_types.specs.declared.reply.Reply.TheVariants.{Page, Refused}
+use Rattle.std.proofs.Common.{Bool, Decides, List, ap, append_assoc, arith, drop, false, length, length-append, length-drop, nat_lt, refl}
+use Rattle.std.proofs.Common.{sym, take, true, ℕ, [], ◌*◌, ◌++◌, ◌+◌, ◌∙◌, ◌≡◌}
+use Rattle.std.proofs.lemmas.Bool.{true≢false}
+use Rattle.std.proofs.lemmas.List.{length-take, take-append-drop, take_all}
 
 -- ---- replies that a walk may be told
 
@@ -32,7 +45,8 @@ walk_fits q found m = page_fits 1000 q (last_of (keys_on found)) m
 -- ---- pages
 
 -- what is left behind a page
-behind : (q : List ℕ) (m : Objects) (found : List PageEntry) (l : List PageEntry) → listed q false (last_of (keys_on found)) m ≡ l → listed q false (last_of (keys_on (found ++ take 1000 l))) m ≡ drop 1000 l
+behind : (q : List ℕ) (m : Objects) (found : List PageEntry) (l : List PageEntry) → listed q false (last_of (keys_on found)) m ≡ l
+    → listed q false (last_of (keys_on (found ++ take 1000 l))) m ≡ drop 1000 l
 behind q m found l e =
     ap (λ ks. listed q false (last_of ks) m) (keys_joined found (take 1000 l))
     ∙ ap (λ a. listed q false a m) (last_append (keys_on found) (keys_on (take 1000 l)))
@@ -42,7 +56,8 @@ module _ (q : List ℕ) (z : Objects) where
   pub walk_begins : IsWalking q z []
   walk_begins = refl
 
-  paged : (found l : List PageEntry) → listed q false (last_of (keys_on found)) z ≡ l → IsWalking q z found → (c : Bool) → nat_lt 1000 (length l) ≡ c → IsWalked q z (walked_by c (found ++ take 1000 l))
+  paged : (found l : List PageEntry) → listed q false (last_of (keys_on found)) z ≡ l → IsWalking q z found → (c : Bool)
+      → nat_lt 1000 (length l) ≡ c → IsWalked q z (walked_by c (found ++ take 1000 l))
   paged found l e h true t =
       ap (λ x. (found ++ take 1000 l) ++ x) (behind q z found l e)
       ∙ append_assoc found (take 1000 l) (drop 1000 l)
@@ -51,15 +66,27 @@ module _ (q : List ℕ) (z : Objects) where
 
   -- a page keeps a walk
   pub walk_goes : (found : List PageEntry) → IsWalking q z found → IsWalked q z (walked_entries found (reply_in z (walk_asks q found)))
-  walk_goes found h = paged found (listed q false (last_of (keys_on found)) z) refl h (nat_lt 1000 (length (listed q false (last_of (keys_on found)) z))) refl
+  walk_goes found h = paged found (listed q false (last_of (keys_on found)) z) refl h
+      (nat_lt 1000 (length (listed q false (last_of (keys_on found)) z))) refl
 
 -- ---- what is left
 
-less_paged : (q : List ℕ) (m : Objects) (found l : List PageEntry) → listed q false (last_of (keys_on found)) m ≡ l → (c : Bool) → nat_lt 1000 (length l) ≡ c
+less_paged : (q : List ℕ) (m : Objects) (found l : List PageEntry) → listed q false (last_of (keys_on found)) m ≡ l → (c : Bool)
+    → nat_lt 1000 (length l) ≡ c
     → LessWalked q m (walked_by c (found ++ take 1000 l)) (1 + length found + 2 * length l)
 less_paged q m found l e true t =
-    omega (arith, length-append found (take 1000 l), length-take 1000 l, ap length (behind q m found l e), length-drop 1000 l, below_is 1000 (length l) t)
+    omega (
+      arith,
+      length-append found (take 1000 l),
+      length-take 1000 l,
+      ap length (behind q m found l e),
+      length-drop 1000 l,
+      below_is 1000
+          (length l) t,
+    )
 less_paged q m found l e false t = omega (arith, length-append found (take 1000 l), length-take 1000 l)
 
-pub walk_falls : (q : List ℕ) (found : List PageEntry) (m : Objects) → LessWalked q m (walked_entries found (reply_in m (walk_asks q found))) (walk_left q found m)
-walk_falls q found m = less_paged q m found (listed q false (last_of (keys_on found)) m) refl (nat_lt 1000 (length (listed q false (last_of (keys_on found)) m))) refl
+pub walk_falls : (q : List ℕ) (found : List PageEntry) (m : Objects)
+    → LessWalked q m (walked_entries found (reply_in m (walk_asks q found))) (walk_left q found m)
+walk_falls q found m = less_paged q m found (listed q false (last_of (keys_on found)) m) refl
+    (nat_lt 1000 (length (listed q false (last_of (keys_on found)) m))) refl

@@ -1,9 +1,16 @@
 -- Requests on the objects of one bucket, and what they do there.
-use Rattle.std.specs.Prelude.{ℕ, Bool, true, false, nat_lt, cond, List, Option, Some, None, length}
-use Rattle.machine.specs.Prelude.{Objects, BucketContent, Scene, page, listed, head, copy_answer, copied, without, Request, HeadObject, GetObject, ListPage, PutObject, DeleteObject, DeleteObjects, CopyObject, Reply, Stored, Deleted, Refused, NoSuchBucket, TooManyKeys}
-use Rattle.std.specs.FinMap as fin
+use Rattle.s3_types.specs.Answer.{copied, copy_answer, found, head, without}
+use Rattle.s3_types.specs.Pages.{listed, page}
+use Rattle.s3_types.specs.Store.{BucketContent, Objects, Scene}
 use Rattle.s3_types.specs.Tags.{plain_tag}
-use Rattle.s3_types.specs.Answer.{found}
+use Rattle.s3_types.specs.declared.reply.Refusal.TheVariants.{NoSuchBucket, TooManyKeys}
+use Rattle.s3_types.specs.declared.reply.Reply.{Reply}
+use Rattle.s3_types.specs.declared.reply.Reply.TheVariants.{Deleted, Refused, Stored}
+use Rattle.s3_types.specs.declared.request.Request.{Request}
+use Rattle.s3_types.specs.declared.request.Request.TheVariants.{CopyObject, DeleteObject, DeleteObjects, GetObject, HeadObject, ListPage}
+use Rattle.s3_types.specs.declared.request.Request.TheVariants.{PutObject}
+use Rattle.std.specs.Prelude.{Bool, List, None, Option, Some, cond, false, length, nat_lt, true, ℕ}
+use Rattle.std.specs.FinMap as fin
 
 -- what is asked of a bucket
 pub data Ask : Type 0 where
@@ -71,7 +78,15 @@ objects_at s b = objects_of (fin.get s.content.buckets b)
 -- the scene with these objects in a bucket that is there
 abbrev pub with_objects_if : Option BucketContent → Scene → List ℕ → Objects → Scene
 with_objects_if None s b m = s
-with_objects_if (Some c) s b m = record { content = record { buckets = fin.insert s.content.buckets b (record { objects = m; uploads = c.uploads }); next = s.content.next; minimum = s.content.minimum }; files = s.files }
+with_objects_if (Some c) s b m = record {
+  content = record {
+    buckets = fin.insert s.content.buckets b
+        (record { objects = m; uploads = c.uploads });
+    next = s.content.next;
+    minimum = s.content.minimum;
+  };
+  files = s.files;
+}
 
 -- the scene with these objects in a bucket, where that is there
 abbrev pub with_objects : Scene → List ℕ → Objects → Scene

@@ -1,7 +1,6 @@
 pub mod Asks
 pub mod Phases
 pub mod Looks
-pub mod Prelude
 pub mod Walking
 pub mod Sweeping
 pub mod Uploads

@@ -1,9 +1,11 @@
 -- What replies to looks say.
-use Rattle.std.specs.Prelude.{◌==◌, length, if◌then◌else◌}
-use Rattle.machine.specs.Prelude.{Reply, Head, Page, Refused, Refusal, NoSuchBucket, NoSuchKey}
 use Rattle.bucket_ops.specs.declared.look.Look.{Look}
-use Rattle.bucket_ops.specs.declared.look.Look.TheVariants.{There, Nothing, NoBucket, Other}
-use Rattle.s3_types.specs.declared.reply.Reply.TheVariants.{Object as Found}
+use Rattle.bucket_ops.specs.declared.look.Look.TheVariants.{NoBucket, Nothing, Other, There}
+use Rattle.s3_types.specs.declared.reply.Refusal.{Refusal}
+use Rattle.s3_types.specs.declared.reply.Refusal.TheVariants.{NoSuchBucket, NoSuchKey}
+use Rattle.s3_types.specs.declared.reply.Reply.{Reply}
+use Rattle.s3_types.specs.declared.reply.Reply.TheVariants.{Head, Object as Found, Page, Refused}
+use Rattle.std.specs.Prelude.{if◌then◌else◌, length, ◌==◌}
 
 -- what a refused look says
 abbrev pub refused_look : Refusal → Look

@@ -1,17 +1,25 @@
 -- Operations on the objects of one bucket.
-use Rattle.std.specs.Prelude.{◌≡◌, ℕ, List, Option, Some, None}
-use Rattle.machine.specs.Prelude.{Objects, Scene, Reply, Refused, NoSuchBucket, Request}
-use Rattle.operations.specs.declared.plan.Step.{Step}
-use Rattle.operations.specs.declared.plan.Step.TheVariants.{Next, End}
+use Rattle.bucket_ops.specs.Asks.{Ask, edited, objects_at, reply_in, request_of, with_objects}
 use Rattle.bucket_ops.specs.declared.bucket.InBucket.{InBucket}
-use Rattle.bucket_ops.specs.Asks.{Ask, request_of, reply_in, edited, objects_at, with_objects}
-use Rattle.operations.specs.Plans.{Goes, Falls}
+use Rattle.operations.specs.Plans.{Falls, Goes}
+use Rattle.operations.specs.declared.plan.Step.{Step}
+use Rattle.operations.specs.declared.plan.Step.TheVariants.{End, Next}
+use Rattle.s3_types.specs.Store.{Objects, Scene}
+use Rattle.s3_types.specs.declared.reply.Refusal.TheVariants.{NoSuchBucket}
+use Rattle.s3_types.specs.declared.reply.Reply.{Reply}
+use Rattle.s3_types.specs.declared.reply.Reply.TheVariants.{Refused}
+use Rattle.s3_types.specs.declared.request.Request.{Request}
+use Rattle.std.specs.Prelude.{List, None, Option, Some, ℕ, ◌≡◌}
 
 -- what an operation O of stages X owes that ends with A
-pub record IsPhases {O X A : Type 0} (first : O → X) (asks : O → X → Ask) (goes : O → X → Reply → Step X A) (holds : O → Objects → X → Objects → Type 0) (gives : O → Objects → A → Objects → Type 0) (always : O → Objects → Objects → Type 0) (left : O → X → Objects → ℕ) (absent : A) : Type 0 where
+pub record IsPhases {O X A : Type 0} (first : O → X) (asks : O → X → Ask) (goes : O → X → Reply → Step X A)
+    (holds : O → Objects → X → Objects → Type 0) (gives : O → Objects → A → Objects → Type 0) (always : O → Objects → Objects → Type 0)
+    (left : O → X → Objects → ℕ) (absent : A) : Type 0 where
   pub begin : (o : O) (z : Objects) → holds o z (first o) z
-  pub goes_on : (o : O) (z : Objects) (x : X) (m : Objects) → holds o z x m → Goes (holds o z) (gives o z) (goes o x (reply_in m (asks o x))) (edited (asks o x) m)
-  pub falls : (o : O) (z : Objects) (x : X) (m : Objects) → holds o z x m → Falls (left o) (goes o x (reply_in m (asks o x))) (edited (asks o x) m) (left o x m)
+  pub goes_on : (o : O) (z : Objects) (x : X) (m : Objects) → holds o z x m
+      → Goes (holds o z) (gives o z) (goes o x (reply_in m (asks o x))) (edited (asks o x) m)
+  pub falls : (o : O) (z : Objects) (x : X) (m : Objects) → holds o z x m
+      → Falls (left o) (goes o x (reply_in m (asks o x))) (edited (asks o x) m) (left o x m)
   pub stays : (o : O) (z : Objects) (x : X) (m : Objects) → holds o z x m → left o x (edited (asks o x) m) ≡ left o x m
   pub during : (o : O) (z : Objects) (x : X) (m : Objects) → holds o z x m → always o z m
   pub at_end : (o : O) (z : Objects) (a : A) (m : Objects) → gives o z a m → always o z m
@@ -43,9 +51,11 @@ module _ {O X : Type 0} where
   led goes p r = stepped p.bucket p.names (goes p.names p.stage r)
 
   abbrev pub Holds : (O → X) → (O → Objects → X → Objects → Type 0) → InBucket O X → Scene → InBucket O X → Scene → Type 0
-  Holds first holds o z p s = (p.bucket ≡ o.bucket) × (p.names ≡ o.names) × InBucketHolds z o.bucket (λ m n. holds o.names m p.stage n) (p.stage ≡ first o.names) s
+  Holds first holds o z p s = (p.bucket ≡ o.bucket) × (p.names ≡ o.names)
+      × InBucketHolds z o.bucket (λ m n. holds o.names m p.stage n) (p.stage ≡ first o.names) s
 
--- in a bucket that is there an operation gives what it gives of the bucket's objects, and nothing else changes; where there is none, nothing changes
+-- in a bucket that is there an operation gives what it gives of the bucket's objects, and nothing else changes; where there is none,
+-- nothing changes
 abbrev pub GivesIn : {A : Type 0} → List ℕ → (Objects → A → Objects → Type 0) → A → Scene → A → Scene → Type 0
 GivesIn b gives absent z a s = InBucketHolds z b (λ m n. gives m a n) (a ≡ absent) s
 

@@ -1,9 +1,12 @@
 -- A sweep of all keys below a prefix: what is left of the objects while it lists and deletes in batches (Amazon S3 API: DeleteObjects).
-use Rattle.std.specs.Prelude.{List, None, Option, Some, false, length, take, ℕ, ◌*◌, ◌++◌, ◌+◌, ◌<◌, ◌∷◌, ◌≡◌}
-use Rattle.store_frame.specs.Prelude.{Objects, PageEntry, listed, without}
 use Rattle.bucket_ops.specs.Asks.{Ask, DropAll, Page}
-use Rattle.list_walk.specs.Walks.{Deleting, Listing, Sweep, keys_on, last_of}
 use Rattle.bucket_ops.specs.Walking.{IsWalking, keys_below}
+use Rattle.list_walk.specs.Walks.{Deleting, Listing, Sweep, keys_on, last_of}
+use Rattle.s3_types.specs.Answer.{without}
+use Rattle.s3_types.specs.Pages.{listed}
+use Rattle.s3_types.specs.Store.{Objects}
+use Rattle.s3_types.specs.declared.reply.PageEntry.{PageEntry}
+use Rattle.std.specs.Prelude.{List, None, Option, Some, false, length, take, ℕ, ◌*◌, ◌++◌, ◌+◌, ◌<◌, ◌∷◌, ◌≡◌}
 
 -- what a sweep asks of the bucket
 abbrev pub sweep_asks : List ℕ → Sweep → Ask

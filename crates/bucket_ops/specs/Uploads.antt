@@ -1,11 +1,17 @@
 -- A walk over the live uploads of a bucket below a prefix, as an operation (Amazon S3 API: ListMultipartUploads).
-use Rattle.std.specs.Prelude.{List, None, Option, Some, [], length, option_map, ℕ, ◌++◌, ◌≡◌}
-use Rattle.store_frame.specs.Prelude.{NoSuchBucket, Refusal, Refused, Reply, Request, Scene, UploadRef}
+use Rattle.bucket_ops.specs.declared.uploads.UploadsBelow.{UploadsBelow}
+use Rattle.list_walk.specs.Walks.{More, Walked, Whole, last_ref, uploads_after, walked_uploads}
 use Rattle.operations.specs.declared.plan.Step.{Step}
 use Rattle.operations.specs.declared.plan.Step.TheVariants.{End, Next}
 use Rattle.s3_types.specs.Multipart.{listed}
-use Rattle.list_walk.specs.Walks.{More, Walked, Whole, last_ref, uploads_after, walked_uploads}
-use Rattle.bucket_ops.specs.declared.uploads.UploadsBelow.{UploadsBelow}
+use Rattle.s3_types.specs.Store.{Scene}
+use Rattle.s3_types.specs.declared.reply.Refusal.{Refusal}
+use Rattle.s3_types.specs.declared.reply.Refusal.TheVariants.{NoSuchBucket}
+use Rattle.s3_types.specs.declared.reply.Reply.{Reply}
+use Rattle.s3_types.specs.declared.reply.Reply.TheVariants.{Refused}
+use Rattle.s3_types.specs.declared.request.Request.{Request}
+use Rattle.s3_types.specs.declared.request.UploadRef.{UploadRef}
+use Rattle.std.specs.Prelude.{List, None, Option, Some, length, option_map, ℕ, [], ◌++◌, ◌≡◌}
 use Rattle.std.specs.FinMap as fin
 
 -- the live uploads whose keys begin with a prefix and that come behind one of them, in order, where there is the bucket
@@ -48,7 +54,8 @@ pub record IsListing (o : UploadsBelow) (z : Scene) (w : UploadsBelow) (s : Scen
   pub same : s ≡ z
   pub bucket : w.bucket ≡ o.bucket
   pub prefix : w.prefix ≡ o.prefix
-  pub whole : option_map (λ l. w.walk ++ l) (uploads_from z w.bucket w.prefix (last_ref None w.walk)) ≡ uploads_from z o.bucket o.prefix None
+  pub whole : option_map (λ l. w.walk ++ l) (uploads_from z w.bucket w.prefix (last_ref None w.walk)) ≡ uploads_from z o.bucket o.prefix
+      None
 
 -- the scene stays, and what is given is all, where there is the bucket
 abbrev pub Gives : UploadsBelow → Scene → Option (List UploadRef) → Scene → Type 0

@@ -1,13 +1,21 @@
 -- A walk over all keys below a prefix, as a part of an operation on a bucket's objects (Amazon S3 API: ListObjectsV2).
-use Rattle.std.specs.Prelude.{Bool, List, Some, [], false, length, suc, true, zero, ℕ, ◌*◌, ◌++◌, ◌+◌, ◌<◌, ◌∷◌, ◌≡◌, ◌≤◌}
-use Rattle.std.specs.FinMap as fin
-use Rattle.std.specs.List.Sorted.{IsStrictlySortedBy}
-use Rattle.store_frame.specs.Prelude.{IsIn, NoSuchBucket, Object, Objects, PageEntry, Refusal, Refused, Reply, begins, list_all, listed}
-use Rattle.store_frame.specs.Prelude.{text_cmp}
+use Rattle.basics.specs.Members.{IsIn}
+use Rattle.basics.specs.Order.{text_cmp}
 use Rattle.bucket_ops.specs.Asks.{Ask, Page, reply_in}
-use Rattle.list_walk.specs.Walks.{More, Walked, Whole, keys_on, last_of, walked_entries}
 use Rattle.list_walk.specs.Fitting.{is_key}
-use Rattle.s3_types.specs.declared.reply.Reply.TheVariants.{Page as APage}
+use Rattle.list_walk.specs.Walks.{More, Walked, Whole, keys_on, last_of, walked_entries}
+use Rattle.s3_types.specs.Pages.{begins, listed}
+use Rattle.s3_types.specs.Store.{Objects}
+use Rattle.s3_types.specs.declared.object.Object.{Object}
+use Rattle.s3_types.specs.declared.reply.PageEntry.{PageEntry}
+use Rattle.s3_types.specs.declared.reply.Refusal.{Refusal}
+use Rattle.s3_types.specs.declared.reply.Refusal.TheVariants.{NoSuchBucket}
+use Rattle.s3_types.specs.declared.reply.Reply.{Reply}
+use Rattle.s3_types.specs.declared.reply.Reply.TheVariants.{Page as APage, Refused}
+use Rattle.std.specs.List.{list_all}
+use Rattle.std.specs.List.Sorted.{IsStrictlySortedBy}
+use Rattle.std.specs.Prelude.{Bool, List, Some, false, length, suc, true, zero, ℕ, [], ◌*◌, ◌++◌, ◌+◌, ◌<◌, ◌∷◌, ◌≡◌, ◌≤◌}
+use Rattle.std.specs.FinMap as fin
 
 -- the entries of all keys below a prefix, and the keys
 abbrev pub all_below : List ℕ → Objects → List PageEntry

@@ -3,4 +3,3 @@ pub mod Places
 pub mod Pages
 pub mod SparingPlaces
 pub mod SparingFalls
-mod Common

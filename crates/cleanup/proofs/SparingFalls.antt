@@ -1,24 +1,46 @@
 -- What a sparing clean has left falls.
-use Rattle.cleanup.proofs.Common.{AbortUpload, BucketContent, ClusterDelete, Committer, DeleteObjects, Err, GetObject, IfSome, Job, List, More, None, Ok, Option, Request, Scene, Script, Some, SparingsEnd, UploadRef, Walked, Whole, [], adds_key, answer, answer_at, ap, apply, arith, begins, drop, files_left, filter, growth, is_record, job_script, keys_left, last_of, length, length-append, length-drop, not, one_most, page_after, refl, subst, sym, take, walk_laws, walked, ℕ, ◌++◌, ◌+◌, ◌-◌, ◌<◌, ◌∷◌, ◌≡◌, ◌≤◌}
-use Rattle.std.specs.FinMap as fin
-use Rattle.std.proofs.lemmas.List.Filters.{length-filter_both}
-use Rattle.pending_json.specs.Reading as reading
-use Rattle.s3_types.specs.Answer.{found}
-use Rattle.magic_paths.specs.Layout as layout
-use Rattle.job_protocol.specs.Sparing.{Sparing, Walking, Naming, Reading, Aborting, Deleting, Removing, SparingOver, record_request, record_names, names, sparing_asks, sparing_hears, deleting, removing, aborting, reading_on, walking}
-use Rattle.cleanup.specs.SparingFits.{most_commits, NamesFew, FitsSparing}
-use Rattle.cleanup.specs.SparingLeft.{named_most, reading_left, listing_left, walking_left, sparing_left_at}
 use Rattle.cleanup.proofs.Falling.{of_some}
 use Rattle.cleanup.proofs.Pages.{Moved, page_moves}
+use Rattle.cleanup.specs.Laws.{SparingsEnd}
+use Rattle.cleanup.specs.SparingFits.{FitsSparing, NamesFew, most_commits}
+use Rattle.cleanup.specs.SparingLeft.{listing_left, named_most, reading_left, sparing_left_at, walking_left}
+use Rattle.job_model.specs.JobScript.{Script}
+use Rattle.job_model.specs.Jobs.{Job}
+use Rattle.job_protocol.specs.AtWork.{job_script}
+use Rattle.job_protocol.specs.Sparing.{Aborting, Deleting, Naming, Reading, Removing, Sparing, SparingOver, Walking, aborting, deleting}
+use Rattle.job_protocol.specs.Sparing.{names, reading_on, record_names, record_request, removing, sparing_asks, sparing_hears, walking}
+use Rattle.list_walk.proofs.Counting.{one_most}
+use Rattle.list_walk.proofs.Falling.{walk_laws}
+use Rattle.list_walk.proofs.Growing.{growth}
+use Rattle.list_walk.specs.Left.{adds_key, files_left, keys_left}
+use Rattle.list_walk.specs.Walks.{More, Walked, Whole, last_of, page_after, walked}
+use Rattle.magic_paths.specs.Places.{is_record}
+use Rattle.s3_types.specs.Answer.{answer, answer_at, apply, found}
+use Rattle.s3_types.specs.Pages.{begins}
+use Rattle.s3_types.specs.Store.{BucketContent, Scene}
+use Rattle.s3_types.specs.declared.request.Committer.{Committer}
+use Rattle.s3_types.specs.declared.request.Request.{Request}
+use Rattle.s3_types.specs.declared.request.Request.TheVariants.{AbortUpload, ClusterDelete, DeleteObjects, GetObject}
+use Rattle.s3_types.specs.declared.request.UploadRef.{UploadRef}
+use Rattle.std.proofs.Common.{Err, List, None, Ok, Option, Some, ap, arith, drop, length, length-append, length-drop, not, refl, subst, sym}
+use Rattle.std.proofs.Common.{take, ℕ, [], ◌++◌, ◌+◌, ◌-◌, ◌<◌, ◌∷◌, ◌≡◌, ◌≤◌}
+use Rattle.std.proofs.lemmas.List.Filters.{length-filter_both}
+use Rattle.std.specs.List.{filter}
+use Rattle.std.specs.Prelude.{IfSome}
+use Rattle.std.specs.FinMap as fin
+use Rattle.pending_json.specs.Reading as reading
+use Rattle.magic_paths.specs.Layout as layout
 
 -- ---- the numbers alone
 
 -- by the committer
 record Numbers (c : Committer) : Type 0 where
   -- one more place is read, which named no more than it may
-  read_less : (places named new all : ℕ) → new ≤ named_most c → reading_left c places (named + new) all < reading_left c (1 + places) named all
+  read_less : (places named new all : ℕ) → new ≤ named_most c
+      → reading_left c places (named + new) all < reading_left c (1 + places) named all
   -- a page is walked
-  walk_less : (known more known' more' : ℕ) → known' + more' ≤ known + more → more' < more → walking_left c known' more' < walking_left c known more
+  walk_less : (known more known' more' : ℕ) → known' + more' ≤ known + more → more' < more
+      → walking_left c known' more' < walking_left c known more
   -- all was listed, and no more places are read
   list_less : (places all most : ℕ) → places ≤ all → all ≤ most → reading_left c places 0 all < listing_left c most
   list_walked : (known more n : ℕ) → n < listing_left c (known + more) → n < walking_left c known more
@@ -41,10 +63,12 @@ deleting_left j ks s = grind arith
 removing_left : (j : Job) (ps : List (List ℕ)) (s : Scene) → sparing_left_at j (removing ps) s ≡ length ps
 removing_left j ps s = grind arith
 
-aborting_left : (j : Job) (us : List UploadRef) (all : List (List ℕ)) (s : Scene) → sparing_left_at j (aborting j.committer us all) s ≡ length us + length all
+aborting_left : (j : Job) (us : List UploadRef) (all : List (List ℕ)) (s : Scene)
+    → sparing_left_at j (aborting j.committer us all) s ≡ length us + length all
 aborting_left j us all s = grind arith
 
-reading_on_left : (j : Job) (named : List UploadRef) (ps all : List (List ℕ)) (s : Scene) → sparing_left_at j (reading_on j.committer named ps all) s ≤ reading_left j.committer (length ps) (length named) (length all)
+reading_on_left : (j : Job) (named : List UploadRef) (ps all : List (List ℕ)) (s : Scene)
+    → sparing_left_at j (reading_on j.committer named ps all) s ≤ reading_left j.committer (length ps) (length named) (length all)
 reading_on_left j named ps all s = grind arith
 
 -- ---- what an answer names
@@ -56,27 +80,32 @@ object_few (Some c) next minimum b k = elim (fin.get c.objects k) as (λ o. leng
   | None ↦ omega arith
 ]
 
-named_few : (c : Committer) (w : Script) (p : List ℕ) (s : Scene) → NamesFew (answer s (record_request c w p)) → length (names (answer s (record_request c w p))) ≤ named_most c
+named_few : (c : Committer) (w : Script) (p : List ℕ) (s : Scene) → NamesFew (answer s (record_request c w p))
+    → length (names (answer s (record_request c w p))) ≤ named_most c
 named_few c w p s h = grind arith
 
 -- ---- it falls
 
-listed_left : (j : Job) (ps all : List (List ℕ)) (most : ℕ) (s : Scene) → length ps ≤ length all → length all ≤ most → sparing_left_at j (reading_on j.committer [] ps all) s < listing_left j.committer most
+listed_left : (j : Job) (ps all : List (List ℕ)) (most : ℕ) (s : Scene) → length ps ≤ length all → length all ≤ most
+    → sparing_left_at j (reading_on j.committer [] ps all) s < listing_left j.committer most
 listed_left j ps all most s h g = grind arith
 
 abbrev to_come : Job → List (List ℕ) → Scene → ℕ
 to_come j keys s = keys_left j.dest.bucket (layout.magic_prefix j.dest.key j.job) (last_of keys) s
 
-walked_left : (j : Job) (keys : List (List ℕ)) (s : Scene) (x : Walked (List ℕ)) → Moved j.dest.bucket (layout.magic_prefix j.dest.key j.job) s (length keys + to_come j keys s) (to_come j keys s) x
+walked_left : (j : Job) (keys : List (List ℕ)) (s : Scene) (x : Walked (List ℕ))
+    → Moved j.dest.bucket (layout.magic_prefix j.dest.key j.job) s (length keys + to_come j keys s) (to_come j keys s) x
     → sparing_left_at j (walking j.committer x) s < sparing_left_at j (Walking keys) s
 walked_left j keys s (More ks) h = (numbers j.committer).walk_less (length keys) (to_come j keys s) (length ks) (to_come j ks s) h.0 h.1
 walked_left j keys s (Whole ks) h =
     let few = length-filter_both is_record (λ k. not (is_record k)) (λ k. refl) ks in
-    (numbers j.committer).list_walked (length keys) (to_come j keys s) (sparing_left_at j (reading_on j.committer [] (filter is_record ks) ks) s)
+    (numbers j.committer).list_walked (length keys) (to_come j keys s) (sparing_left_at j
+    (reading_on j.committer [] (filter is_record ks) ks) s)
     (listed_left j (filter is_record ks) ks (length keys + to_come j keys s) s (omega (arith, few)) h)
 
 abbrev Falls : Job → Sparing → Scene → Request → Type 0
-Falls j x s r = FitsSparing x (answer s r) → sparing_left_at j (sparing_hears (job_script j) x (answer s r)) (apply s r) < sparing_left_at j x s
+Falls j x s r = FitsSparing x (answer s r) → sparing_left_at j (sparing_hears (job_script j) x (answer s r)) (apply s r) < sparing_left_at j
+    x s
 
 falls_at : (j : Job) (x : Sparing) (s : Scene) → IfSome (sparing_asks (job_script j) x) (Falls j x s)
 falls_at j (Walking keys) s = λ h.
@@ -92,9 +121,11 @@ falls_at j (Reading named p ps all) s = λ h.
     let new = names (answer s q) in
     let r = reading_on_left j (named ++ new) ps all (apply s q) in
     let e = ap (λ n. reading_left j.committer (length ps) n (length all)) (length-append named new) in
-    let n = (numbers j.committer).read_less (length ps) (length named) (length new) (length all) (named_few j.committer (job_script j) p s h) in
+    let n = (numbers j.committer).read_less (length ps) (length named) (length new) (length all)
+    (named_few j.committer (job_script j) p s h) in
     omega (arith, r, e, n)
-falls_at j (Aborting u us all) s = λ h. let e = aborting_left j us all (apply s (AbortUpload j.dest.bucket u.key u.upload)) in omega (arith, e)
+falls_at j (Aborting u us all) s = λ h. let e = aborting_left j us all (apply s (AbortUpload j.dest.bucket u.key u.upload)) in omega
+    (arith, e)
 falls_at j (Deleting k ks) s = λ h.
     let e = deleting_left j (drop 1000 (k ∷ ks)) (apply s (DeleteObjects j.dest.bucket (take 1000 (k ∷ ks)))) in
     let d : length (drop 1000 (k ∷ ks)) ≡ length (k ∷ ks) - 1000 = length-drop 1000 (k ∷ ks) in
@@ -107,8 +138,10 @@ falls_at j (SparingOver end) s = tt
 some_left : (j : Job) (x : Sparing) (s : Scene) → IfSome (sparing_asks (job_script j) x) (λ r. 0 < sparing_left_at j x s)
 some_left j x s = grind arith
 
-no_rise_at : (j : Job) (x : Sparing) (s : Scene) → IfSome (sparing_asks (job_script j) x) (λ r. sparing_left_at j x (apply s r) ≤ sparing_left_at j x s)
-no_rise_at j (Walking keys) s = let i = ap (sparing_left_at j (Walking keys)) (walk_laws.still j.dest.bucket (layout.magic_prefix j.dest.key j.job) keys s) in omega (arith, i)
+no_rise_at : (j : Job) (x : Sparing) (s : Scene) → IfSome (sparing_asks (job_script j) x)
+    (λ r. sparing_left_at j x (apply s r) ≤ sparing_left_at j x s)
+no_rise_at j (Walking keys) s = let i = ap (sparing_left_at j (Walking keys))
+    (walk_laws.still j.dest.bucket (layout.magic_prefix j.dest.key j.job) keys s) in omega (arith, i)
 no_rise_at j (SparingOver end) s = tt
 no_rise_at j _ s = omega arith
 
@@ -119,7 +152,8 @@ others_at j (Walking keys) s r =
     (numbers j.committer).key_more (length keys) (to_come j keys s) (to_come j keys (apply s r)) (omega (arith, g, o))
 others_at j Naming s r =
     let g = growth.files (layout.cluster_prefix j.job) s r in
-    let l = (numbers j.committer).one_more (files_left (layout.cluster_prefix j.job) s) (files_left (layout.cluster_prefix j.job) (apply s r)) g in
+    let l = (numbers j.committer).one_more (files_left (layout.cluster_prefix j.job) s)
+    (files_left (layout.cluster_prefix j.job) (apply s r)) g in
     omega (arith, l)
 others_at j (Reading named p ps all) s r = omega arith
 others_at j _ s r = omega arith
@@ -128,6 +162,7 @@ pub sparings_end : SparingsEnd
 sparings_end = record {
   falls = λ m s r b e h. of_some (Falls m.plan m.operation s) _ r e (falls_at m.plan m.operation s) h;
   falls_worn = λ m s r e. of_some (λ r. 0 < sparing_left_at m.plan m.operation s) _ r e (some_left m.plan m.operation s);
-  no_rise = λ m s r e. of_some (λ r. sparing_left_at m.plan m.operation (apply s r) ≤ sparing_left_at m.plan m.operation s) _ r e (no_rise_at m.plan m.operation s);
+  no_rise = λ m s r e. of_some (λ r. sparing_left_at m.plan m.operation (apply s r) ≤ sparing_left_at m.plan m.operation s) _ r e
+      (no_rise_at m.plan m.operation s);
   others = λ m s r. others_at m.plan m.operation s r;
 }

@@ -1,30 +1,47 @@
 -- Places among what a sparing clean listed.
-use Rattle.cleanup.proofs.Common.{Bool, CleanEnd, Committer, List, Magic, None, Option, Reply, Script, Some, UploadRef, abort_asks, aborting_from, all_of, ap, arith, behind, delete_asks, drop, get_asks, get_file_asks, keys_on, length, length-drop, lists_keys, places_of, read_asks, reading_from, refl, remove_asks, sparing_at, sparing_of, sym, true, within, within_of, ℕ, ◌++◌, ◌<◌, ◌∙◌, ◌≡◌}
-use Rattle.job_protocol.specs.Sparing.{Sparing, sparing_asks, sparing_hears, sparing_over, names, deleting, removing, aborting, reading_on}
-use Rattle.cleanup.proofs.Places.{some_so, some_at, drop_behind}
+use Rattle.cleanup.proofs.Places.{drop_behind, some_at, some_so}
+use Rattle.cleanup.specs.Places.{abort_asks, behind, delete_asks, get_asks, get_file_asks, remove_asks}
+use Rattle.cleanup.specs.SparingHeld.{aborting_from, all_of, lists_keys, places_of, read_asks, reading_from, sparing_at, sparing_of, within}
+use Rattle.cleanup.specs.SparingHeld.{within_of}
 use Rattle.cleanup.specs.declared.sparing_held.Held.{Held}
 use Rattle.cleanup.specs.declared.sparing_held.Stage.{Stage}
+use Rattle.job_model.specs.JobScript.{Script}
+use Rattle.job_model.specs.declared.ends.CleanEnd.{CleanEnd}
+use Rattle.job_protocol.specs.Sparing.{Sparing, aborting, deleting, names, reading_on, removing, sparing_asks, sparing_hears, sparing_over}
+use Rattle.list_walk.specs.Walks.{keys_on}
+use Rattle.s3_types.specs.declared.reply.Reply.{Reply}
+use Rattle.s3_types.specs.declared.request.Committer.{Committer}
+use Rattle.s3_types.specs.declared.request.Committer.TheVariants.{Magic}
+use Rattle.s3_types.specs.declared.request.UploadRef.{UploadRef}
+use Rattle.std.proofs.Common.{Bool, List, None, Option, Some, ap, arith, drop, length, length-drop, refl, sym, true, ℕ, ◌++◌, ◌<◌, ◌∙◌, ◌≡◌}
 use Rattle.cleanup.specs.declared.sparing_held.Stage.TheVariants as stages
 
 -- ---- a place that is there
 
-pub reads_at : (c : Committer) (named : List UploadRef) (places all : List (List ℕ)) (at : ℕ) → at < length places → reading_from named (drop at places) all ≡ reading_on c named (drop at places) all
+pub reads_at : (c : Committer) (named : List UploadRef) (places all : List (List ℕ)) (at : ℕ) → at < length places
+    → reading_from named (drop at places) all ≡ reading_on c named (drop at places) all
 reads_at c named places all at h =
-    some_so (λ ps. reading_from named ps all ≡ reading_on c named ps all) (λ p ps. refl) (drop at places) (omega (arith, h, length-drop at places))
+    some_so (λ ps. reading_from named ps all ≡ reading_on c named ps all) (λ p ps. refl) (drop at places)
+    (omega (arith, h, length-drop at places))
 
-pub aborts_at : (c : Committer) (named : List UploadRef) (all : List (List ℕ)) (at : ℕ) → at < length named → aborting_from (drop at named) all ≡ aborting c (drop at named) all
-aborts_at c named all at h = some_so (λ us. aborting_from us all ≡ aborting c us all) (λ u us. refl) (drop at named) (omega (arith, h, length-drop at named))
+pub aborts_at : (c : Committer) (named : List UploadRef) (all : List (List ℕ)) (at : ℕ) → at < length named
+    → aborting_from (drop at named) all ≡ aborting c (drop at named) all
+aborts_at c named all at h = some_so (λ us. aborting_from us all ≡ aborting c us all) (λ u us. refl) (drop at named)
+    (omega (arith, h, length-drop at named))
 
 -- the place so many steps on, as it is counted
-pub next_behind : {X : Type 0} (at step n len : ℕ) (xs : List X) → n ≡ behind at step len → len ≡ length xs → drop n xs ≡ drop step (drop at xs)
+pub next_behind : {X : Type 0} (at step n len : ℕ) (xs : List X) → n ≡ behind at step len → len ≡ length xs
+    → drop n xs ≡ drop step (drop at xs)
 next_behind at step n len xs e l = ap (λ m. drop m xs) (e ∙ ap (behind at step) l) ∙ drop_behind at step xs
 
 -- ---- what is asked
 
-pub reads_key : (w : Script) (c : Committer) (h : Held) → c ≡ Magic → get_asks w.dest.bucket (drop h.at h.records) ≡ read_asks c w (drop h.at (places_of c h))
+pub reads_key : (w : Script) (c : Committer) (h : Held) → c ≡ Magic
+    → get_asks w.dest.bucket (drop h.at h.records) ≡ read_asks c w (drop h.at (places_of c h))
 reads_key w c h g = grind arith
 
-pub reads_file : (w : Script) (c : Committer) (h : Held) → (c ≡ Magic → ⊥) → get_file_asks (drop h.at h.paths) ≡ read_asks c w (drop h.at (places_of c h))
+pub reads_file : (w : Script) (c : Committer) (h : Held) → (c ≡ Magic → ⊥)
+    → get_file_asks (drop h.at h.paths) ≡ read_asks c w (drop h.at (places_of c h))
 reads_file w c h g = grind arith
 
 -- ---- by the stage
@@ -45,7 +62,8 @@ module _ (c : Committer) (h : Held) where
   there s = within s (lists_keys c) h.at (length (places_of c h)) (length h.named) (length h.keys) (length h.paths)
 
   over_by : (s : Stage) → there s ≡ true → sparing_over (kept s) ≡ end_at s
-  over_by stages.Reading t = some_at (λ ps. sparing_over (reading_from h.named ps (all_of c h)) ≡ None) (λ p ps. refl) h.at (places_of c h) t
+  over_by stages.Reading t = some_at (λ ps. sparing_over (reading_from h.named ps (all_of c h)) ≡ None) (λ p ps. refl) h.at (places_of c h)
+      t
   over_by stages.Aborting t = some_at (λ us. sparing_over (aborting_from us (all_of c h)) ≡ None) (λ u us. refl) h.at h.named t
   over_by stages.Deleting t = some_at (λ ks. sparing_over (deleting ks) ≡ None) (λ k ks. refl) h.at h.keys t
   over_by stages.Removing t = some_at (λ ps. sparing_over (removing ps) ≡ None) (λ p ps. refl) h.at h.paths t
@@ -65,13 +83,18 @@ module _ (c : Committer) (h : Held) where
     asks_at_removing h = grind arith
 
     module _ (r : Reply) where
-      pub hears_at_reading : h.stage ≡ stages.Reading → within_of c h ≡ true → reading_on w.committer (h.named ++ names r) (drop 1 (drop h.at (places_of c h))) (all_of c h) ≡ sparing_hears w (sparing_of c h) r
+      pub hears_at_reading : h.stage ≡ stages.Reading → within_of c h ≡ true
+          → reading_on w.committer (h.named ++ names r) (drop 1 (drop h.at (places_of c h))) (all_of c h) ≡ sparing_hears w (sparing_of c h)
+          r
       hears_at_reading e t =
-          some_at (λ ps. reading_on w.committer (h.named ++ names r) (drop 1 ps) (all_of c h) ≡ sparing_hears w (reading_from h.named ps (all_of c h)) r) (λ p ps. refl) h.at
+          some_at (λ ps. reading_on w.committer (h.named ++ names r) (drop 1 ps) (all_of c h) ≡ sparing_hears w
+          (reading_from h.named ps (all_of c h)) r) (λ p ps. refl) h.at
           (places_of c h) (ap there (sym e) ∙ t)
           ∙ ap (λ s. sparing_hears w (kept s) r) (sym e)
 
-      pub hears_at_aborting : h.stage ≡ stages.Aborting → within_of c h ≡ true → aborting w.committer (drop 1 (drop h.at h.named)) (all_of c h) ≡ sparing_hears w (sparing_of c h) r
+      pub hears_at_aborting : h.stage ≡ stages.Aborting → within_of c h ≡ true
+          → aborting w.committer (drop 1 (drop h.at h.named)) (all_of c h) ≡ sparing_hears w (sparing_of c h) r
       hears_at_aborting e t =
-          some_at (λ us. aborting w.committer (drop 1 us) (all_of c h) ≡ sparing_hears w (aborting_from us (all_of c h)) r) (λ u us. refl) h.at h.named (ap there (sym e) ∙ t)
+          some_at (λ us. aborting w.committer (drop 1 us) (all_of c h) ≡ sparing_hears w (aborting_from us (all_of c h)) r) (λ u us. refl)
+          h.at h.named (ap there (sym e) ∙ t)
           ∙ ap (λ s. sparing_hears w (kept s) r) (sym e)

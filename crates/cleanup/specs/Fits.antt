@@ -1,9 +1,12 @@
 -- The replies that fit a clean, and how it stands.
+use Rattle.job_model.specs.declared.ends.CleanEnd.{CleanEnd}
+use Rattle.job_model.specs.declared.ends.CleanEnd.TheVariants.{Done, NoMemory, StoreFault}
+use Rattle.job_protocol.specs.AtWork.{Driving}
+use Rattle.job_protocol.specs.Cleanups.{Clean, CleanOver, Sweeping, Walking}
+use Rattle.list_walk.specs.Fitting.{FitsSweep, FitsUploads}
+use Rattle.machine.specs.Standing.{Broken, Faulted, Fine, Standing}
+use Rattle.s3_types.specs.declared.reply.Reply.{Reply}
 use Rattle.std.specs.Prelude.{Bool}
-use Rattle.job_protocol.specs.Prelude.{Reply, CleanEnd, Driving, Clean, Walking, CleanOver, FitsUploads, FitsSweep}
-use Rattle.machine.specs.Prelude.{Standing, Fine, Faulted, Broken}
-use Rattle.job_model.specs.declared.ends.CleanEnd.TheVariants.{Done, StoreFault, NoMemory}
-use Rattle.job_protocol.specs.Cleanups.{Sweeping}
 
 -- the bucket is there, and a page that is not folded has keys alone
 abbrev pub FitsClean : Clean → Reply → Type 0

@@ -1,10 +1,13 @@
 -- A clean as it is kept.
-use Rattle.std.specs.Prelude.{ℕ, nat_lt, Bool, true, cond, List, [], ◌∷◌, drop, length}
-use Rattle.job_protocol.specs.Prelude.{Committer, Magic, UploadRef, Sweep, Clean, Walking, Aborting, Naming, CleanOver, removing}
-use Rattle.job_model.specs.declared.ends.CleanEnd.TheVariants as ends
-use Rattle.job_protocol.specs.Cleanups.{Sweeping}
 use Rattle.cleanup.specs.declared.held.Held.{Held}
 use Rattle.cleanup.specs.declared.held.Stage.{Stage}
+use Rattle.job_protocol.specs.Cleanups.{Aborting, Clean, CleanOver, Naming, Sweeping, Walking, removing}
+use Rattle.list_walk.specs.Walks.{Sweep}
+use Rattle.s3_types.specs.declared.request.Committer.{Committer}
+use Rattle.s3_types.specs.declared.request.Committer.TheVariants.{Magic}
+use Rattle.s3_types.specs.declared.request.UploadRef.{UploadRef}
+use Rattle.std.specs.Prelude.{Bool, List, cond, drop, length, nat_lt, true, ℕ, [], ◌∷◌}
+use Rattle.job_model.specs.declared.ends.CleanEnd.TheVariants as ends
 use Rattle.cleanup.specs.declared.held.Stage.TheVariants as stages
 
 -- one that aborts these uploads; there are some

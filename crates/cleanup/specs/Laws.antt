@@ -1,11 +1,11 @@
 -- Cleans among others.
-use Rattle.std.specs.Prelude.{◌+◌}
-use Rattle.job_protocol.specs.Prelude.{clean_wants, clean_told, FallsAmong}
-use Rattle.job_protocol.specs.AtWork.{sparing_wants, sparing_told}
 use Rattle.cleanup.specs.Fits.{FitsDriving}
 use Rattle.cleanup.specs.Left.{clean_left}
 use Rattle.cleanup.specs.SparingFits.{FitsSparingDriving, most_commits}
 use Rattle.cleanup.specs.SparingLeft.{sparing_left}
+use Rattle.job_protocol.specs.AtWork.{clean_told, clean_wants, sparing_told, sparing_wants}
+use Rattle.job_protocol.specs.Measures.{FallsAmong}
+use Rattle.std.specs.Prelude.{◌+◌}
 
 -- one request of another actor raises what is left by at most 3
 abbrev pub CleansEnd : Type 0

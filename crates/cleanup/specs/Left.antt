@@ -1,9 +1,14 @@
 -- What a clean has left in a scene.
-use Rattle.std.specs.Prelude.{ℕ, ◌+◌, ◌++◌, length, codes}
-use Rattle.job_protocol.specs.Prelude.{Scene, Committer, Magic, Job, Driving, sweep_start, Clean, Walking, Aborting, Naming, Removing, CleanOver, uploads_left, sweep_left}
+use Rattle.job_model.specs.Jobs.{Job}
+use Rattle.job_protocol.specs.AtWork.{Driving}
+use Rattle.job_protocol.specs.Cleanups.{Aborting, Clean, CleanOver, Naming, Removing, Sweeping, Walking}
+use Rattle.list_walk.specs.Left.{files_left, sweep_left, uploads_left}
+use Rattle.list_walk.specs.Walks.{sweep_start}
+use Rattle.s3_types.specs.Store.{Scene}
+use Rattle.s3_types.specs.declared.request.Committer.{Committer}
+use Rattle.s3_types.specs.declared.request.Committer.TheVariants.{Magic}
+use Rattle.std.specs.Prelude.{codes, length, ℕ, ◌++◌, ◌+◌}
 use Rattle.magic_paths.specs.Layout as layout
-use Rattle.job_protocol.specs.Cleanups.{Sweeping}
-use Rattle.list_walk.specs.Left.{files_left}
 
 -- once the uploads are aborted: the sweep, or the list of the files and each of them
 abbrev pub after_left : Committer → Job → Scene → ℕ

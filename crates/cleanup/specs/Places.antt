@@ -1,6 +1,8 @@
 -- Places among what was listed, and the requests for what stands at them.
-use Rattle.std.specs.Prelude.{ℕ, ◌+◌, ◌-◌, nat_lt, cond, List, [], ◌∷◌, take, Option, Some, None}
-use Rattle.job_protocol.specs.Prelude.{Request, AbortUpload, ClusterDelete, ClusterGet, DeleteObjects, GetObject, UploadRef}
+use Rattle.s3_types.specs.declared.request.Request.{Request}
+use Rattle.s3_types.specs.declared.request.Request.TheVariants.{AbortUpload, ClusterDelete, ClusterGet, DeleteObjects, GetObject}
+use Rattle.s3_types.specs.declared.request.UploadRef.{UploadRef}
+use Rattle.std.specs.Prelude.{List, None, Option, Some, cond, nat_lt, take, ℕ, [], ◌+◌, ◌-◌, ◌∷◌}
 
 -- the place so many steps on, or the end of so many
 abbrev pub behind : ℕ → ℕ → ℕ → ℕ

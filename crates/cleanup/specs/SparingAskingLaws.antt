@@ -1,13 +1,22 @@
 -- How a sparing clean goes on.
-use Rattle.std.specs.Prelude.{◌≡◌, ℕ, List, [], ◌∷◌, ◌++◌, drop, Some, is_none, is_some}
-use Rattle.std.proofs.Common.{refl}
-use Rattle.job_protocol.specs.Prelude.{filter, Committer, Magic, Request, UploadRef, Reply, ClusterNames, Job, job_script, More, Whole}
-use Rattle.machine.specs.Prelude.{AskLaws, Fine}
-use Rattle.list_walk.specs.Walks.{walked}
-use Rattle.job_protocol.specs.AtWork.{sparing_wants, sparing_told}
-use Rattle.magic_paths.specs.Places.{is_record}
-use Rattle.job_protocol.specs.Sparing.{Sparing, Walking, Naming, Reading, Aborting, Deleting, Removing, SparingOver, sparing_asks, sparing_hears, sparing_over, names, deleting, removing, aborting, reading_on, walking, naming}
 use Rattle.cleanup.specs.SparingFits.{FitsSparingDriving, sparing_standing, sparing_standing_of}
+use Rattle.job_model.specs.Jobs.{Job}
+use Rattle.job_protocol.specs.AtWork.{job_script, sparing_told, sparing_wants}
+use Rattle.job_protocol.specs.Sparing.{Aborting, Deleting, Naming, Reading, Removing, Sparing, SparingOver, Walking, aborting, deleting}
+use Rattle.job_protocol.specs.Sparing.{names, naming, reading_on, removing, sparing_asks, sparing_hears, sparing_over, walking}
+use Rattle.list_walk.specs.Walks.{More, Whole, walked}
+use Rattle.machine.specs.Asks.{AskLaws}
+use Rattle.machine.specs.Standing.{Fine}
+use Rattle.magic_paths.specs.Places.{is_record}
+use Rattle.s3_types.specs.declared.reply.Reply.{Reply}
+use Rattle.s3_types.specs.declared.reply.Reply.TheVariants.{ClusterNames}
+use Rattle.s3_types.specs.declared.request.Committer.{Committer}
+use Rattle.s3_types.specs.declared.request.Committer.TheVariants.{Magic}
+use Rattle.s3_types.specs.declared.request.Request.{Request}
+use Rattle.s3_types.specs.declared.request.UploadRef.{UploadRef}
+use Rattle.std.proofs.Common.{refl}
+use Rattle.std.specs.List.{filter}
+use Rattle.std.specs.Prelude.{List, Some, drop, is_none, is_some, ℕ, [], ◌++◌, ◌∷◌, ◌≡◌}
 
 fine_deleting : (ks : List (List ℕ)) → sparing_standing_of (deleting ks) ≡ Fine
 fine_deleting [] = refl
@@ -26,10 +35,13 @@ fine_reading : (c : Committer) (named : List UploadRef) (ps all : List (List ℕ
 fine_reading c named [] all = fine_aborting c named all
 fine_reading c named (p ∷ ps) all = refl
 
-goes_on : (j : Job) (x : Sparing) (r : Request) (a : Reply) → sparing_asks (job_script j) x ≡ Some r → sparing_standing_of (sparing_hears (job_script j) x a) ≡ sparing_standing_of x
+goes_on : (j : Job) (x : Sparing) (r : Request) (a : Reply) → sparing_asks (job_script j) x ≡ Some r
+    → sparing_standing_of (sparing_hears (job_script j) x a) ≡ sparing_standing_of x
 goes_on j (Walking keys) r a e =
-    elim (walked keys a) as (λ x. sparing_standing_of (walking j.committer x) ≡ Fine) [ More ks ↦ refl | Whole ks ↦ fine_reading j.committer [] (filter is_record ks) ks ]
-goes_on j Naming r a e = elim a as (λ a. sparing_standing_of (naming j.committer a) ≡ Fine) [ ClusterNames paths ↦ fine_reading j.committer [] paths paths | _ ↦ refl ]
+    elim (walked keys a) as (λ x. sparing_standing_of (walking j.committer x) ≡ Fine)
+    [ More ks ↦ refl | Whole ks ↦ fine_reading j.committer [] (filter is_record ks) ks ]
+goes_on j Naming r a e = elim a as (λ a. sparing_standing_of (naming j.committer a) ≡ Fine)
+    [ ClusterNames paths ↦ fine_reading j.committer [] paths paths | _ ↦ refl ]
 goes_on j (Reading named p ps all) r a e = fine_reading j.committer (named ++ names a) ps all
 goes_on j (Aborting u us all) r a e = fine_aborting j.committer us all
 goes_on j (Deleting k ks) r a e = fine_deleting (drop 1000 (k ∷ ks))

@@ -1,10 +1,13 @@
 -- The replies that fit a sparing clean, and how it stands.
-use Rattle.std.specs.Prelude.{ℕ, ◌≤◌, Bool, length}
-use Rattle.job_protocol.specs.Prelude.{Reply, ClusterBytes, Driving, FitsPage}
-use Rattle.machine.specs.Prelude.{Standing, Fine}
-use Rattle.pending_json.specs.Reading as reading
-use Rattle.job_protocol.specs.Sparing.{Sparing, Walking, Reading, SparingOver, set_names}
 use Rattle.cleanup.specs.Fits.{standing_at}
+use Rattle.job_protocol.specs.AtWork.{Driving}
+use Rattle.job_protocol.specs.Sparing.{Reading, Sparing, SparingOver, Walking, set_names}
+use Rattle.list_walk.specs.Fitting.{FitsPage}
+use Rattle.machine.specs.Standing.{Fine, Standing}
+use Rattle.s3_types.specs.declared.reply.Reply.{Reply}
+use Rattle.s3_types.specs.declared.reply.Reply.TheVariants.{ClusterBytes}
+use Rattle.std.specs.Prelude.{Bool, length, ℕ, ◌≤◌}
+use Rattle.pending_json.specs.Reading as reading
 
 -- the most uploads that a set names: those of an attempt's files
 abbrev pub most_commits : ℕ

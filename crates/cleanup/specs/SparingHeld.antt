@@ -1,10 +1,15 @@
 -- A sparing clean as it is kept.
-use Rattle.std.specs.Prelude.{ℕ, nat_lt, Bool, true, false, not, List, [], ◌∷◌, drop, length, Option, Some, None}
-use Rattle.job_protocol.specs.Prelude.{Committer, Magic, Request, UploadRef, Script, keys_on}
-use Rattle.job_model.specs.declared.ends.CleanEnd.TheVariants as ends
-use Rattle.job_protocol.specs.Sparing.{Sparing, Walking, Naming, Reading, Aborting, SparingOver, record_request, deleting, removing}
 use Rattle.cleanup.specs.declared.sparing_held.Held.{Held}
 use Rattle.cleanup.specs.declared.sparing_held.Stage.{Stage}
+use Rattle.job_model.specs.JobScript.{Script}
+use Rattle.job_protocol.specs.Sparing.{Aborting, Naming, Reading, Sparing, SparingOver, Walking, deleting, record_request, removing}
+use Rattle.list_walk.specs.Walks.{keys_on}
+use Rattle.s3_types.specs.declared.request.Committer.{Committer}
+use Rattle.s3_types.specs.declared.request.Committer.TheVariants.{Magic}
+use Rattle.s3_types.specs.declared.request.Request.{Request}
+use Rattle.s3_types.specs.declared.request.UploadRef.{UploadRef}
+use Rattle.std.specs.Prelude.{Bool, List, None, Option, Some, drop, false, length, nat_lt, not, true, ℕ, [], ◌∷◌}
+use Rattle.job_model.specs.declared.ends.CleanEnd.TheVariants as ends
 use Rattle.cleanup.specs.declared.sparing_held.Stage.TheVariants as stages
 
 -- a magic job's clean lists keys of the store, and a staging job's files of the cluster
@@ -40,7 +45,8 @@ abbrev pub aborting_from : List UploadRef → List (List ℕ) → Sparing
 aborting_from [] all = SparingOver ends.Done
 aborting_from (u ∷ us) all = Aborting u us all
 
--- a sparing clean of a stage, the keys that were walked, the places that are read, all that is to go, the keys, the paths, the uploads, and the place among these
+-- a sparing clean of a stage, the keys that were walked, the places that are read, all that is to go, the keys, the paths, the uploads, and
+-- the place among these
 abbrev pub sparing_at : Stage → (walked places all keys paths : List (List ℕ)) → List UploadRef → ℕ → Sparing
 sparing_at stages.Walking walked places all keys paths named at = Walking walked
 sparing_at stages.Naming walked places all keys paths named at = Naming

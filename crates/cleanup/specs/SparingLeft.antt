@@ -1,10 +1,15 @@
 -- What a sparing clean has left in a scene.
-use Rattle.std.specs.Prelude.{ℕ, ◌+◌, ◌*◌, length}
-use Rattle.job_protocol.specs.Prelude.{Scene, Committer, Magic, Job, Driving, last_of, keys_left}
-use Rattle.magic_paths.specs.Layout as layout
-use Rattle.list_walk.specs.Left.{files_left}
-use Rattle.job_protocol.specs.Sparing.{Sparing, Walking, Naming, Reading, Aborting, Deleting, Removing, SparingOver}
 use Rattle.cleanup.specs.SparingFits.{most_commits}
+use Rattle.job_model.specs.Jobs.{Job}
+use Rattle.job_protocol.specs.AtWork.{Driving}
+use Rattle.job_protocol.specs.Sparing.{Aborting, Deleting, Naming, Reading, Removing, Sparing, SparingOver, Walking}
+use Rattle.list_walk.specs.Left.{files_left, keys_left}
+use Rattle.list_walk.specs.Walks.{last_of}
+use Rattle.s3_types.specs.Store.{Scene}
+use Rattle.s3_types.specs.declared.request.Committer.{Committer}
+use Rattle.s3_types.specs.declared.request.Committer.TheVariants.{Magic}
+use Rattle.std.specs.Prelude.{length, ℕ, ◌*◌, ◌+◌}
+use Rattle.magic_paths.specs.Layout as layout
 
 -- the most uploads that a place names: a record its own, a set those of an attempt's files
 abbrev pub named_most : Committer → ℕ
@@ -25,7 +30,8 @@ walking_left c known more = more + listing_left c (known + more)
 
 -- the requests that a sparing clean has yet to send: at most so many
 abbrev pub sparing_left_at : Job → Sparing → Scene → ℕ
-sparing_left_at j (Walking keys) s = walking_left j.committer (length keys) (keys_left j.dest.bucket (layout.magic_prefix j.dest.key j.job) (last_of keys) s)
+sparing_left_at j (Walking keys) s = walking_left j.committer (length keys) (keys_left j.dest.bucket (layout.magic_prefix j.dest.key j.job)
+    (last_of keys) s)
 sparing_left_at j Naming s = listing_left j.committer (files_left (layout.cluster_prefix j.job) s)
 sparing_left_at j (Reading named p ps all) s = reading_left j.committer (1 + length ps) (length named) (length all)
 sparing_left_at j (Aborting u us all) s = 1 + length us + length all

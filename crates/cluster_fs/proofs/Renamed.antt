@@ -1,5 +1,12 @@
 -- A file that is put at the target and then taken from the source.
-use Rattle.cluster_fs.proofs.Common.{Bool, Files, List, None, Some, ap, cond, eq_by_cmp, exact_bytes, false, false≢true, get, get-insert, get-remove, insert, refl, remove, same_map, sym, text_cmp, text_eq, text_ties, text_total, tied, true, ℕ, ◌∙◌, ◌≡◌}
+use Rattle.basics.proofs.Tree.{tied}
+use Rattle.basics.specs.Order.{text_cmp, text_eq, text_ties, text_total}
+use Rattle.s3_types.specs.Store.{Files}
+use Rattle.std.proofs.Common.{Bool, List, None, Some, ap, cond, false, refl, sym, true, ℕ, ◌∙◌, ◌≡◌}
+use Rattle.std.proofs.lemmas.Bool.{false≢true}
+use Rattle.std.proofs.lemmas.Map.Lookups.{exact_bytes}
+use Rattle.std.specs.FinMap.{get, get-insert, get-remove, insert, remove, same_map}
+use Rattle.std.specs.Ordering.{eq_by_cmp}
 
 -- whether two paths are one
 abbrev is_at : List ℕ → List ℕ → Bool
@@ -10,7 +17,8 @@ at_same q k h = exact_bytes q k (tied (text_cmp q k) h)
 
 -- onto itself
 pub onto_itself : (m : Files) (s t : List ℕ) (v : List ℕ) → text_eq s t ≡ true → insert m t v ≡ insert (remove m s) t v
-onto_itself m s t v h = same_map text_total exact_bytes _ _ (λ q. get-insert text_total m t v q ∙ by q (is_at q t) refl ∙ sym (get-insert text_total (remove m s) t v q))
+onto_itself m s t v h = same_map text_total exact_bytes _ _ (λ q. get-insert text_total m t v q ∙ by q (is_at q t) refl ∙ sym
+    (get-insert text_total (remove m s) t v q))
   where
     same : s ≡ t
     same = at_same s t (sym (text_ties s t) ∙ h)
@@ -33,6 +41,9 @@ onto_another m s t v h = same_map text_total exact_bytes _ _ (λ q.
     by : (q : List ℕ) (a : Bool) → is_at q s ≡ a → (b : Bool) → is_at q t ≡ b
         → cond (is_at q s) None (cond (is_at q t) (Some v) (get m q)) ≡ cond (is_at q t) (Some v) (cond (is_at q s) None (get m q))
     by q true d true e = absurd (false≢true (sym h ∙ text_ties s t ∙ ap (λ k. is_at k t) (sym (at_same q s d)) ∙ e))
-    by q true d false e = (λ i. cond (d i) None (cond (e i) (Some v) (get m q))) ∙ sym (λ i. cond (e i) (Some v) (cond (d i) None (get m q)))
-    by q false d true e = (λ i. cond (d i) None (cond (e i) (Some v) (get m q))) ∙ sym (λ i. cond (e i) (Some v) (cond (d i) None (get m q)))
-    by q false d false e = (λ i. cond (d i) None (cond (e i) (Some v) (get m q))) ∙ sym (λ i. cond (e i) (Some v) (cond (d i) None (get m q)))
+    by q true d false e = (λ i. cond (d i) None (cond (e i) (Some v) (get m q))) ∙ sym
+        (λ i. cond (e i) (Some v) (cond (d i) None (get m q)))
+    by q false d true e = (λ i. cond (d i) None (cond (e i) (Some v) (get m q))) ∙ sym
+        (λ i. cond (e i) (Some v) (cond (d i) None (get m q)))
+    by q false d false e = (λ i. cond (d i) None (cond (e i) (Some v) (get m q))) ∙ sym
+        (λ i. cond (e i) (Some v) (cond (d i) None (get m q)))

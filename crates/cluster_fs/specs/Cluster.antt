@@ -1,6 +1,8 @@
 -- The files of a cluster beside a store.
-use Rattle.std.specs.Prelude.{◌≡◌, ℕ, false, List, [], ◌∷◌}
-use Rattle.s3_types.specs.Prelude.{is_lt, text_cmp, Content, Files, Scene}
+use Rattle.basics.specs.Order.{text_cmp}
+use Rattle.s3_types.specs.Store.{Content, Files, Scene}
+use Rattle.std.specs.Ordering.{is_lt}
+use Rattle.std.specs.Prelude.{List, false, ℕ, [], ◌∷◌, ◌≡◌}
 
 -- the scene with these files beside a store's content
 abbrev pub beside : Content → Files → Scene

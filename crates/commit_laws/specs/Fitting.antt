@@ -1,8 +1,18 @@
 -- Which outcomes may be told to a job's commit.
-use Rattle.std.specs.Prelude.{◌≡◌, ℕ, not, List, length, Option, Some, None}
-use Rattle.job_protocol.specs.Prelude.{Reply, Refused, NoSuchBucket, Outcome, Answered, PendingSet, Job, has_task, first_where, set_read, Commit, Fetching, Replacing, Completing, Marking, Reverting, CommitOver, FitsCompletion, Committing, FitsSweep}
-use Rattle.job_model.specs.declared.ends.CommitEnd.TheVariants as ends
 use Rattle.commit_parts.specs.ReadSets.{IsSetOf}
+use Rattle.job_model.specs.Jobs.{Job, has_task}
+use Rattle.job_protocol.specs.AtWork.{Committing}
+use Rattle.job_protocol.specs.JobCommits.{Commit, CommitOver, Completing, Fetching, FitsCompletion, Marking, Replacing, Reverting, set_read}
+use Rattle.job_protocol.specs.Outputs.{first_where}
+use Rattle.list_walk.specs.Fitting.{FitsSweep}
+use Rattle.pending_json.specs.declared.records.PendingSet.{PendingSet}
+use Rattle.s3_types.specs.declared.journal.Outcome.{Outcome}
+use Rattle.s3_types.specs.declared.journal.Outcome.TheVariants.{Answered}
+use Rattle.s3_types.specs.declared.reply.Refusal.TheVariants.{NoSuchBucket}
+use Rattle.s3_types.specs.declared.reply.Reply.{Reply}
+use Rattle.s3_types.specs.declared.reply.Reply.TheVariants.{Refused}
+use Rattle.std.specs.Prelude.{List, None, Option, Some, length, not, ℕ, ◌≡◌}
+use Rattle.job_model.specs.declared.ends.CommitEnd.TheVariants as ends
 
 -- the answer spells a task's set
 abbrev pub SpellsSet : Job → ℕ → Option PendingSet → Type 0

@@ -1,9 +1,31 @@
 -- What holds of a job's commit alone.
-use Rattle.std.specs.Prelude.{◌≡◌, ℕ, ◌+◌, ◌-◌, ◌*◌, ◌<◌, ◌≤◌, max, List, [], ◌∷◌, ◌++◌, length, Option, Some, None}
-use Rattle.job_protocol.specs.Prelude.{Scene, Request, GetObject, ClusterGet, Outcome, Answered, Entry, Reply, Committer, Magic, answer, apply, effect, PendingSet, run, Follows, WornFirst, Job, CommitEnd, same_path, Sets, set_read, picks_of, all_commits, Commit, Fetching, Replacing, Completing, Marking, Reverting, CommitOver, commit_start, commit_over, stage_of, Turn, sweep_start, sweep_left, adds_key, one_if, Committing, read_script, commit_wants, commit_told}
-use Rattle.job_model.specs.declared.ends.CommitEnd.TheVariants as ends
-use Rattle.commit_parts.specs.Tables.{listed}
 use Rattle.commit_laws.specs.Fitting.{FitsCommit}
+use Rattle.commit_parts.specs.Tables.{listed}
+use Rattle.job_model.specs.Jobs.{Job}
+use Rattle.job_model.specs.declared.ends.CommitEnd.{CommitEnd}
+use Rattle.job_protocol.specs.AtWork.{Committing, commit_told, commit_wants, read_script}
+use Rattle.job_protocol.specs.JobCommits.{Commit, CommitOver, Completing, Fetching, Marking, Replacing, Reverting, Sets, all_commits}
+use Rattle.job_protocol.specs.JobCommits.{commit_over, commit_start, picks_of, set_read, stage_of}
+use Rattle.job_protocol.specs.Lanes.{Turn}
+use Rattle.job_protocol.specs.Outputs.{same_path}
+use Rattle.list_walk.specs.Left.{adds_key, one_if, sweep_left}
+use Rattle.list_walk.specs.Walks.{sweep_start}
+use Rattle.pending_json.specs.declared.records.PendingSet.{PendingSet}
+use Rattle.retries.specs.Operation.{Follows, run}
+use Rattle.retries.specs.Worn.{WornFirst}
+use Rattle.s3_types.specs.Answer.{answer, apply}
+use Rattle.s3_types.specs.Moment.{effect}
+use Rattle.s3_types.specs.Store.{Scene}
+use Rattle.s3_types.specs.declared.journal.Entry.{Entry}
+use Rattle.s3_types.specs.declared.journal.Outcome.{Outcome}
+use Rattle.s3_types.specs.declared.journal.Outcome.TheVariants.{Answered}
+use Rattle.s3_types.specs.declared.reply.Reply.{Reply}
+use Rattle.s3_types.specs.declared.request.Committer.{Committer}
+use Rattle.s3_types.specs.declared.request.Committer.TheVariants.{Magic}
+use Rattle.s3_types.specs.declared.request.Request.{Request}
+use Rattle.s3_types.specs.declared.request.Request.TheVariants.{ClusterGet, GetObject}
+use Rattle.std.specs.Prelude.{List, None, Option, Some, length, max, ℕ, [], ◌*◌, ◌++◌, ◌+◌, ◌-◌, ◌<◌, ◌∷◌, ◌≡◌, ◌≤◌}
+use Rattle.job_model.specs.declared.ends.CommitEnd.TheVariants as ends
 
 -- the commit of a job as it begins, by the least task that none reported
 abbrev pub start : Job → Option ℕ → Committing
@@ -36,9 +58,11 @@ due None None None = ends.Committed
 
 -- a job's commit ends so by its own entries alone
 pub record EndsByEntries : Type 0 where
-  pub ends : (j : Job) (missing : Option ℕ) → 0 < j.lanes → (es : List Entry) → Follows commit_wants commit_told (start j missing) es → AllFit (start j missing) es
+  pub ends : (j : Job) (missing : Option ℕ) → 0 < j.lanes → (es : List Entry) → Follows commit_wants commit_told (start j missing) es
+      → AllFit (start j missing) es
       → (end : CommitEnd) → commit_over (run commit_told (start j missing) es).operation ≡ Some end
-      → (worn : Option Request) × WornFirst j.retries es worn × (end ≡ due missing worn (same_path (read_script j (sets_heard es)) (picks_of (sets_heard es))))
+      → (worn : Option Request) × WornFirst j.retries es worn
+      × (end ≡ due missing worn (same_path (read_script j (sets_heard es)) (picks_of (sets_heard es))))
 
 -- ---- how much it has left
 
@@ -87,8 +111,10 @@ deletion_left j most s = if_staging j.committer (prefixes_most j most * any_swee
 
 -- at most so many sendings are to come, where each set has at most so many uploads
 abbrev pub left_of : ℕ → Job → Commit → Scene → ℕ
-left_of most j (Fetching sets m) s = all_left j.retries j.lanes (length (all_commits sets)) + (1 + (j.tasks - length sets)) * read_left j.retries j.lanes most + (j.retries - m) + deletion_left j (widest most sets) s
-left_of most j (Replacing sets p ps w m) s = (sweep_left j.dest.bucket p w s + length ps * any_sweep j s) * (j.retries + 1) + (j.retries - m) + all_left j.retries j.lanes (length (all_commits sets))
+left_of most j (Fetching sets m) s = all_left j.retries j.lanes (length (all_commits sets)) + (1 + (j.tasks - length sets)) * read_left
+    j.retries j.lanes most + (j.retries - m) + deletion_left j (widest most sets) s
+left_of most j (Replacing sets p ps w m) s = (sweep_left j.dest.bucket p w s + length ps * any_sweep j s) * (j.retries + 1) +
+    (j.retries - m) + all_left j.retries j.lanes (length (all_commits sets))
 left_of most j (Completing sets x xs done) s = lanes_left j.retries (length (all_commits sets)) (x ∷ xs) (length done)
 left_of most j (Marking sets m) s = j.retries - m + 1
 left_of most j (Reverting q qs m) s = length qs * (j.retries + 1) + (j.retries - m + 1)
@@ -127,6 +153,8 @@ pub record FitsFew (most : ℕ) (m : Committing) (o : Outcome) : Type 0 where
 -- a commit sends no more than it has left
 pub record CommitFalls : Type 0 where
   -- it falls with each sending, whatever becomes of it
-  pub falls : (most : ℕ) (m : Committing) (s : Scene) (r : Request) (o : Outcome) → commit_wants m ≡ Some r → FitsFew most m o → ((a : Reply) → o ≡ Answered a → a ≡ answer s r) → left most (commit_told m o) (effect s r o) < left most m s
+  pub falls : (most : ℕ) (m : Committing) (s : Scene) (r : Request) (o : Outcome) → commit_wants m ≡ Some r → FitsFew most m o
+      → ((a : Reply) → o ≡ Answered a → a ≡ answer s r) → left most (commit_told m o) (effect s r o) < left most m s
   -- a request of another actor raises it by at most so many, where it may add a key
-  pub others : (most : ℕ) (m : Committing) (s : Scene) (r : Request) → left most m (apply s r) ≤ left most m s + rise most m * one_if (adds_key r)
+  pub others : (most : ℕ) (m : Committing) (s : Scene) (r : Request)
+      → left most m (apply s r) ≤ left most m s + rise most m * one_if (adds_key r)

@@ -1,14 +1,24 @@
 -- what follows a key and a `/`
-use Rattle.commit_parts.proofs.Common.{Bool, Bor, FindsTextPrefix, List, None, Option, Some, [], ap, append_assoc, arith, bytes_decides, cond, drop, drop-append_seam, false, front_cancels, length, nat_eq, refl, relative_in, starts_with, subst, sym, take, take-append-drop, take-append_seam, true, ℕ, ◌++◌, ◌<◌, ◌∙◌, ◌∷◌, ◌≡◌}
+use Rattle.basics.proofs.Lists.{front_cancels}
+use Rattle.path_keys.specs.Paths.{relative_in}
+use Rattle.std.proofs.Common.{Bool, Bor, List, None, Option, Some, ap, append_assoc, arith, cond, drop, false, length, nat_eq, refl, subst}
+use Rattle.std.proofs.Common.{sym, take, true, ℕ, [], ◌++◌, ◌<◌, ◌∙◌, ◌∷◌, ◌≡◌}
+use Rattle.std.proofs.Math.Seq.{drop-append_seam, take-append_seam}
+use Rattle.std.proofs.lemmas.List.{take-append-drop}
+use Rattle.std.specs.Cmp.Lexicographic.{bytes_decides}
+use Rattle.std.specs.List.{starts_with}
 use Rattle.std.specs.Prelude.{MatchOption, option_map}
-use Rattle.s3_types.specs.Prelude.{StripsPrefix}
+use Rattle.std.specs.Str.Pattern.{FindsTextPrefix, StripsPrefix}
 
 cut_yes : (pre rest : List ℕ) → cond (starts_with nat_eq (pre ++ rest) pre) (Some (drop (length pre) (pre ++ rest))) None ≡ Some rest
 cut_yes pre rest =
-    let same : starts_with nat_eq (pre ++ rest) pre ≡ true = (bytes_decides pre (take (length pre) (pre ++ rest))).1 (sym (take-append_seam pre rest)) in
-    ap (λ b. cond b (Some (drop (length pre) (pre ++ rest))) (let n : Option (List ℕ) = None in n)) same ∙ ap Some (drop-append_seam pre rest)
+    let same : starts_with nat_eq (pre ++ rest) pre ≡ true = (bytes_decides pre (take (length pre) (pre ++ rest))).1
+    (sym (take-append_seam pre rest)) in
+    ap (λ b. cond b (Some (drop (length pre) (pre ++ rest))) (let n : Option (List ℕ) = None in n)) same ∙ ap Some
+    (drop-append_seam pre rest)
 
-cut_no : (pre text : List ℕ) (b : Bool) → starts_with nat_eq text pre ≡ b → ((rest : List ℕ) → text ≡ pre ++ rest → ⊥) → cond b (Some (drop (length pre) text)) None ≡ None
+cut_no : (pre text : List ℕ) (b : Bool) → starts_with nat_eq text pre ≡ b → ((rest : List ℕ) → text ≡ pre ++ rest → ⊥)
+    → cond b (Some (drop (length pre) text)) None ≡ None
 cut_no pre text true e h =
     let same : pre ≡ take (length pre) text = (bytes_decides pre (take (length pre) text)).0 e in
     absurd (h (drop (length pre) text) (sym (take-append-drop (length pre) text) ∙ ap (λ v. v ++ drop (length pre) text) (sym same)))
@@ -24,9 +34,11 @@ relative_some (x ∷ xs) text rest h e =
 
 pub relative_none : (key text : List ℕ) → 0 < length key → ((rest : List ℕ) → text ≡ key ++ 47 ∷ rest → ⊥) → relative_in key text ≡ None
 relative_none [] text h absent = absurd (omega arith)
-relative_none (x ∷ xs) text h absent = cut_no ((x ∷ xs) ++ 47 ∷ []) text (starts_with nat_eq text ((x ∷ xs) ++ 47 ∷ [])) refl (λ rest e. absent rest (e ∙ append_assoc (x ∷ xs) (47 ∷ []) rest))
+relative_none (x ∷ xs) text h absent = cut_no ((x ∷ xs) ++ 47 ∷ []) text (starts_with nat_eq text ((x ∷ xs) ++ 47 ∷ [])) refl
+    (λ rest e. absent rest (e ∙ append_assoc (x ∷ xs) (47 ∷ []) rest))
 
 -- what is left of a text without a key at its front, and then without a `/`
-pub behind_front : (key text rest : List ℕ) → 0 < length key → StripsPrefix (FindsTextPrefix key) text rest → (o : Option (Bor (List ℕ))) → MatchOption o (FindsTextPrefix (47 ∷ []) rest None) (λ x. StripsPrefix (FindsTextPrefix (47 ∷ [])) rest x.now)
+pub behind_front : (key text rest : List ℕ) → 0 < length key → StripsPrefix (FindsTextPrefix key) text rest → (o : Option (Bor (List ℕ)))
+    → MatchOption o (FindsTextPrefix (47 ∷ []) rest None) (λ x. StripsPrefix (FindsTextPrefix (47 ∷ [])) rest x.now)
     → option_map (λ (r : Bor (List ℕ)). r.now) o ≡ relative_in key text
 behind_front key text rest h g o e = grind (arith, relative_none, front_cancels, relative_some)

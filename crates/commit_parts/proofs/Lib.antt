@@ -7,4 +7,3 @@ mod Behind
 mod Trying
 pub mod KeysApart
 mod Numbers
-mod Common

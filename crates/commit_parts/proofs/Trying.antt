@@ -1,5 +1,10 @@
 -- members by their numbers
-use Rattle.commit_parts.proofs.Common.{In, List, Turn, [], ap, arith, get_or, inl, inr, is_tried, length, list_any, nat_eq, nat_lt, refl, suc, sym, take, take_more, zero, ℕ, ◌&&◌, ◌++◌, ◌+◌, ◌<◌, ◌||◌, ◌∙◌, ◌∷◌, ◌≡◌}
+use Rattle.job_protocol.specs.LaneTable.{In}
+use Rattle.job_protocol.specs.Lanes.{Turn, is_tried}
+use Rattle.std.proofs.Common.{List, ap, arith, get_or, inl, inr, length, nat_eq, nat_lt, refl, suc, sym, take, zero, ℕ, [], ◌&&◌, ◌++◌, ◌+◌}
+use Rattle.std.proofs.Common.{◌<◌, ◌||◌, ◌∙◌, ◌∷◌, ◌≡◌}
+use Rattle.std.proofs.lemmas.List.{take_more}
+use Rattle.std.specs.List.{list_any}
 
 pub tried_any : (xs : List Turn) (n : ℕ) → list_any (λ (x : Turn). nat_eq n x.number && nat_lt 0 x.missed) xs ≡ is_tried xs n
 tried_any [] n = refl
@@ -12,4 +17,5 @@ in_at (x ∷ xs) zero d h = inl refl
 in_at (x ∷ xs) (suc i) d h = inr (in_at xs i d (omega arith))
 
 pub take_next : {X : Type 0} (xs : List X) (i : ℕ) (c : X) → i < length xs → c ≡ get_or xs i c → take (suc i) xs ≡ take i xs ++ c ∷ []
-take_next xs i c h e = let s : suc i ≡ i + 1 = omega arith in ap (λ n. take n xs) s ∙ take_more xs i c h ∙ ap (λ v. take i xs ++ v ∷ []) (sym e)
+take_next xs i c h e = let s : suc i ≡ i + 1 = omega arith in ap (λ n. take n xs) s ∙ take_more xs i c h ∙ ap (λ v. take i xs ++ v ∷ [])
+    (sym e)

@@ -1,10 +1,17 @@
 -- What a search for shared keys says of a job's paths.
-use Rattle.std.specs.Prelude.{◌≡◌, length, Option, Some, None}
-use Rattle.job_protocol.specs.Prelude.{Path, Job, CommitEnd, SamePath, same_path, Sets, picks_of, RequestsApart, read_script}
+use Rattle.commit_parts.specs.Clashes.{IsBest, items_from}
 use Rattle.commit_parts.specs.ReadSets.{AreRead}
-use Rattle.commit_parts.specs.Clashes.{items_from, IsBest}
 use Rattle.commit_parts.specs.Relatives.{relative_of}
 use Rattle.commit_parts.specs.declared.sharing.Clash.{Clash}
+use Rattle.job_model.specs.Jobs.{Job}
+use Rattle.job_model.specs.declared.ends.CommitEnd.{CommitEnd}
+use Rattle.job_model.specs.declared.ends.CommitEnd.TheVariants.{SamePath}
+use Rattle.job_protocol.specs.AtWork.{read_script}
+use Rattle.job_protocol.specs.JobCommits.{Sets, picks_of}
+use Rattle.job_protocol.specs.LaneTable.{RequestsApart}
+use Rattle.job_protocol.specs.Outputs.{same_path}
+use Rattle.path_keys.specs.Paths.{Path}
+use Rattle.std.specs.Prelude.{None, Option, Some, length, ◌≡◌}
 
 -- the end that a key gives which two tasks write
 abbrev pub end_of : Path → Option Clash → Option CommitEnd
@@ -13,8 +20,10 @@ end_of dest (Some c) = Some (SamePath (relative_of dest c.key) c.first c.second)
 
 -- where all sets were read and no path is shared, two of the uploads are two requests
 pub record SetsAreApart : Type 0 where
-  pub apart : (j : Job) (sets : Sets) → AreRead j sets → length sets ≡ j.tasks → same_path (read_script j sets) (picks_of sets) ≡ None → RequestsApart sets
+  pub apart : (j : Job) (sets : Sets) → AreRead j sets → length sets ≡ j.tasks → same_path (read_script j sets) (picks_of sets) ≡ None
+      → RequestsApart sets
 
 -- the least key that two tasks write is the one of the path that two picks write
 pub record PathIsFound : Type 0 where
-  pub same : (j : Job) (sets : Sets) (best : Option Clash) → AreRead j sets → length sets ≡ j.tasks → IsBest (items_from 0 sets) best → end_of j.dest best ≡ same_path (read_script j sets) (picks_of sets)
+  pub same : (j : Job) (sets : Sets) (best : Option Clash) → AreRead j sets → length sets ≡ j.tasks → IsBest (items_from 0 sets) best
+      → end_of j.dest best ≡ same_path (read_script j sets) (picks_of sets)

@@ -1,7 +1,11 @@
 -- Two tasks that write one key, among uploads with the tasks that they are of.
-use Rattle.std.specs.Prelude.{◌≡◌, ℕ, ◌+◌, ◌<◌, ◌≤◌, nat_eq, ◌||◌, not, cond, Bool, true, false, List, [], ◌∷◌, ◌++◌, map, Option, Some, None}
-use Rattle.job_protocol.specs.Prelude.{is_lt, text_cmp, PendingSet, In}
+use Rattle.basics.specs.Order.{text_cmp}
 use Rattle.commit_parts.specs.declared.sharing.Clash.{Clash}
+use Rattle.job_protocol.specs.LaneTable.{In}
+use Rattle.pending_json.specs.declared.records.PendingSet.{PendingSet}
+use Rattle.std.specs.Ordering.{is_lt}
+use Rattle.std.specs.Prelude.{Bool, List, None, Option, Some, cond, false, map, nat_eq, not, true, ℕ, [], ◌++◌, ◌+◌, ◌<◌, ◌||◌, ◌∷◌, ◌≡◌}
+use Rattle.std.specs.Prelude.{◌≤◌}
 
 -- a key and the task that writes it
 abbrev pub Item : Type 0

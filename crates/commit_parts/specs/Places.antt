@@ -1,7 +1,7 @@
 -- Where an upload stands among the sets, by its number.
-use Rattle.std.specs.Prelude.{ℕ, zero, suc, ◌+◌, List, [], ◌∷◌, ◌++◌, length}
-use Rattle.job_protocol.specs.Prelude.{PendingSet}
 use Rattle.commit_parts.specs.declared.places.Place.{Place}
+use Rattle.pending_json.specs.declared.records.PendingSet.{PendingSet}
+use Rattle.std.specs.Prelude.{List, length, suc, zero, ℕ, [], ◌++◌, ◌+◌, ◌∷◌}
 
 -- the places of so many uploads of a set
 abbrev pub row : ℕ → ℕ → List Place

@@ -1,8 +1,12 @@
 -- The sets that a job's commit has read.
-use Rattle.std.specs.Prelude.{◌≡◌, ℕ, true, List, length, slice_get, Some, is_some}
-use Rattle.job_protocol.specs.Prelude.{relative_in, Pending, PendingSet, Job, Sets}
 use Rattle.commit_parts.specs.Places.{places_from}
 use Rattle.commit_parts.specs.declared.places.Place.{Place}
+use Rattle.job_model.specs.Jobs.{Job}
+use Rattle.job_protocol.specs.JobCommits.{Sets}
+use Rattle.path_keys.specs.Paths.{relative_in}
+use Rattle.pending_json.specs.Pending.{Pending}
+use Rattle.pending_json.specs.declared.records.PendingSet.{PendingSet}
+use Rattle.std.specs.Prelude.{List, Some, is_some, length, slice_get, true, ℕ, ◌≡◌}
 
 -- the set of a task of the job: its uploads are of the destination's bucket, and of different keys below the destination
 pub record IsSetOf (j : Job) (t : ℕ) (s : PendingSet) : Type 0 where
@@ -10,7 +14,8 @@ pub record IsSetOf (j : Job) (t : ℕ) (s : PendingSet) : Type 0 where
   pub task : s.task ≡ t
   pub bucket : (n : ℕ) (c : Pending) → slice_get s.commits n ≡ Some c → c.bucket ≡ j.dest.bucket
   pub below : (n : ℕ) (c : Pending) → slice_get s.commits n ≡ Some c → is_some (relative_in j.dest.key c.destination) ≡ true
-  pub apart : (m n : ℕ) (c d : Pending) → slice_get s.commits m ≡ Some c → slice_get s.commits n ≡ Some d → c.destination ≡ d.destination → m ≡ n
+  pub apart : (m n : ℕ) (c d : Pending) → slice_get s.commits m ≡ Some c → slice_get s.commits n ≡ Some d → c.destination ≡ d.destination
+      → m ≡ n
 
 -- each is the set of its task
 abbrev pub AreRead : Job → Sets → Type 0

@@ -1,6 +1,8 @@
 -- Paths of keys below a destination.
-use Rattle.std.specs.Prelude.{ℕ, List, [], map}
-use Rattle.job_protocol.specs.Prelude.{unwrap_or, Path, relative_in, Pending}
+use Rattle.path_keys.specs.Paths.{Path, relative_in}
+use Rattle.pending_json.specs.Pending.{Pending}
+use Rattle.std.specs.Option.{unwrap_or}
+use Rattle.std.specs.Prelude.{List, map, ℕ, []}
 
 -- the path of a key below the destination, or an empty one
 abbrev pub relative_of : Path → List ℕ → List ℕ

@@ -1,6 +1,6 @@
 -- The lanes of a commit as data.
-use Rattle.std.specs.Prelude.{ℕ, nat_lt, ◌+◌, cond, List, [], ◌∷◌, Option, Some, None}
-use Rattle.job_protocol.specs.Prelude.{Turn, fresh_turn}
+use Rattle.job_protocol.specs.Lanes.{Turn, fresh_turn}
+use Rattle.std.specs.Prelude.{List, None, Option, Some, cond, nat_lt, ℕ, [], ◌+◌, ◌∷◌}
 
 -- the turns of the lanes that have uploads to complete, and the numbers of those that are done, the last one first
 pub record LaneTable : Type 0 where

@@ -1,7 +1,10 @@
 -- What is taken back after a completion that wore out, by the numbers of uploads.
-use Rattle.std.specs.Prelude.{◌≡◌, ℕ, ◌<◌, Bool, true, false, List, ◌∷◌, ◌++◌, map, length}
-use Rattle.job_protocol.specs.Prelude.{Request, Pending, Turn, nth, abort, deletion, revert, In}
 use Rattle.commit_parts.specs.declared.undo.Undo.{Undo}
+use Rattle.job_protocol.specs.LaneTable.{In}
+use Rattle.job_protocol.specs.Lanes.{Turn, abort, deletion, nth, revert}
+use Rattle.pending_json.specs.Pending.{Pending}
+use Rattle.s3_types.specs.declared.request.Request.{Request}
+use Rattle.std.specs.Prelude.{Bool, List, false, length, map, true, ℕ, ◌++◌, ◌<◌, ◌∷◌, ◌≡◌}
 use Rattle.commit_parts.specs.declared.undo.Undo.TheVariants as undos
 
 -- the request that takes something back, by the number of its upload

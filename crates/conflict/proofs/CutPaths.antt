@@ -1,8 +1,14 @@
 -- The directory that a path is in, by where the path is cut; and what begins with a directory and a `/`.
-use Rattle.conflict.proofs.Common.{Bool, Decides-eqb, List, None, Option, Some, [], and_parts, ap, begins, cond, dir_of, dirs_of, false, list_all, nat_eq, not, ordered, partitions, refl, sym, true, true≢false, with_dir, ℕ, ◌&&◌, ◌++◌, ◌∙◌, ◌∷◌, ◌≡◌}
-use Rattle.job_model.specs.Prelude.{is_other}
-use Rattle.job_protocol.specs.Conflicts.{dir_from}
+use Rattle.basics.specs.Parts.{is_other}
 use Rattle.conflict.specs.Partitions.{with_partition}
+use Rattle.job_protocol.specs.Conflicts.{dir_from, dir_of, dirs_of, partitions, with_dir}
+use Rattle.job_protocol.specs.Outputs.{ordered}
+use Rattle.s3_types.specs.Pages.{begins}
+use Rattle.std.proofs.Common.{Bool, List, None, Option, Some, ap, cond, false, nat_eq, not, refl, sym, true, ℕ, [], ◌&&◌, ◌++◌, ◌∙◌, ◌∷◌}
+use Rattle.std.proofs.Common.{◌≡◌}
+use Rattle.std.proofs.lemmas.Bool.{and_parts, true≢false}
+use Rattle.std.proofs.lemmas.Bool.Decides.{Decides-eqb}
+use Rattle.std.specs.List.{list_all}
 
 -- ---- a path that is cut at its last slash
 
@@ -10,7 +16,8 @@ abbrev first_dir : Bool → Option (List ℕ)
 first_dir b = cond b (Some []) None
 
 no_dir : (x : ℕ) (p : List ℕ) → is_other 47 x ≡ true → dir_of p ≡ None → dir_of (x ∷ p) ≡ None
-no_dir x p o e = ap (dir_from x p) e ∙ ((elim (nat_eq x 47) as (λ b. not b ≡ true → first_dir b ≡ None) [ true ↦ λ h. absurd (true≢false (sym h)) | false ↦ λ h. refl ]) o)
+no_dir x p o e = ap (dir_from x p) e ∙ ((elim (nat_eq x 47) as (λ b. not b ≡ true → first_dir b ≡ None)
+    [ true ↦ λ h. absurd (true≢false (sym h)) | false ↦ λ h. refl ]) o)
 
 pub dir_none : (name : List ℕ) → list_all (is_other 47) name ≡ true → dir_of name ≡ None
 dir_none [] h = refl
@@ -23,7 +30,8 @@ dir_front (x ∷ front) name h = ap (dir_from x (front ++ 47 ∷ name)) (dir_fro
 -- ---- one more path
 
 pub one_more : (p : List ℕ) (ps : List (List ℕ)) → partitions (p ∷ ps) ≡ with_partition (dir_of p) (partitions ps)
-one_more p ps = elim (dir_of p) as (λ o. ordered (with_dir o (dirs_of ps)) ≡ with_partition o (ordered (dirs_of ps))) [ Some d ↦ refl | None ↦ refl ]
+one_more p ps = elim (dir_of p) as (λ o. ordered (with_dir o (dirs_of ps)) ≡ with_partition o (ordered (dirs_of ps)))
+    [ Some d ↦ refl | None ↦ refl ]
 
 -- ---- a path below a directory
 
@@ -44,4 +52,5 @@ front_of (x ∷ d) (y ∷ p) h =
     (r.0, ap (λ z. z ∷ p) (sym same) ∙ ap (λ l. x ∷ l) r.1)
 
 pub begins_not : (d p : List ℕ) → ((rest : List ℕ) → p ≡ d ++ rest → ⊥) → false ≡ begins (d ++ 47 ∷ []) p
-begins_not d p h = (elim (begins (d ++ 47 ∷ []) p) as (λ b. begins (d ++ 47 ∷ []) p ≡ b → false ≡ b) [ true ↦ λ e. let r = front_of d p e in absurd (h r.0 r.1) | false ↦ λ e. refl ]) refl
+begins_not d p h = (elim (begins (d ++ 47 ∷ []) p) as (λ b. begins (d ++ 47 ∷ []) p ≡ b → false ≡ b)
+    [ true ↦ λ e. let r = front_of d p e in absurd (h r.0 r.1) | false ↦ λ e. refl ]) refl

@@ -4,4 +4,3 @@ pub mod Deleting
 pub mod Rising
 pub mod SamePartitions
 pub mod Falling
-mod Common

@@ -1,5 +1,13 @@
 -- Texts in order are told by which they are.
-use Rattle.conflict.proofs.Common.{Equal, Greater, IsIn, Less, List, Ordering, [], ap, inl, inr, insert_key, match_ordering, ordered, ordering_reverse, refl, subst, sym, text_cmp, text_exact, text_total, ℕ, ◌∙◌, ◌∷◌, ◌≡◌, ◌⊎◌}
+use Rattle.basics.proofs.Members.{text_exact}
+use Rattle.basics.specs.Members.{IsIn}
+use Rattle.basics.specs.Order.{text_cmp, text_total}
+use Rattle.job_protocol.specs.Outputs.{ordered}
+use Rattle.std.proofs.Common.{List, ap, inl, inr, refl, subst, sym, ℕ, [], ◌∙◌, ◌∷◌, ◌≡◌, ◌⊎◌}
+use Rattle.std.specs.BTreeSet.{insert_key}
+use Rattle.std.specs.Ordering.{match_ordering, ordering_reverse}
+use Rattle.std.specs.declared.cmp.Ordering.{Ordering}
+use Rattle.std.specs.declared.cmp.Ordering.TheVariants.{Equal, Greater, Less}
 
 abbrev Rises : List (List ℕ) → Type 0
 Rises [] = Unit {0}
@@ -9,7 +17,8 @@ turned : (x y : List ℕ) → text_cmp x y ≡ Greater → text_cmp y x ≡ Less
 turned x y e = text_total.antisymm y x ∙ ap ordering_reverse e
 
 not_self : (x : List ℕ) → text_cmp x x ≡ Less → ⊥
-not_self x e = (elim (text_cmp x x) as (λ o. o ≡ Less → o ≡ ordering_reverse o → ⊥) [ Less ↦ λ e g. cc | _ ↦ λ e g. cc ]) e (text_total.antisymm x x)
+not_self x e = (elim (text_cmp x x) as (λ o. o ≡ Less → o ≡ ordering_reverse o → ⊥) [ Less ↦ λ e g. cc | _ ↦ λ e g. cc ]) e
+    (text_total.antisymm x x)
 
 -- ---- one more in its place
 
@@ -18,7 +27,8 @@ inserted p [] k (inl e) = inl e
 inserted p [] k (inr i) = absurd i
 inserted p (x ∷ xs) k h = by (text_cmp k x) refl h (inserted p xs k)
   where
-    by : (o : Ordering) → text_cmp k x ≡ o → (p ≡ k) ⊎ ((p ≡ x) ⊎ IsIn p xs) → ((p ≡ k) ⊎ IsIn p xs → IsIn p (insert_key text_cmp xs k)) → IsIn p (match_ordering o (k ∷ x ∷ xs) (x ∷ xs) (x ∷ insert_key text_cmp xs k))
+    by : (o : Ordering) → text_cmp k x ≡ o → (p ≡ k) ⊎ ((p ≡ x) ⊎ IsIn p xs) → ((p ≡ k) ⊎ IsIn p xs → IsIn p (insert_key text_cmp xs k))
+        → IsIn p (match_ordering o (k ∷ x ∷ xs) (x ∷ xs) (x ∷ insert_key text_cmp xs k))
     by Less e h later = h
     by Equal e (inl is) later = inl (is ∙ text_exact k x e)
     by Equal e (inr i) later = i
@@ -30,7 +40,8 @@ from_insert : (p : List ℕ) (xs : List (List ℕ)) (k : List ℕ) → IsIn p (i
 from_insert p [] k h = h
 from_insert p (x ∷ xs) k h = by (text_cmp k x) h (from_insert p xs k)
   where
-    by : (o : Ordering) → IsIn p (match_ordering o (k ∷ x ∷ xs) (x ∷ xs) (x ∷ insert_key text_cmp xs k)) → (IsIn p (insert_key text_cmp xs k) → (p ≡ k) ⊎ IsIn p xs) → (p ≡ k) ⊎ ((p ≡ x) ⊎ IsIn p xs)
+    by : (o : Ordering) → IsIn p (match_ordering o (k ∷ x ∷ xs) (x ∷ xs) (x ∷ insert_key text_cmp xs k))
+        → (IsIn p (insert_key text_cmp xs k) → (p ≡ k) ⊎ IsIn p xs) → (p ≡ k) ⊎ ((p ≡ x) ⊎ IsIn p xs)
     by Less h later = h
     by Equal h later = inr h
     by Greater (inl e) later = inr (inl e)
@@ -40,10 +51,21 @@ insert_rises : (xs : List (List ℕ)) (k : List ℕ) → Rises xs → Rises (ins
 insert_rises [] k r = (λ y h. absurd h, tt)
 insert_rises (x ∷ xs) k r = by (text_cmp k x) refl r (insert_rises xs k)
   where
-    by : (o : Ordering) → text_cmp k x ≡ o → Rises (x ∷ xs) → (Rises xs → Rises (insert_key text_cmp xs k)) → Rises (match_ordering o (k ∷ x ∷ xs) (x ∷ xs) (x ∷ insert_key text_cmp xs k))
-    by Less e r later = (λ y h. elim h [ inl i ↦ subst (λ z. text_cmp k z ≡ Less) (sym i) e | inr i ↦ text_total.trans k x y e (r.0 y i) ], r)
+    by : (o : Ordering) → text_cmp k x ≡ o → Rises (x ∷ xs) → (Rises xs → Rises (insert_key text_cmp xs k))
+        → Rises (match_ordering o (k ∷ x ∷ xs) (x ∷ xs) (x ∷ insert_key text_cmp xs k))
+    by Less e r later = (
+      λ y h. elim h [ inl i ↦ subst (λ z. text_cmp k z ≡ Less) (sym i) e | inr i ↦ text_total.trans k x y e (r.0 y i) ],
+      r,
+    )
     by Equal e r later = r
-    by Greater e r later = (λ y h. elim (from_insert y xs k h) [ inl i ↦ subst (λ z. text_cmp x z ≡ Less) (sym i) (turned k x e) | inr i ↦ r.0 y i ], later r.1)
+    by Greater e r later = (
+      λ y h. elim (from_insert y xs k h) [
+        | inl i ↦ subst (λ z. text_cmp x z ≡ Less) (sym i) (turned k x e)
+        | inr i ↦
+            r.0 y i
+      ],
+      later r.1,
+    )
 
 -- ---- all in their places
 
@@ -72,7 +94,11 @@ Within xs ys = (p : List ℕ) → IsIn p xs → IsIn p ys
 
 -- what is behind the first of the one is behind the first of the other
 rest_within : (x y : List ℕ) (xs ys : List (List ℕ)) → x ≡ y → Rises (x ∷ xs) → Within (x ∷ xs) (y ∷ ys) → Within xs ys
-rest_within x y xs ys e r h p i = elim (h p (inr i)) [ inr m ↦ m | inl is ↦ absurd (not_self x (subst (λ z. text_cmp x z ≡ Less) (is ∙ sym e) (r.0 p i))) ]
+rest_within x y xs ys e r h p i = elim (h p (inr i)) [
+  | inr m ↦ m
+  | inl is ↦ absurd
+      (not_self x (subst (λ z. text_cmp x z ≡ Less) (is ∙ sym e) (r.0 p i)))
+]
 
 same_rising : (xs ys : List (List ℕ)) → Rises xs → Rises ys → Within xs ys → Within ys xs → xs ≡ ys
 same_rising [] [] r q h g = refl
@@ -82,7 +108,8 @@ same_rising (x ∷ xs) (y ∷ ys) r q h g =
     let e : x ≡ y = first_same x y xs ys r q (h x (inl refl)) (g y (inl refl)) in
     ap (λ z. z ∷ xs) e ∙ ap (λ l. y ∷ l) (same_rising xs ys r.1 q.1 (rest_within x y xs ys e r h) (rest_within y x ys xs (sym e) q g))
 
-pub ordered_same : (xs ys : List (List ℕ)) → ((p : List ℕ) → IsIn p xs → IsIn p ys) → ((p : List ℕ) → IsIn p ys → IsIn p xs) → ordered xs ≡ ordered ys
+pub ordered_same : (xs ys : List (List ℕ)) → ((p : List ℕ) → IsIn p xs → IsIn p ys) → ((p : List ℕ) → IsIn p ys → IsIn p xs)
+    → ordered xs ≡ ordered ys
 ordered_same xs ys h g =
     same_rising (ordered xs) (ordered ys) (ordered_rises xs) (ordered_rises ys)
     (λ p i. in_ordered p ys (h p (from_ordered p xs i)))

@@ -1,11 +1,15 @@
 -- The partitions of paths are told by which paths they are.
-use Rattle.conflict.proofs.Common.{IsIn, List, None, Option, Some, [], ap, dir_of, dirs_of, inl, inr, ordered, partitions, refl, subst, sym, with_dir, ℕ, ◌∙◌, ◌∷◌, ◌≡◌}
-use Rattle.conflict.proofs.Rising.{in_ordered, from_ordered, ordered_same}
+use Rattle.basics.specs.Members.{IsIn}
+use Rattle.conflict.proofs.Rising.{from_ordered, in_ordered, ordered_same}
+use Rattle.job_protocol.specs.Conflicts.{dir_of, dirs_of, partitions, with_dir}
+use Rattle.job_protocol.specs.Outputs.{ordered}
+use Rattle.std.proofs.Common.{List, None, Option, Some, ap, inl, inr, refl, subst, sym, ℕ, [], ◌∙◌, ◌∷◌, ◌≡◌}
 
 dir_in : (d p : List ℕ) (ps : List (List ℕ)) → IsIn p ps → dir_of p ≡ Some d → IsIn d (dirs_of ps)
 dir_in d p [] i e = absurd i
 dir_in d p (q ∷ ps) (inl is) e = subst (λ o. IsIn d (with_dir o (dirs_of ps))) (sym e ∙ ap dir_of is) (inl refl)
-dir_in d p (q ∷ ps) (inr i) e = (elim (dir_of q) as (λ o. IsIn d (dirs_of ps) → IsIn d (with_dir o (dirs_of ps))) [ Some x ↦ λ h. inr h | None ↦ λ h. h ]) (dir_in d p ps i e)
+dir_in d p (q ∷ ps) (inr i) e = (elim (dir_of q) as (λ o. IsIn d (dirs_of ps) → IsIn d (with_dir o (dirs_of ps)))
+    [ Some x ↦ λ h. inr h | None ↦ λ h. h ]) (dir_in d p ps i e)
 
 -- a directory is that of some of the paths
 record Holder (d : List ℕ) (ps : List (List ℕ)) : Type 0 where
@@ -30,4 +34,5 @@ dirs_within xs ys h d i = let x = holder d xs i in dir_in d x.path ys (h x.path 
 
 pub partitions_of_ordered : (ps : List (List ℕ)) → partitions (ordered ps) ≡ partitions ps
 partitions_of_ordered ps =
-    ordered_same (dirs_of (ordered ps)) (dirs_of ps) (dirs_within (ordered ps) ps (λ p i. from_ordered p ps i)) (dirs_within ps (ordered ps) (λ p i. in_ordered p ps i))
+    ordered_same (dirs_of (ordered ps)) (dirs_of ps) (dirs_within (ordered ps) ps (λ p i. from_ordered p ps i))
+    (dirs_within ps (ordered ps) (λ p i. in_ordered p ps i))

@@ -1,12 +1,19 @@
 -- How a check before a commit stands.
-use Rattle.std.specs.Prelude.{◌≡◌, ℕ, List, [], ◌∷◌, Option, Some, None, is_none, is_some}
-use Rattle.std.proofs.Common.{refl}
-use Rattle.job_protocol.specs.Prelude.{Request, PageEntry, Reply, Page, Script, job_script, Walked, More, Whole, keys_on, first_shown}
-use Rattle.machine.specs.Prelude.{AskLaws, Fine}
-use Rattle.list_walk.specs.Walks.{walked}
-use Rattle.job_protocol.specs.Rechecks.{Check, Looking, Probing, CheckOver, probing, check_asks, check_over, looked, probed, check_hears}
-use Rattle.conflict.specs.Rechecks.{check_wants, check_told}
 use Rattle.conflict.specs.Fits.{FitsCheck, standing, standing_of}
+use Rattle.conflict.specs.Rechecks.{check_told, check_wants}
+use Rattle.job_model.specs.JobScript.{Script}
+use Rattle.job_protocol.specs.AtWork.{job_script}
+use Rattle.job_protocol.specs.Rechecks.{Check, CheckOver, Looking, Probing, check_asks, check_hears, check_over, looked, probed, probing}
+use Rattle.job_protocol.specs.Setup.{first_shown}
+use Rattle.list_walk.specs.Walks.{More, Walked, Whole, keys_on, walked}
+use Rattle.machine.specs.Asks.{AskLaws}
+use Rattle.machine.specs.Standing.{Fine}
+use Rattle.s3_types.specs.declared.reply.PageEntry.{PageEntry}
+use Rattle.s3_types.specs.declared.reply.Reply.{Reply}
+use Rattle.s3_types.specs.declared.reply.Reply.TheVariants.{Page}
+use Rattle.s3_types.specs.declared.request.Request.{Request}
+use Rattle.std.proofs.Common.{refl}
+use Rattle.std.specs.Prelude.{List, None, Option, Some, is_none, is_some, ℕ, [], ◌∷◌, ◌≡◌}
 
 fine_by : (o : Option (List ℕ)) (x : Walked (List ℕ)) → standing_of (looked o x) ≡ Fine
 fine_by (Some p) x = refl

@@ -1,6 +1,10 @@
 -- A look for keys below partitions, by the partitions that are left to look at.
-use Rattle.std.specs.Prelude.{ℕ, Bool, true, false, List, [], ◌∷◌, ◌++◌, codes, Option, Some, None}
-use Rattle.job_protocol.specs.Prelude.{Request, ListPage, Reply, Page, Path, below}
+use Rattle.path_keys.specs.Paths.{Path, below}
+use Rattle.s3_types.specs.declared.reply.Reply.{Reply}
+use Rattle.s3_types.specs.declared.reply.Reply.TheVariants.{Page}
+use Rattle.s3_types.specs.declared.request.Request.{Request}
+use Rattle.s3_types.specs.declared.request.Request.TheVariants.{ListPage}
+use Rattle.std.specs.Prelude.{Bool, List, None, Option, Some, codes, false, true, ℕ, [], ◌++◌, ◌∷◌}
 
 -- one key below the first of them
 abbrev pub check_asks : Path → List (List ℕ) → Option Request

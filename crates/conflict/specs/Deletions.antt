@@ -1,6 +1,14 @@
 -- The deletion of what a replace mode does not keep, by the prefixes below which it still deletes.
-use Rattle.std.specs.Prelude.{ℕ, not, List, [], ◌∷◌, ◌++◌, codes, Option, Some, None}
-use Rattle.job_protocol.specs.Prelude.{begins, Request, Committer, Replace, displaced, emptied, Reply, Path, Sweep, sweep_start, sweep_asks, sweep_hears, FitsSweep}
+use Rattle.job_protocol.specs.Conflicts.{displaced, emptied}
+use Rattle.list_walk.specs.Fitting.{FitsSweep}
+use Rattle.list_walk.specs.Walks.{Sweep, sweep_asks, sweep_hears, sweep_start}
+use Rattle.path_keys.specs.Paths.{Path}
+use Rattle.s3_types.specs.Pages.{begins}
+use Rattle.s3_types.specs.declared.reply.Reply.{Reply}
+use Rattle.s3_types.specs.declared.request.Committer.{Committer}
+use Rattle.s3_types.specs.declared.request.Mode.TheVariants.{Replace}
+use Rattle.s3_types.specs.declared.request.Request.{Request}
+use Rattle.std.specs.Prelude.{List, None, Option, Some, codes, not, ℕ, [], ◌++◌, ◌∷◌}
 
 -- the prefixes, the sweep below the first of them, and the prefix of the keys that stay
 pub record Deletion : Type 0 where

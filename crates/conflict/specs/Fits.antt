@@ -1,11 +1,13 @@
 -- The replies that fit a check before a commit, and how it stands.
-use Rattle.std.specs.Prelude.{◌≡◌, Bool, false}
-use Rattle.job_protocol.specs.Prelude.{Reply, lacks_bucket, FitsPage}
-use Rattle.machine.specs.Prelude.{Standing, Fine, Faulted, Broken}
-use Rattle.job_model.specs.declared.ends.CheckEnd.{CheckEnd}
-use Rattle.job_model.specs.declared.ends.CheckEnd.TheVariants.{StoreFault, NoMemory}
-use Rattle.job_protocol.specs.Rechecks.{Check, Looking, Probing, CheckOver}
 use Rattle.conflict.specs.Rechecks.{PlannedCheck}
+use Rattle.job_model.specs.declared.ends.CheckEnd.{CheckEnd}
+use Rattle.job_model.specs.declared.ends.CheckEnd.TheVariants.{NoMemory, StoreFault}
+use Rattle.job_protocol.specs.Rechecks.{Check, CheckOver, Looking, Probing}
+use Rattle.job_protocol.specs.Setup.{lacks_bucket}
+use Rattle.list_walk.specs.Fitting.{FitsPage}
+use Rattle.machine.specs.Standing.{Broken, Faulted, Fine, Standing}
+use Rattle.s3_types.specs.declared.reply.Reply.{Reply}
+use Rattle.std.specs.Prelude.{Bool, false, ◌≡◌}
 
 -- the bucket is there, and where it lists, a page that is not folded has keys alone
 abbrev pub FitsLook : Check → Reply → Type 0

@@ -1,11 +1,11 @@
 -- A check before a commit as it is kept.
-use Rattle.std.specs.Prelude.{ℕ, List, [], ◌∷◌, Option, Some, None}
-use Rattle.job_protocol.specs.Prelude.{keys_on}
-use Rattle.job_model.specs.declared.ends.CheckEnd.{CheckEnd}
-use Rattle.job_model.specs.declared.ends.CheckEnd.TheVariants as ends
-use Rattle.job_protocol.specs.Rechecks.{Check, Looking, Probing, CheckOver, probing}
 use Rattle.conflict.specs.declared.held.Held.{Held}
 use Rattle.conflict.specs.declared.held.Stage.{Stage}
+use Rattle.job_model.specs.declared.ends.CheckEnd.{CheckEnd}
+use Rattle.job_protocol.specs.Rechecks.{Check, CheckOver, Looking, Probing, probing}
+use Rattle.list_walk.specs.Walks.{keys_on}
+use Rattle.std.specs.Prelude.{List, None, Option, Some, ℕ, [], ◌∷◌}
+use Rattle.job_model.specs.declared.ends.CheckEnd.TheVariants as ends
 use Rattle.conflict.specs.declared.held.Stage.TheVariants as stages
 
 -- the next of these partitions is looked at; behind the last one it ends so

@@ -1,12 +1,22 @@
 -- Checks and deletions beside the operations that hold them.
-use Rattle.std.specs.Prelude.{◌≡◌, ℕ, Bool, List, [], ◌∷◌, Option, Some, None}
-use Rattle.job_protocol.specs.Prelude.{FallsAmong, Replace, Reply, Who, Known, Script, Picks, ordered, wanted_paths, partitions, Sweep, sweep_start, TaskCommit, Checking, TaskCommitOver, checking, task_commit_asks, task_commit_hears, Sets, Commit, Replacing, replaced, replacing, commit_asks, commit_hears}
-use Rattle.job_model.specs.declared.ends.TaskEnd.TheVariants as ends
 use Rattle.conflict.specs.Checks.{check_asks, found_below, left_after}
-use Rattle.conflict.specs.Deletions.{Deletion, deleted, spared, deletion_asks, deletion_hears}
-use Rattle.conflict.specs.Rechecks.{check_wants, check_told}
+use Rattle.conflict.specs.Deletions.{Deletion, deleted, deletion_asks, deletion_hears, spared}
 use Rattle.conflict.specs.Fits.{FitsCheck}
 use Rattle.conflict.specs.Left.{check_left}
+use Rattle.conflict.specs.Rechecks.{check_told, check_wants}
+use Rattle.job_model.specs.Attempts.{Who}
+use Rattle.job_model.specs.JobScript.{Script}
+use Rattle.job_model.specs.Known.{Known}
+use Rattle.job_protocol.specs.Conflicts.{partitions}
+use Rattle.job_protocol.specs.JobCommits.{Commit, Replacing, Sets, commit_asks, commit_hears, replaced, replacing}
+use Rattle.job_protocol.specs.Measures.{FallsAmong}
+use Rattle.job_protocol.specs.Outputs.{Picks, ordered, wanted_paths}
+use Rattle.job_protocol.specs.TaskCommits.{Checking, TaskCommit, TaskCommitOver, checking, task_commit_asks, task_commit_hears}
+use Rattle.list_walk.specs.Walks.{Sweep, sweep_start}
+use Rattle.s3_types.specs.declared.reply.Reply.{Reply}
+use Rattle.s3_types.specs.declared.request.Mode.TheVariants.{Replace}
+use Rattle.std.specs.Prelude.{Bool, List, None, Option, Some, ℕ, [], ◌∷◌, ◌≡◌}
+use Rattle.job_model.specs.declared.ends.TaskEnd.TheVariants as ends
 
 -- ---- partitions
 
@@ -23,7 +33,8 @@ commit_after_check w a None ds = checking w a ds
 
 -- the checks of partitions are those of a task's commit
 pub record ChecksTell : Type 0 where
-  pub asks : (w : Script) (a : Who) (k : Known) (d : List ℕ) (ds : List (List ℕ)) → task_commit_asks w a k (Checking d ds) ≡ check_asks w.dest (d ∷ ds)
+  pub asks : (w : Script) (a : Who) (k : Known) (d : List ℕ) (ds : List (List ℕ))
+      → task_commit_asks w a k (Checking d ds) ≡ check_asks w.dest (d ∷ ds)
   pub goes : (w : Script) (minimum : ℕ) (a : Who) (d : List ℕ) (ds : List (List ℕ)) (r : Reply) (repeated : Bool)
       → task_commit_hears w minimum a (Checking d ds) r repeated ≡ commit_after_check w a (found_below (d ∷ ds) r) (left_after (d ∷ ds) r)
 
@@ -45,10 +56,14 @@ deletion_of w prefixes sweep = record { prefixes = prefixes; sweep = sweep; spar
 -- the deletions of a replace mode are those of a job's commit
 pub record DeletionsTell : Type 0 where
   -- it deletes below the prefixes that the mode does not keep
-  pub prefixes : (w : Script) (picks : Picks) → w.mode ≡ Replace → replaced w.committer w.mode w picks ≡ deleted w.committer w.dest (partitions (wanted_paths w picks))
-  pub starts : (w : Script) (sets : Sets) (prefixes : List (List ℕ)) → replacing w sets prefixes ≡ commit_deleting w sets (deletion_of w prefixes sweep_start)
-  pub asks : (w : Script) (sets : Sets) (p : List ℕ) (ps : List (List ℕ)) (sweep : Sweep) (missed : ℕ) → commit_asks w (Replacing sets p ps sweep missed) ≡ deletion_asks w.dest.bucket (deletion_of w (p ∷ ps) sweep)
-  pub goes : (w : Script) (sets : Sets) (p : List ℕ) (ps : List (List ℕ)) (sweep : Sweep) (missed : ℕ) (r : Reply) → commit_hears w (Replacing sets p ps sweep missed) r ≡ commit_deleting w sets (deletion_hears (deletion_of w (p ∷ ps) sweep) r)
+  pub prefixes : (w : Script) (picks : Picks) → w.mode ≡ Replace
+      → replaced w.committer w.mode w picks ≡ deleted w.committer w.dest (partitions (wanted_paths w picks))
+  pub starts : (w : Script) (sets : Sets) (prefixes : List (List ℕ))
+      → replacing w sets prefixes ≡ commit_deleting w sets (deletion_of w prefixes sweep_start)
+  pub asks : (w : Script) (sets : Sets) (p : List ℕ) (ps : List (List ℕ)) (sweep : Sweep) (missed : ℕ)
+      → commit_asks w (Replacing sets p ps sweep missed) ≡ deletion_asks w.dest.bucket (deletion_of w (p ∷ ps) sweep)
+  pub goes : (w : Script) (sets : Sets) (p : List ℕ) (ps : List (List ℕ)) (sweep : Sweep) (missed : ℕ) (r : Reply)
+      → commit_hears w (Replacing sets p ps sweep missed) r ≡ commit_deleting w sets (deletion_hears (deletion_of w (p ∷ ps) sweep) r)
 
 -- ---- a check before a commit among others
 

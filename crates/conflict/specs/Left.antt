@@ -1,8 +1,10 @@
 -- What a check before a commit has left in a scene.
-use Rattle.std.specs.Prelude.{ℕ, ◌+◌, ◌++◌, length, codes}
-use Rattle.job_protocol.specs.Prelude.{Scene, Job, walk_left}
-use Rattle.job_protocol.specs.Rechecks.{Check, Looking, Probing, CheckOver}
 use Rattle.conflict.specs.Rechecks.{PlannedCheck}
+use Rattle.job_model.specs.Jobs.{Job}
+use Rattle.job_protocol.specs.Rechecks.{Check, CheckOver, Looking, Probing}
+use Rattle.list_walk.specs.Left.{walk_left}
+use Rattle.s3_types.specs.Store.{Scene}
+use Rattle.std.specs.Prelude.{codes, length, ℕ, ◌++◌, ◌+◌}
 
 -- the requests that a check has yet to send: the pages, or one for each partition
 abbrev pub left_at : Job → Check → Scene → ℕ

@@ -1,6 +1,7 @@
 -- Partitions one by one.
-use Rattle.std.specs.Prelude.{ℕ, List, Option, Some, None}
-use Rattle.job_protocol.specs.Prelude.{insert_key, text_cmp}
+use Rattle.basics.specs.Order.{text_cmp}
+use Rattle.std.specs.BTreeSet.{insert_key}
+use Rattle.std.specs.Prelude.{List, None, Option, Some, ℕ}
 
 -- partitions with one more, where there is one
 abbrev pub with_partition : Option (List ℕ) → List (List ℕ) → List (List ℕ)

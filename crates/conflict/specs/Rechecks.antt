@@ -1,8 +1,11 @@
 -- The check before a commit at a shared destination, beside the plan that it goes by.
-use Rattle.std.specs.Prelude.{Option}
-use Rattle.job_protocol.specs.Prelude.{Request, Item, job_script, checks_all, checks_partitions}
-use Rattle.job_protocol.specs.Rechecks.{Check, check_by, check_asks, check_after}
 use Rattle.conflict.specs.declared.check_plan.CheckPlan.{CheckPlan}
+use Rattle.job_protocol.specs.AtWork.{job_script}
+use Rattle.job_protocol.specs.Conflicts.{checks_all, checks_partitions}
+use Rattle.job_protocol.specs.Rechecks.{Check, check_after, check_asks, check_by}
+use Rattle.retries.specs.Retries.{Item}
+use Rattle.s3_types.specs.declared.request.Request.{Request}
+use Rattle.std.specs.Prelude.{Option}
 
 -- a check and its plan
 pub record PlannedCheck : Type 0 where

@@ -1,27 +1,44 @@
 -- The stages of a copy keep what they promise.
-use Rattle.std.specs.Prelude.{◌≡◌, ℕ, List, [], ◌∷◌, drop, Ok, Err}
-use Rattle.copy_tree.proofs.Common.{Answer, Copies, CopiesTree, Copy, CopyCount, CopyPaths, CopyStage, Differs, Goes, Here, IsCopiedInPart, IsOverlap, IsPhases, MayAsk, MayCopy, MayStandCopied, NoSuchBucket, Objects, OtherBucket, Overlap, Source, Stands, Target, always, arith, asks, edited, first, gives, goes, holds, inl, inr, left, looks_there, none_some, on, refl, reply_in, sends, subst, sym, ◌∙◌}
-use Rattle.std.specs.FinMap as fin
-use Rattle.fs_ops.proofs.StepLaws.{phases_of}
-use Rattle.copy_tree.proofs.Moved.{is_new}
-use Rattle.copy_tree.proofs.MoveLaws.{in_part}
-use Rattle.copy_tree.proofs.StepLaws.{each, reads, sent_copy}
+use Rattle.basics.proofs.Members.{none_some}
+use Rattle.bucket_ops.specs.Asks.{edited, reply_in}
+use Rattle.bucket_ops.specs.Phases.{IsPhases, MayAsk}
 use Rattle.copy_tree.proofs.FallLaws.{falls, stays}
+use Rattle.copy_tree.proofs.MoveLaws.{in_part}
+use Rattle.copy_tree.proofs.Moved.{is_new}
+use Rattle.copy_tree.proofs.StepLaws.{each, reads, sent_copy}
+use Rattle.copy_tree.specs.code.Copy.{Answer, CopyPaths, asks, first, goes, on}
+use Rattle.copy_tree.specs.code.Meaning.{always, gives, holds, left, sends}
+use Rattle.copy_tree.specs.declared.stages.CopyStage.{CopyStage}
+use Rattle.copy_tree.specs.declared.stages.CopyStage.TheVariants.{Copy, Here, Source, Target}
+use Rattle.fs_ops.proofs.AtPathLaws.{looks_there}
+use Rattle.fs_ops.proofs.StepLaws.{phases_of}
+use Rattle.fs_tree.specs.Copies.{Copies, CopiesTree, IsCopiedInPart, IsOverlap, MayCopy, MayStandCopied}
+use Rattle.fs_tree.specs.Tree.{Stands}
+use Rattle.fs_tree.specs.declared.copy.CopyCount.{CopyCount}
+use Rattle.fs_tree.specs.declared.copy.CopyRefusal.TheVariants.{Differs, NoSuchBucket, OtherBucket, Overlap}
+use Rattle.operations.specs.Plans.{Goes}
+use Rattle.s3_types.specs.Store.{Objects}
+use Rattle.std.proofs.Common.{arith, inl, inr, refl, subst, sym, ◌∙◌}
+use Rattle.std.specs.Prelude.{Err, List, Ok, drop, ℕ, [], ◌∷◌, ◌≡◌}
+use Rattle.std.specs.FinMap as fin
 
 -- ---- where one path is a root, the first look ends it
 
 abbrev On : CopyPaths → Objects → CopyStage → Objects → Type 0
 On o z s m = Goes (holds o z) (gives o z) (on o s (reply_in m (asks o s))) (edited (asks o s) m)
 
-at_root : (o : CopyPaths) (z : Objects) → IsOverlap o.source o.target → ((m : Objects) → m ≡ z → On o z Here m) → (s : CopyStage) (m : Objects) → holds o z s m → On o z s m
+at_root : (o : CopyPaths) (z : Objects) → IsOverlap o.source o.target → ((m : Objects) → m ≡ z → On o z Here m)
+    → (s : CopyStage) (m : Objects) → holds o z s m → On o z s m
 at_root o z h g s m e = grind arith
 
-steps : (p t : List ℕ) (z : Objects) (s : CopyStage) (m : Objects) → holds (record { source = p; target = t }) z s m → On (record { source = p; target = t }) z s m
+steps : (p t : List ℕ) (z : Objects) (s : CopyStage) (m : Objects) → holds (record { source = p; target = t }) z s m
+    → On (record { source = p; target = t }) z s m
 steps [] t z s m h = at_root (record { source = []; target = t }) z (inl refl) (λ m h. (inl refl, h)) s m h
 steps (x ∷ p) [] z s m h = at_root (record { source = x ∷ p; target = [] }) z (inr refl) (λ m h. (inr refl, h)) s m h
 steps (x ∷ p) (y ∷ t) z s m h = each z x p y t s m h
 
-asks_at : (p t : List ℕ) (z : Objects) (s : CopyStage) (m : Objects) → holds (record { source = p; target = t }) z s m → sends (record { source = p; target = t }) z (asks (record { source = p; target = t }) s)
+asks_at : (p t : List ℕ) (z : Objects) (s : CopyStage) (m : Objects) → holds (record { source = p; target = t }) z s m
+    → sends (record { source = p; target = t }) z (asks (record { source = p; target = t }) s)
 asks_at p t z Here m h = inl (looks_there p)
 asks_at p t z (Source c n) m h = inl (reads (drop n c.stood))
 asks_at p t z (Target c n b g) m h = inl (reads (drop n c.stood_at))
@@ -32,7 +49,8 @@ asks_at p t z _ m h = inl refl
 
 -- ---- at any moment
 
-during : (p t : List ℕ) (z : Objects) (s : CopyStage) (m : Objects) → holds (record { source = p; target = t }) z s m → MayStandCopied p t z m
+during : (p t : List ℕ) (z : Objects) (s : CopyStage) (m : Objects) → holds (record { source = p; target = t }) z s m
+    → MayStandCopied p t z m
 during p t z Here m h = inl h
 during [] t z (Copy c count) m h = absurd (h.0.place.source.apart (inl refl))
 during (x ∷ p) [] z (Copy c count) m h = absurd (h.0.place.source.apart (inr refl))
@@ -42,7 +60,8 @@ during p t z _ m h = inl h.0
 
 -- ---- at the end
 
-module _ (x : ℕ) (p : List ℕ) (y : ℕ) (t : List ℕ) (z m : Objects) (count : CopyCount) (h : MayCopy z (x ∷ p) (y ∷ t)) (g : CopiesTree (x ∷ p) (y ∷ t) z count m) where
+module _ (x : ℕ) (p : List ℕ) (y : ℕ) (t : List ℕ) (z m : Objects) (count : CopyCount) (h : MayCopy z (x ∷ p) (y ∷ t))
+    (g : CopiesTree (x ∷ p) (y ∷ t) z count m) where
   old_stays : (q : List ℕ) → Stands z q → fin.get m q ≡ fin.get z q
   old_stays q s = elim (is_new x p y t z q h.place.source.directory) [
     | inl w ↦ elim (h.agree w.0 q w.1) [ inl n ↦ absurd (none_some n s.1) | inr e ↦ g.copies w.0 q w.1 ∙ sym e ]

@@ -1,13 +1,19 @@
 -- What the copy of a tree has done.
-use Rattle.copy_tree.proofs.Common.{Actor, AlwaysIn, Err, IfOk, List, NoSuchBucket, None, Objects, OtherBucket, Performed, Result, Scene}
-use Rattle.copy_tree.proofs.Common.{Seen, SendsIn, all_below, always, arith, climb, gives, left, length, prefix_of, sends, subst, ℕ, ◌≡◌}
-use Rattle.std.specs.Prelude.{◌+◌, ◌*◌, ◌≤◌, Option, Some}
-use Rattle.bucket_ops.specs.Prelude.{DriveStop}
 use Rattle.bucket_ops.specs.Asks.{objects_at}
-use Rattle.bucket_ops.specs.Phases.{left_at}
-use Rattle.fs_rename.specs.Between.{Route, GivesBetween, most_in}
-use Rattle.copy_tree.specs.code.Copy.{CopyPaths, Answer, first as first_stage, asks}
-use Rattle.copy_tree.specs.Public.{CopiesIn, StandsCopied, CopySends, most_copies}
+use Rattle.bucket_ops.specs.Phases.{AlwaysIn, SendsIn, left_at}
+use Rattle.bucket_ops.specs.Walking.{all_below}
+use Rattle.copy_tree.specs.Public.{CopiesIn, CopySends, StandsCopied, most_copies}
+use Rattle.copy_tree.specs.code.Copy.{Answer, CopyPaths, asks, climb, first as first_stage}
+use Rattle.copy_tree.specs.code.Meaning.{always, gives, left, sends}
+use Rattle.fs_ops.specs.Places.{prefix_of}
+use Rattle.fs_rename.specs.Between.{GivesBetween, Route, most_in}
+use Rattle.fs_tree.specs.declared.copy.CopyRefusal.TheVariants.{NoSuchBucket, OtherBucket}
+use Rattle.machine.specs.declared.driving.DriveStop.{DriveStop}
+use Rattle.operations.specs.Performed.{Performed, Seen}
+use Rattle.s3_types.specs.Store.{Objects, Scene}
+use Rattle.s3_types.specs.declared.request.Actor.{Actor}
+use Rattle.std.proofs.Common.{Err, IfOk, List, None, Result, arith, length, subst, ℕ, ◌≡◌}
+use Rattle.std.specs.Prelude.{Option, Some, ◌*◌, ◌+◌, ◌≤◌}
 
 -- what a copy is kept as
 abbrev kept : List ℕ → CopyPaths → List ℕ → Route
@@ -19,9 +25,11 @@ given_in b o c r z s result e h = subst (λ (r : Route). IfOk result (λ a. Copi
 
 module _ {A : Type 0} {actor : Actor} {event retries : ℕ} {old new : Seen} {result : Result A DriveStop} where
   pub performed_in : (b : List ℕ) (o : CopyPaths) (c : List ℕ) (r : Route) → kept b o c ≡ r
-      → Performed actor event retries (AlwaysIn b (always o) old.scene) (SendsIn b (asks o (first_stage o)) (sends o) old.scene) old new result
+      → Performed actor event retries (AlwaysIn b (always o) old.scene) (SendsIn b (asks o (first_stage o)) (sends o) old.scene) old new
+      result
       → Performed actor event retries (StandsCopied r old.scene) (CopySends r old.scene) old new result
-  performed_in b o c r e h = subst (λ (r : Route). Performed actor event retries (StandsCopied r old.scene) (CopySends r old.scene) old new result) e h
+  performed_in b o c r e h = subst (λ (r : Route). Performed actor event retries (StandsCopied r old.scene) (CopySends r old.scene) old new
+      result) e h
 
 -- ---- how many requests it sends
 

@@ -6,4 +6,3 @@ pub mod MoveLaws
 pub mod Moved
 pub mod PartLaws
 pub mod StepLaws
-mod Common

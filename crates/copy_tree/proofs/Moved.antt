@@ -1,9 +1,21 @@
 -- The moves of a directory to a place, where neither path is the other or below it.
-use Rattle.std.specs.Prelude.{◌≡◌, ◌⊎◌, ℕ, ◌+◌, ◌≤◌, true, List, [], ◌∷◌, ◌++◌, length, Some, None}
-use Rattle.copy_tree.proofs.Common.{IsDirectory, IsIn, IsMove, IsOverlap, Object, Objects, Stands, ap, append_cancel_left, arith, begins, false≢true, in_append, inl, inr, keys_above, length-append, marker_of, none_or_some, none_some, refl, rest_after, sym, to_target, true_or_false, ◌∙◌}
-use Rattle.std.specs.FinMap as fin
-use Rattle.fs_tree.proofs.Begins.{begins_more, begins_trans, begins_marker, begins_length, one_begins}
+use Rattle.basics.proofs.Members.{in_append, none_or_some, none_some, true_or_false}
+use Rattle.basics.specs.Members.{IsIn}
+use Rattle.dir_markers.specs.Markers.{keys_above, marker_of}
 use Rattle.fs_tree.proofs.Above.{above_begins}
+use Rattle.fs_tree.proofs.Begins.{begins_length, begins_marker, begins_more, begins_trans, one_begins}
+use Rattle.fs_tree.proofs.Moving.{rest_after}
+use Rattle.fs_tree.specs.Copies.{IsOverlap, to_target}
+use Rattle.fs_tree.specs.Moves.{IsMove}
+use Rattle.fs_tree.specs.Tree.{IsDirectory, Stands}
+use Rattle.s3_types.specs.Pages.{begins}
+use Rattle.s3_types.specs.Store.{Objects}
+use Rattle.s3_types.specs.declared.object.Object.{Object}
+use Rattle.std.proofs.Common.{ap, arith, inl, inr, length-append, refl, sym, ◌∙◌}
+use Rattle.std.proofs.lemmas.Bool.{false≢true}
+use Rattle.std.proofs.lemmas.List.{append_cancel_left}
+use Rattle.std.specs.Prelude.{List, None, Some, length, true, ℕ, [], ◌++◌, ◌+◌, ◌∷◌, ◌≡◌, ◌≤◌, ◌⊎◌}
+use Rattle.std.specs.FinMap as fin
 
 -- a key and its new key have the same rest behind the markers of their directories
 abbrev pub SameRest : List ℕ → List ℕ → List ℕ → List ℕ → Type 0
@@ -20,21 +32,25 @@ module _ (x : ℕ) (p : List ℕ) (y : ℕ) (t : List ℕ) where
   Q = marker_of (y ∷ t)
 
   -- a move of a directory is of a key that stands below it
-  pub moved_rest : (z : Objects) (k l : List ℕ) → IsDirectory z (x ∷ p) → IsMove z (x ∷ p) (y ∷ t) k l → Stands z k × SameRest (x ∷ p) (y ∷ t) k l
+  pub moved_rest : (z : Objects) (k l : List ℕ) → IsDirectory z (x ∷ p) → IsMove z (x ∷ p) (y ∷ t) k l → Stands z k
+      × SameRest (x ∷ p) (y ∷ t) k l
   moved_rest z k l h g = grind arith
 
-  pub is_move : (z : Objects) (k l : List ℕ) → IsDirectory z (x ∷ p) → Stands z k → SameRest (x ∷ p) (y ∷ t) k l → IsMove z (x ∷ p) (y ∷ t) k l
+  pub is_move : (z : Objects) (k l : List ℕ) → IsDirectory z (x ∷ p) → Stands z k → SameRest (x ∷ p) (y ∷ t) k l
+      → IsMove z (x ∷ p) (y ∷ t) k l
   is_move z k l h s r = inr (h, s, r)
 
   pub move_below : (z : Objects) (k l : List ℕ) → IsDirectory z (x ∷ p) → IsMove z (x ∷ p) (y ∷ t) k l → begins Q l ≡ true
   move_below z k l h m = let r = (moved_rest z k l h m).1 in begins_rest Q l r.0 r.2
 
   -- a new key is that of one key
-  pub one_source : (z : Objects) (k j l : List ℕ) → IsDirectory z (x ∷ p) → IsMove z (x ∷ p) (y ∷ t) k l → IsMove z (x ∷ p) (y ∷ t) j l → k ≡ j
+  pub one_source : (z : Objects) (k j l : List ℕ) → IsDirectory z (x ∷ p) → IsMove z (x ∷ p) (y ∷ t) k l → IsMove z (x ∷ p) (y ∷ t) j l
+      → k ≡ j
   one_source z k j l h g e = grind (arith, moved_rest, append_cancel_left)
 
   -- a key is a new key or not
-  pub is_new : (z : Objects) (q : List ℕ) → IsDirectory z (x ∷ p) → ((k : List ℕ) × IsMove z (x ∷ p) (y ∷ t) k q) ⊎ ((k : List ℕ) → IsMove z (x ∷ p) (y ∷ t) k q → ⊥)
+  pub is_new : (z : Objects) (q : List ℕ) → IsDirectory z (x ∷ p) → ((k : List ℕ) × IsMove z (x ∷ p) (y ∷ t) k q)
+      ⊎ ((k : List ℕ) → IsMove z (x ∷ p) (y ∷ t) k q → ⊥)
   is_new z q h = elim (true_or_false (begins Q q)) [
     | inl b ↦ let r = rest_after Q q b in at r.0 r.1 (none_or_some (fin.get z (P ++ r.0)))
     | inr f ↦ inr (λ k m. false≢true (sym f ∙ move_below z k q h m))

@@ -1,18 +1,55 @@
 -- A copy goes on, stage by stage.
-use Rattle.std.specs.Prelude.{◌≡◌, ◌⊎◌, ℕ, zero, suc, ◌+◌, ◌<◌, ◌≤◌, ◌||◌, ◌&&◌, nat_lt, Bool, true, false, cond, List, [], ◌∷◌, ◌++◌, length, drop, Option, Some, None, Result, Ok, Err}
-use Rattle.copy_tree.proofs.Common.{Climbed, CopiesTree, Copy, CopyCount, CopyStage, CopyStep, Goes, HasPlace, HasSource, Here, IsComparing, IsCopied, IsCopying, IsFirstOther, IsIn, IsMove, IsOneOf, IsOverlap, IsPlaced, IsWalked, IsWalking, MayCopy, More, Move, Next, Object, Objects, PageEntry, Parts, RisesFrom, Source, Stands, StandsFirst, Step, Target, Up, Walk, WalkTarget, Walked, Whole, absent, all_below, all_found, all_parts, ap, arith, begins, behind, climbed, climbing, copied_all, copied_next, copy_asks, copy_of, copying_goes, dir_fit, dir_long, edited, false_true, fits, gives, has_more, head, holds, in_sources, in_targets, inl, inr, irrefl, is_look, is_lt, keys_below, keys_on, length-drop, length-map, look_of, lt, lt_not, ltb-false, ltb-true, marker_of, moves, new_keys, none_or_some, none_some, refl, reply_in, sends, some_is, some_left, sources, sources_to, standing, subst, sym, targets, text_cmp, text_eq, text_is, text_total, text_true, walk_asks, walk_begins, walk_fits, walk_goes, walked_entries, ◌∙◌}
-use Rattle.std.proofs.lemmas.List.{drop-map}
-use Rattle.std.specs.FinMap as fin
-use Rattle.s3_types.specs.Answer.{found}
-use Rattle.fs_ops.proofs.Looks.{head_tells, none_listed, first_listed}
-use Rattle.fs_ops.proofs.Climbing.{IsClimbed, seen_on as climb_on, all_on}
-use Rattle.fs_rename.specs.declared.copying.Copying.{Copying}
-use Rattle.copy_tree.specs.code.Copy.{CopyPaths, Answer, asks, on, here as here_at, on_walked, on_walk, listed, climb, on_climb, with_places, on_shown, on_show, parts_of, pairs, read_of, on_read, same_header, differ, compared, on_compare, begun, copies, count_of, on_copied}
-use Rattle.fs_rename.proofs.CopyLaws.{copy_of_one, one_in_drop}
+use Rattle.basics.proofs.Less.{irrefl, lt, lt_not}
+use Rattle.basics.proofs.Members.{false_true, none_or_some, none_some, some_is, text_is, text_true}
+use Rattle.basics.specs.Members.{IsIn, RisesFrom}
+use Rattle.basics.specs.Order.{text_cmp, text_eq, text_total}
+use Rattle.bucket_ops.proofs.Walks.{walk_begins, walk_fits, walk_goes}
+use Rattle.bucket_ops.specs.Asks.{edited, is_look, reply_in}
+use Rattle.bucket_ops.specs.Looks.{look_of}
+use Rattle.bucket_ops.specs.Walking.{IsWalked, IsWalking, all_below, fits, keys_below, walk_asks}
+use Rattle.copy_tree.proofs.MoveLaws.{absent_each, standing_each, standing_has, standing_rise, tree_copied}
 use Rattle.copy_tree.proofs.Moved.{moved_rest}
 use Rattle.copy_tree.proofs.PartLaws.{chosen_sources, chosen_targets}
-use Rattle.copy_tree.proofs.MoveLaws.{standing_rise, standing_each, standing_has, absent_each, tree_copied}
-use Rattle.std.proofs.lemmas.Bool.{and_from, and_parts}
+use Rattle.copy_tree.specs.code.Copy.{Answer, CopyPaths, asks, begun, climb, compared, copies, count_of, differ, here as here_at, listed}
+use Rattle.copy_tree.specs.code.Copy.{on, on_climb, on_compare, on_copied, on_read, on_show, on_shown, on_walk, on_walked, pairs, parts_of}
+use Rattle.copy_tree.specs.code.Copy.{read_of, same_header, with_places}
+use Rattle.copy_tree.specs.code.Meaning.{IsComparing, IsPlaced, StandsFirst, absent, all_parts, gives, holds, moves, sends, standing}
+use Rattle.copy_tree.specs.declared.stages.CopyStage.{CopyStage}
+use Rattle.copy_tree.specs.declared.stages.CopyStage.TheVariants.{Copy, Here, Source, Target, Up, Walk, WalkTarget}
+use Rattle.copy_tree.specs.declared.stages.Parts.{Parts}
+use Rattle.dir_markers.specs.Markers.{marker_of}
+use Rattle.fs_ops.proofs.Climbing.{IsClimbed, all_on, seen_on as climb_on}
+use Rattle.fs_ops.proofs.Looks.{first_listed, head_tells, none_listed}
+use Rattle.fs_ops.specs.code.Climbs.{climbed, climbing}
+use Rattle.fs_ops.specs.declared.climb.Climbed.{Climbed}
+use Rattle.fs_rename.proofs.CopyLaws.{copy_of_one, copying_goes, in_sources, in_targets, one_in_drop, some_left}
+use Rattle.fs_rename.proofs.Placed.{all_found, dir_fit, dir_long, sources_to}
+use Rattle.fs_rename.specs.Copies.{IsCopied, IsCopying, IsOneOf, Move, copied_all, copied_next, copy_asks, copy_of, has_more, sources}
+use Rattle.fs_rename.specs.Copies.{targets}
+use Rattle.fs_rename.specs.Keys.{new_keys}
+use Rattle.fs_rename.specs.declared.copying.CopyStep.{CopyStep}
+use Rattle.fs_rename.specs.declared.copying.Copying.{Copying}
+use Rattle.fs_tree.specs.Copies.{CopiesTree, HasPlace, HasSource, IsFirstOther, IsOverlap, MayCopy}
+use Rattle.fs_tree.specs.Moves.{IsMove}
+use Rattle.fs_tree.specs.Tree.{Stands}
+use Rattle.fs_tree.specs.declared.copy.CopyCount.{CopyCount}
+use Rattle.list_walk.specs.Walks.{More, Walked, Whole, keys_on, walked_entries}
+use Rattle.operations.specs.Plans.{Goes}
+use Rattle.operations.specs.declared.plan.Step.{Step}
+use Rattle.operations.specs.declared.plan.Step.TheVariants.{Next}
+use Rattle.s3_types.specs.Answer.{found, head}
+use Rattle.s3_types.specs.Pages.{begins}
+use Rattle.s3_types.specs.Store.{Objects}
+use Rattle.s3_types.specs.declared.object.Object.{Object}
+use Rattle.s3_types.specs.declared.reply.PageEntry.{PageEntry}
+use Rattle.std.proofs.Common.{ap, arith, inl, inr, refl, subst, sym, ◌∙◌}
+use Rattle.std.proofs.lemmas.Bool.{and_from, and_parts, ltb-false, ltb-true}
+use Rattle.std.proofs.lemmas.List.{drop-map, length-drop, length-map}
+use Rattle.std.specs.Ordering.{is_lt}
+use Rattle.std.specs.Prelude.{Bool, Err, List, None, Ok, Option, Result, Some, cond, drop, false, length, nat_lt, suc, true, zero, ℕ, []}
+use Rattle.std.specs.Prelude.{◌&&◌, ◌++◌, ◌+◌, ◌<◌, ◌||◌, ◌∷◌, ◌≡◌, ◌≤◌, ◌⊎◌}
+use Rattle.store_frame.proofs.Flat.{behind}
+use Rattle.std.specs.FinMap as fin
 
 -- ---- lists of moves
 
@@ -62,11 +99,13 @@ module _ (z : Objects) (x : ℕ) (p : List ℕ) (y : ℕ) (t : List ℕ) where
   may_copy : IsPlaced O z → ((k l : List ℕ) → IsOneOf k l (standing O z) → fin.get z l ≡ fin.get z k) → MayCopy z (x ∷ p) (y ∷ t)
   may_copy h a = record { place = h.place; fit = h.fit; agree = λ k l m. by k l m (none_or_some (fin.get z l)) }
     where
-      by : (k l : List ℕ) → IsMove z (x ∷ p) (y ∷ t) k l → (fin.get z l ≡ None) ⊎ ((v : Object) × (fin.get z l ≡ Some v)) → (fin.get z l ≡ None) ⊎ (fin.get z l ≡ fin.get z k)
+      by : (k l : List ℕ) → IsMove z (x ∷ p) (y ∷ t) k l → (fin.get z l ≡ None) ⊎ ((v : Object) × (fin.get z l ≡ Some v))
+          → (fin.get z l ≡ None) ⊎ (fin.get z l ≡ fin.get z k)
       by k l m (inl n) = inl n
       by k l m (inr s) = inr (a k l (standing_has z x p y t h.place.source.directory k l m s))
 
-  copies_on : (c : CopyCount) → c ≡ count_of (all_parts O z) → MayCopy z (x ∷ p) (y ∷ t) → (ks ls : List (List ℕ)) → ks ≡ sources (absent O z) → ls ≡ targets (absent O z) → On (copies c ks ls) z
+  copies_on : (c : CopyCount) → c ≡ count_of (all_parts O z) → MayCopy z (x ∷ p) (y ∷ t) → (ks ls : List (List ℕ))
+      → ks ≡ sources (absent O z) → ls ≡ targets (absent O z) → On (copies c ks ls) z
   copies_on c e h [] ls f g = (
     h,
     subst (λ (c : CopyCount). CopiesTree (x ∷ p) (y ∷ t) z c z) (sym e)
@@ -78,17 +117,24 @@ module _ (z : Objects) (x : ℕ) (p : List ℕ) (y : ℕ) (t : List ℕ) where
   begun_on : (c : Parts) → c ≡ all_parts O z → MayCopy z (x ∷ p) (y ∷ t) → On (begun c) z
   begun_on c e h = copies_on (count_of c) (ap count_of e) h c.keys c.places (ap (λ (c : Parts). c.keys) e) (ap (λ (c : Parts). c.places) e)
 
-  copied_on : (c : CopyStep) (n : CopyCount) (m : Objects) → MayCopy z (x ∷ p) (y ∷ t) → n ≡ count_of (all_parts O z) → IsCopied z (absent O z) c m → On (on_copied n c) m
+  copied_on : (c : CopyStep) (n : CopyCount) (m : Objects) → MayCopy z (x ∷ p) (y ∷ t) → n ≡ count_of (all_parts O z)
+      → IsCopied z (absent O z) c m → On (on_copied n c) m
   copied_on c n m h g e = grind (arith, tree_copied)
 
   -- ---- the pairs of which and_parts stand
 
   pairs_on : (c : Parts) → c ≡ all_parts O z → IsPlaced O z → (r : List (List ℕ)) → c.stood ≡ r → On (pairs c r) z
   pairs_on c e h [] f =
-      begun_on c e (may_copy h (λ k l i. absurd (subst (IsIn k) (sym (ap (λ (c : Parts). c.stood) e) ∙ f) (in_sources (standing O z) k l i))))
+      begun_on c e (may_copy h (λ k l i. absurd (subst (IsIn k) (sym (ap (λ (c : Parts). c.stood) e) ∙ f)
+      (in_sources (standing O z) k l i))))
   pairs_on c e h (k ∷ ks) f = (
     refl,
-    record { placed = h; parts = e; some = some_moves (standing O z) k ks (sym (ap (λ (c : Parts). c.stood) e) ∙ f); agree = λ k l i. inr i },
+    record {
+      placed = h;
+      parts = e;
+      some = some_moves (standing O z) k ks (sym (ap (λ (c : Parts). c.stood) e) ∙ f);
+      agree = λ k l i. inr i;
+    },
   )
 
   module _ (c : Parts) (n : ℕ) (h : IsComparing O z c n) (s : Move) (rest : List Move) (e : drop n (standing O z) ≡ s ∷ rest) where
@@ -126,10 +172,12 @@ module _ (z : Objects) (x : ℕ) (p : List ℕ) (y : ℕ) (t : List ℕ) where
         let b : length (drop n (standing O z)) ≡ suc (length rest) = ap length e in
         omega (arith, l, count_is, b, length-drop n (standing O z))
 
-    agreed_by : fin.get z s.1 ≡ fin.get z s.0 → (b : Bool) → nat_lt 1 (length (drop n c.stood)) ≡ b → On (cond b (Next (Source c (n + 1))) (begun c)) z
+    agreed_by : fin.get z s.1 ≡ fin.get z s.0 → (b : Bool) → nat_lt 1 (length (drop n c.stood)) ≡ b
+        → On (cond b (Next (Source c (n + 1))) (begun c)) z
     agreed_by g true f =
         let one : suc n ≡ n + 1 = omega arith in
-        let next : drop (n + 1) (standing O z) ≡ rest = ap (λ i. drop i (standing O z)) (sym one) ∙ behind_one n (standing O z) s rest e in (
+        let next : drop (n + 1) (standing O z) ≡ rest = ap (λ i. drop i (standing O z)) (sym one) ∙ behind_one n (standing O z) s
+        rest e in (
           refl,
           record {
             placed = h.placed;
@@ -138,7 +186,8 @@ module _ (z : Objects) (x : ℕ) (p : List ℕ) (y : ℕ) (t : List ℕ) where
             agree = λ k l i. subst (λ r. (fin.get z l ≡ fin.get z k) ⊎ IsOneOf k l r) (sym next) (agree_on g k l i);
           },
         )
-    agreed_by g false f = begun_on c h.parts (may_copy h.placed (λ k l i. elim (agree_on g k l i) [ inl a ↦ a | inr j ↦ absurd (none_in rest k l none j) ]))
+    agreed_by g false f = begun_on c h.parts (may_copy h.placed (λ k l i. elim (agree_on g k l i)
+        [ inl a ↦ a | inr j ↦ absurd (none_in rest k l none j) ]))
       where
         none : length rest ≤ 0
         none = let a = count_is in let l = ltb-false 1 (length (drop n c.stood)) f in omega (arith, a, l)
@@ -161,15 +210,22 @@ module _ (z : Objects) (x : ℕ) (p : List ℕ) (y : ℕ) (t : List ℕ) where
         at j i less (inl g) = false_true (irrefl text_total s.1) (ap (λ i. lt text_cmp i s.1) (sym g.1) ∙ less)
         at j i less (inr g) = false_true (lt_not text_total i s.1 less) (behind s.1 i (targets rest) rest_rises (in_targets rest j i g))
 
-        by : (j i : List ℕ) → IsMove z (x ∷ p) (y ∷ t) j i → is_lt (text_cmp i s.1) ≡ true → (fin.get z i ≡ None) ⊎ ((v : Object) × (fin.get z i ≡ Some v)) → (fin.get z i ≡ None) ⊎ (fin.get z i ≡ fin.get z j)
+        by : (j i : List ℕ) → IsMove z (x ∷ p) (y ∷ t) j i → is_lt (text_cmp i s.1) ≡ true → (fin.get z i ≡ None)
+            ⊎ ((v : Object) × (fin.get z i ≡ Some v)) → (fin.get z i ≡ None) ⊎ (fin.get z i ≡ fin.get z j)
         by j i m less (inl g) = inl g
         by j i m less (inr g) =
-            elim (h.agree j i (standing_has z x p y t h.placed.place.source.directory j i m g)) [ inl f ↦ inr f | inr f ↦ absurd (at j i less (subst (IsOneOf j i) e f)) ]
+            elim (h.agree j i (standing_has z x p y t h.placed.place.source.directory j i m g))
+            [ inl f ↦ inr f | inr f ↦ absurd (at j i less (subst (IsOneOf j i) e f)) ]
 
-    compared_on : (b : List ℕ) (g : Option ℕ) (v : Object) → fin.get z s.0 ≡ Some (record { bytes = b; header = g }) → fin.get z s.1 ≡ Some v → (r : Bool) → (text_eq b v.bytes && same_header g v.header) ≡ r → On (compared c n r) z
+    compared_on : (b : List ℕ) (g : Option ℕ) (v : Object) → fin.get z s.0 ≡ Some (record { bytes = b; header = g })
+        → fin.get z s.1 ≡ Some v → (r : Bool) → (text_eq b v.bytes && same_header g v.header) ≡ r → On (compared c n r) z
     compared_on b g v a d true f =
         let w = and_parts (text_eq b v.bytes) (same_header g v.header) f in
-        let same : v ≡ record { bytes = b; header = g } = λ i. record { bytes = sym (text_is b v.bytes w.0) i; header = sym (header_is g v.header w.1) i } in
+        let same : v ≡ record { bytes = b; header = g } = λ i. record {
+          bytes = sym (text_is b v.bytes w.0) i;
+          header = sym
+              (header_is g v.header w.1) i;
+        } in
         agreed_by (d ∙ ap Some same ∙ sym a) (nat_lt 1 (length (drop n c.stood))) refl
     compared_on b g v a d false f =
         subst (λ r. On (differ r) z) (sym stood_at_is)
@@ -188,27 +244,38 @@ module _ (z : Objects) (x : ℕ) (p : List ℕ) (y : ℕ) (t : List ℕ) where
     read_goes : On (on_read c n (reply_in z (read_of (drop n c.stood)))) (edited (read_of (drop n c.stood)) z)
     read_goes = subst (λ r. On (on_read c n (reply_in z (read_of r))) (edited (read_of r) z)) (sym stood_is) read_one
 
-    compare_goes : (b : List ℕ) (g : Option ℕ) → StandsFirst z (drop n c.stood) b g → On (on_compare c n b g (reply_in z (read_of (drop n c.stood_at)))) (edited (read_of (drop n c.stood_at)) z)
-    compare_goes b g a = subst (λ r. On (on_compare c n b g (reply_in z (read_of r))) (edited (read_of r) z)) (sym stood_at_is) (compare_one b g a)
+    compare_goes : (b : List ℕ) (g : Option ℕ) → StandsFirst z (drop n c.stood) b g
+        → On (on_compare c n b g (reply_in z (read_of (drop n c.stood_at)))) (edited (read_of (drop n c.stood_at)) z)
+    compare_goes b g a = subst (λ r. On (on_compare c n b g (reply_in z (read_of r))) (edited (read_of r) z)) (sym stood_at_is)
+        (compare_one b g a)
 
   -- ---- the walk below the target
 
   parts_are : parts_of (sources (moves O z)) (targets (moves O z)) (all_below (marker_of (y ∷ t)) z) ≡ all_parts O z
   parts_are = grind (arith, chosen_sources, chosen_targets)
 
-  shown_on : (ks ls : List (List ℕ)) (w : Walked PageEntry) → IsPlaced O z → ks ≡ sources (moves O z) → ls ≡ targets (moves O z) → IsWalked (marker_of (y ∷ t)) z w → On (on_shown ks ls w) z
+  shown_on : (ks ls : List (List ℕ)) (w : Walked PageEntry) → IsPlaced O z → ks ≡ sources (moves O z) → ls ≡ targets (moves O z)
+      → IsWalked (marker_of (y ∷ t)) z w → On (on_shown ks ls w) z
   shown_on ks ls w h g e f = grind (arith, pairs_on, parts_are)
 
-  showing : (ks ls : List (List ℕ)) (w : List PageEntry) → IsPlaced O z → ks ≡ sources (moves O z) → ls ≡ targets (moves O z) → IsWalking (marker_of (y ∷ t)) z w
+  showing : (ks ls : List (List ℕ)) (w : List PageEntry) → IsPlaced O z → ks ≡ sources (moves O z) → ls ≡ targets (moves O z)
+      → IsWalking (marker_of (y ∷ t)) z w
       → On (on_show ks ls w (reply_in z (walk_asks (marker_of (y ∷ t)) w)) (fits (reply_in z (walk_asks (marker_of (y ∷ t)) w)))) z
   showing ks ls w h g e f = grind (arith, walk_fits, shown_on, walk_goes)
 
   -- ---- the new keys
 
-  with_places_on : (ks : List (List ℕ)) → HasPlace z (x ∷ p) (y ∷ t) → ks ≡ keys_below (marker_of (x ∷ p)) z → (r : Result (List (List ℕ)) (List ℕ)) → new_keys (marker_of (x ∷ p)) (marker_of (y ∷ t)) ks ≡ r → On (with_places ks r) z
-  with_places_on ks h e (Err k) f = (h, dir_long z x p y t k h.source.directory (ap (new_keys (marker_of (x ∷ p)) (marker_of (y ∷ t))) (sym e) ∙ f), refl)
+  with_places_on : (ks : List (List ℕ)) → HasPlace z (x ∷ p) (y ∷ t) → ks ≡ keys_below (marker_of (x ∷ p)) z
+      → (r : Result (List (List ℕ)) (List ℕ)) → new_keys (marker_of (x ∷ p)) (marker_of (y ∷ t)) ks ≡ r → On (with_places ks r) z
+  with_places_on ks h e (Err k) f = (
+    h,
+    dir_long z x p y t k h.source.directory
+        (ap (new_keys (marker_of (x ∷ p)) (marker_of (y ∷ t))) (sym e) ∙ f),
+    refl,
+  )
   with_places_on ks h e (Ok ls) f =
-      let w = all_found (marker_of (x ∷ p)) (marker_of (y ∷ t)) (keys_below (marker_of (x ∷ p)) z) ls (ap (new_keys (marker_of (x ∷ p)) (marker_of (y ∷ t))) (sym e) ∙ f) in (
+      let w = all_found (marker_of (x ∷ p)) (marker_of (y ∷ t)) (keys_below (marker_of (x ∷ p)) z) ls
+      (ap (new_keys (marker_of (x ∷ p)) (marker_of (y ∷ t))) (sym e) ∙ f) in (
         refl,
         record { place = h; fit = dir_fit z x p y t h.source.directory w.1 },
         e ∙ sym (sources_to (marker_of (x ∷ p)) (marker_of (y ∷ t)) (keys_below (marker_of (x ∷ p)) z)),
@@ -218,17 +285,21 @@ module _ (z : Objects) (x : ℕ) (p : List ℕ) (y : ℕ) (t : List ℕ) where
 
   -- ---- the paths above the target
 
-  climbed_on : (ks : List (List ℕ)) (c : Climbed) → HasSource z (x ∷ p) (y ∷ t) → ks ≡ keys_below (marker_of (x ∷ p)) z → IsClimbed z (climb (y ∷ t)) c → On (on_climb O ks c) z
+  climbed_on : (ks : List (List ℕ)) (c : Climbed) → HasSource z (x ∷ p) (y ∷ t) → ks ≡ keys_below (marker_of (x ∷ p)) z
+      → IsClimbed z (climb (y ∷ t)) c → On (on_climb O ks c) z
   climbed_on ks c h g e = grind (arith, with_places_on)
 
   -- ---- the source
 
-  listed_on : (IsOverlap (x ∷ p) (y ∷ t) → ⊥) → fin.get z (x ∷ p) ≡ None → (es : List PageEntry) → all_below (marker_of (x ∷ p)) z ≡ es → On (listed O (keys_on es)) z
+  listed_on : (IsOverlap (x ∷ p) (y ∷ t) → ⊥) → fin.get z (x ∷ p) ≡ None → (es : List PageEntry) → all_below (marker_of (x ∷ p)) z ≡ es
+      → On (listed O (keys_on es)) z
   listed_on a f [] e = (a, (f, none_listed x (p ++ 47 ∷ []) z e), refl)
   listed_on a f (w ∷ es) e =
-      climbed_on (keys_on (w ∷ es)) (climbing (climb (y ∷ t))) (record { apart = a; directory = (f, first_listed (marker_of (x ∷ p)) z w es e) }) (ap keys_on (sym e)) (all_on z (climb (y ∷ t)))
+      climbed_on (keys_on (w ∷ es)) (climbing (climb (y ∷ t))) (record
+      { apart = a; directory = (f, first_listed (marker_of (x ∷ p)) z w es e) }) (ap keys_on (sym e)) (all_on z (climb (y ∷ t)))
 
-  walked_on : (w : Walked PageEntry) → (IsOverlap (x ∷ p) (y ∷ t) → ⊥) → fin.get z (x ∷ p) ≡ None → IsWalked (marker_of (x ∷ p)) z w → On (on_walked O w) z
+  walked_on : (w : Walked PageEntry) → (IsOverlap (x ∷ p) (y ∷ t) → ⊥) → fin.get z (x ∷ p) ≡ None → IsWalked (marker_of (x ∷ p)) z w
+      → On (on_walked O w) z
   walked_on (More w) a f h = (refl, a, f, h)
   walked_on (Whole es) a f h = listed_on a f es (sym h)
 
@@ -258,8 +329,10 @@ module _ (z : Objects) (x : ℕ) (p : List ℕ) (y : ℕ) (t : List ℕ) where
       subst (Led (Up ks c)) (sym h.0) (climbed_on ks (climbed c l) h.1 h.2 (climb_on z (climb (y ∷ t)) c l h.3 (head_tells z c.first)))
   each (WalkTarget ks ls w) m h = subst (Led (WalkTarget ks ls w)) (sym h.0) (showing ks ls w h.1 h.2 h.3 h.4)
   each (Source c n) m h = let w = some_left n (standing O z) h.1.some in subst (Led (Source c n)) (sym h.0) (read_goes c n h.1 w.0 w.1 w.2)
-  each (Target c n b g) m h = let w = some_left n (standing O z) h.1.some in subst (Led (Target c n b g)) (sym h.0) (compare_goes c n h.1 w.0 w.1 w.2 b g h.2)
-  each (Copy c count) m h = copied_on (copied_next (has_more c) c) count (edited (copy_asks c) m) h.0 h.1 (copying_goes z (absent O z) c m h.2)
+  each (Target c n b g) m h = let w = some_left n (standing O z) h.1.some in subst (Led (Target c n b g)) (sym h.0)
+      (compare_goes c n h.1 w.0 w.1 w.2 b g h.2)
+  each (Copy c count) m h = copied_on (copied_next (has_more c) c) count (edited (copy_asks c) m) h.0 h.1
+      (copying_goes z (absent O z) c m h.2)
 
   -- ---- what is copied
 

@@ -1,7 +1,10 @@
 -- Which new keys stand, by the listing below their place.
-use Rattle.std.specs.Prelude.{ℕ, Bool, true, false, not, cond, List, [], ◌∷◌, ◌++◌}
-use Rattle.fs_ops.specs.Prelude.{is_lt, text_cmp, text_eq, text_in, PageEntry}
+use Rattle.basics.specs.Order.{text_cmp, text_eq}
 use Rattle.fs_rename.specs.Copies.{Move}
+use Rattle.s3_types.specs.Pages.{text_in}
+use Rattle.s3_types.specs.declared.reply.PageEntry.{PageEntry}
+use Rattle.std.specs.Ordering.{is_lt}
+use Rattle.std.specs.Prelude.{Bool, List, cond, false, not, true, ℕ, [], ◌++◌, ◌∷◌}
 
 -- the entries from the first that is not less than a text
 abbrev pub from_text : List ℕ → List PageEntry → List PageEntry
@@ -22,7 +25,8 @@ is_wanted false stands = not stands
 abbrev pub chosen : Bool → List (List ℕ) → List (List ℕ) → List PageEntry → List (List ℕ)
 chosen wanted [] ls es = []
 chosen wanted (k ∷ ks) [] es = []
-chosen wanted (k ∷ ks) (l ∷ ls) es = cond (is_wanted wanted (is_first l (from_text l es))) (k ∷ []) [] ++ chosen wanted ks ls (from_text l es)
+chosen wanted (k ∷ ks) (l ∷ ls) es = cond (is_wanted wanted (is_first l (from_text l es))) (k ∷ []) [] ++ chosen wanted ks ls
+    (from_text l es)
 
 -- the moves whose new key stands, or those whose new key does not
 abbrev pub kept : Bool → List Move → List PageEntry → List Move

@@ -1,12 +1,19 @@
 -- What the copy of all that is below a path to another one answers, and leaves (Hadoop FileSystem shell, cp).
-use Rattle.std.specs.Prelude.{ℕ, ◌+◌, ◌*◌, length, Err}
-use Rattle.fs_ops.specs.Prelude.{Scene, Request, AlwaysIn, SendsIn, OtherBucket, Copies, MayStandCopied, objects_at, all_below, prefix_of}
-use Rattle.fs_tree.specs.declared.copy.CopyRefusal.TheVariants.{NoSuchBucket}
-use Rattle.fs_rename.specs.Between.{Route, GivesBetween, most_in}
-use Rattle.copy_tree.specs.code.Copy.{CopyPaths, Answer, first, asks, climb}
+use Rattle.bucket_ops.specs.Asks.{objects_at}
+use Rattle.bucket_ops.specs.Phases.{AlwaysIn, SendsIn}
+use Rattle.bucket_ops.specs.Walking.{all_below}
+use Rattle.copy_tree.specs.code.Copy.{Answer, CopyPaths, asks, climb, first}
 use Rattle.copy_tree.specs.code.Meaning.{sends}
+use Rattle.fs_ops.specs.Places.{prefix_of}
+use Rattle.fs_rename.specs.Between.{GivesBetween, Route, most_in}
+use Rattle.fs_tree.specs.Copies.{Copies, MayStandCopied}
+use Rattle.fs_tree.specs.declared.copy.CopyRefusal.TheVariants.{NoSuchBucket, OtherBucket}
+use Rattle.s3_types.specs.Store.{Scene}
+use Rattle.s3_types.specs.declared.request.Request.{Request}
+use Rattle.std.specs.Prelude.{Err, length, ℕ, ◌*◌, ◌+◌}
 
--- in one bucket it is what it is among the bucket's objects, and nothing else changes; between two buckets it is refused, before anything else, and nothing changes
+-- in one bucket it is what it is among the bucket's objects, and nothing else changes; between two buckets it is refused, before anything
+-- else, and nothing changes
 abbrev pub CopiesIn : Route → Scene → Answer → Scene → Type 0
 CopiesIn r z a s = GivesBetween r.bucket r.to_bucket (Copies r.source r.target) (Err NoSuchBucket) (Err OtherBucket) z a s
 

@@ -1,6 +1,7 @@
 ghost use Rattle.std.specs.Prelude.{◌≡◌, ◌++◌, IfOk, OnOk};
 ghost use Rattle.std.specs.Option.{option_copied};
-ghost use Rattle.fs_ops.specs.Prelude.{key_if, keys_above};
+ghost use Rattle.dir_markers.specs.Markers.{keys_above};
+ghost use Rattle.fs_ops.specs.Places.{key_if};
 ghost use Rattle.fs_rename.specs.Keys.{place_of};
 ghost use Rattle.copy_tree.specs.code.Copy.{one_of};
 

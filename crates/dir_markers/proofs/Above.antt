@@ -1,11 +1,21 @@
 -- The directories above a key.
-use Rattle.path_keys.proofs.Common.{Bool, List, [], all_three, and_parts, ap, append-nil, append_assoc, are_elements, arith, at_most_so, false, false≢true, is_element, is_key, is_key_path, is_other, join_parts, join_with_byte, leb-true, length, length-append, list_all, list_all-append, nat_le, nat_lt, nat_tests, one_part, parts_of, refl, slice_index, suc, sym, take, take-append_seam, trimmed, true, ℕ, ◌&&◌, ◌++◌, ◌+◌, ◌-◌, ◌<◌, ◌==◌, ◌∙◌, ◌∷◌, ◌≡◌, ◌≤◌, if◌then◌else◌}
-use Rattle.std.proofs.Common.{eq-eqb, map, subst}
-use Rattle.basics.proofs.Common.{get_or-append_seam, length-take}
-use Rattle.basics.specs.Parts.{parts_from}
+use Rattle.basics.proofs.Bools.{all_three}
+use Rattle.basics.proofs.Naturals.{at_most_so}
+use Rattle.basics.proofs.Pieces.{join_parts, one_part}
+use Rattle.basics.specs.Parts.{is_other, parts_from, parts_of}
+use Rattle.dir_markers.specs.Markers.{fronts, keys_above, marker_of}
 use Rattle.path_keys.proofs.Keys.{key_from, some_key}
 use Rattle.path_keys.proofs.Last.{parts_round}
-use Rattle.dir_markers.specs.Markers.{fronts, keys_above, marker_of}
+use Rattle.path_keys.specs.Paths.{is_key}
+use Rattle.s3_types.specs.Names.{are_elements, is_element, is_key_path, trimmed}
+use Rattle.std.proofs.Common.{Bool, List, ap, append_assoc, arith, eq-eqb, false, if◌then◌else◌, length, length-append, map, nat_le, nat_lt}
+use Rattle.std.proofs.Common.{refl, slice_index, subst, suc, sym, take, true, ℕ, [], ◌&&◌, ◌++◌, ◌+◌, ◌-◌, ◌<◌, ◌==◌, ◌∙◌, ◌∷◌, ◌≡◌, ◌≤◌}
+use Rattle.std.proofs.Math.Seq.{get_or-append_seam, take-append_seam}
+use Rattle.std.proofs.lemmas.Bool.{and_parts, false≢true, leb-true}
+use Rattle.std.proofs.lemmas.Bool.Decides.{nat_tests}
+use Rattle.std.proofs.lemmas.List.{append-nil, length-take}
+use Rattle.std.proofs.lemmas.List.Folds.{list_all-append}
+use Rattle.std.specs.List.{join_with_byte, list_all}
 
 map_append : {X Y : Type 0} (f : X → Y) (xs ys : List X) → map f (xs ++ ys) ≡ map f xs ++ map f ys
 map_append f [] ys = refl
@@ -14,7 +24,8 @@ map_append f (x ∷ xs) ys = ap (λ l. f x ∷ l) (map_append f xs ys)
 -- the longest beginning is the last
 fronts_last : {X : Type 0} (x : X) (xs : List X) (y : X) → fronts ((x ∷ xs) ++ y ∷ []) ≡ fronts (x ∷ xs) ++ (x ∷ xs) ∷ []
 fronts_last x [] y = refl
-fronts_last x (z ∷ zs) y = ap (λ l. (x ∷ []) ∷ l) (ap (map (λ front. x ∷ front)) (fronts_last z zs y) ∙ map_append (λ front. x ∷ front) (fronts (z ∷ zs)) ((z ∷ zs) ∷ []))
+fronts_last x (z ∷ zs) y = ap (λ l. (x ∷ []) ∷ l) (ap (map (λ front. x ∷ front)) (fronts_last z zs y) ∙ map_append (λ front. x ∷ front)
+    (fronts (z ∷ zs)) ((z ∷ zs) ∷ []))
 
 -- a text has a part
 some_part : (part text : List ℕ) → parts_from 47 part text ≡ [] → ⊥
@@ -26,12 +37,14 @@ some_part part (x ∷ xs) e = by (x == 47) refl (some_part [] xs) (some_part (pa
     by true s new old = cc
     by false s new old = old (sym (ap (λ b. if b then part ∷ parts_from 47 [] xs else parts_from 47 (part ++ x ∷ []) xs) s) ∙ e)
 
-above_parts : (es : List (List ℕ)) (front back : List ℕ) → parts_of 47 front ≡ es → fronts (parts_of 47 front ++ back ∷ []) ≡ fronts (parts_of 47 front) ++ parts_of 47 front ∷ []
+above_parts : (es : List (List ℕ)) (front back : List ℕ) → parts_of 47 front ≡ es
+    → fronts (parts_of 47 front ++ back ∷ []) ≡ fronts (parts_of 47 front) ++ parts_of 47 front ∷ []
 above_parts [] front back e = absurd (some_part [] front e)
 above_parts (p ∷ ps) front back e = rw e (fronts_last p ps back)
 
 -- the directories above a key are those above its parent, and its parent
-pub above_more : (key front back : List ℕ) → parts_of 47 key ≡ parts_of 47 front ++ back ∷ [] → keys_above key ≡ keys_above front ++ front ∷ []
+pub above_more : (key front back : List ℕ) → parts_of 47 key ≡ parts_of 47 front ++ back ∷ []
+    → keys_above key ≡ keys_above front ++ front ∷ []
 above_more key front back e =
     ap (λ l. map (join_with_byte 47) (fronts l)) e
     ∙ ap (map (join_with_byte 47)) (above_parts (parts_of 47 front) front back refl)
@@ -44,7 +57,8 @@ pub trimmed_marker : (key : List ℕ) → trimmed (marker_of key) ≡ key
 trimmed_marker key =
     let long : length (marker_of key) ≡ length key + 1 = length-append key (47 ∷ []) in
     let last : length (marker_of key) - 1 ≡ length key = omega (arith, long) in
-    let slash : slice_index (marker_of key) (length (marker_of key) - 1) ≡ 47 = ap (λ n. slice_index (marker_of key) n) last ∙ get_or-append_seam key 47 [] 0 in
+    let slash : slice_index (marker_of key) (length (marker_of key) - 1) ≡ 47 = ap (λ n. slice_index (marker_of key) n) last ∙
+    get_or-append_seam key 47 [] 0 in
     let some : nat_lt 0 (length (marker_of key)) ≡ true = grind (arith, nat_tests) in
     let ends : (slice_index (marker_of key) (length (marker_of key) - 1) == 47) ≡ true = eq-eqb _ _ slash in
     rw (some, ends) (ap (λ n. take n (marker_of key)) last ∙ take-append_seam key (47 ∷ []))
@@ -80,7 +94,8 @@ some_front [] a = absurd (false≢true a)
 some_front (x ∷ xs) a = omega arith
 
 -- what stands before the last `/` of what an object's key names
-pub parent_key : (key path front back : List ℕ) → is_key_path key ≡ true → path ≡ trimmed key → path ≡ front ++ 47 ∷ back → list_all (is_other 47) back ≡ true
+pub parent_key : (key path front back : List ℕ) → is_key_path key ≡ true → path ≡ trimmed key → path ≡ front ++ 47 ∷ back
+    → list_all (is_other 47) back ≡ true
     → (0 < length front) × (is_key front ≡ true)
 parent_key key path front back k p e h =
     let two = and_parts (nat_le 1 (length key) && nat_le (length key) 1024) (are_elements (trimmed key)) k in
@@ -88,15 +103,20 @@ parent_key key path front back k p e h =
     let short : length path ≤ length key = subst (λ t. length t ≤ length key) (sym p) (trimmed_short key) in
     let long : length path ≡ length front + suc (length back) = ap length e ∙ length-append front (47 ∷ back) in
     let all : are_elements path ≡ true = ap are_elements p ∙ two.1 in
-    let front_all : are_elements front ≡ true = (and_parts (are_elements front) _ (sym (ap (list_all is_element) (parts_round path front back e h) ∙ list_all-append is_element (parts_of 47 front) (back ∷ [])) ∙ all)).0 in
+    let front_all : are_elements front ≡ true = (and_parts (are_elements front) _
+    (sym (ap (list_all is_element) (parts_round path front back e h) ∙ list_all-append is_element (parts_of 47 front) (back ∷ [])) ∙
+    all)).0 in
     (some_front front front_all, key_from front front_all (omega (arith, most, short, long)))
 
 -- a key without a `/` stands below the root
-pub none_above : (key : List ℕ) (found : List (List ℕ)) → list_all (is_other 47) key ≡ true → found ≡ found ++ map marker_of (keys_above key)
-none_above key found h = sym (ap (λ (l : List (List ℕ)). found ++ map marker_of (map (join_with_byte 47) (fronts l))) (one_part 47 key h) ∙ append-nil found)
+pub none_above : (key : List ℕ) (found : List (List ℕ)) → list_all (is_other 47) key ≡ true
+    → found ≡ found ++ map marker_of (keys_above key)
+none_above key found h = sym (ap (λ (l : List (List ℕ)). found ++ map marker_of (map (join_with_byte 47) (fronts l))) (one_part 47 key h) ∙
+    append-nil found)
 
 -- one more marker
-pub one_above : (key front back m : List ℕ) (found first : List (List ℕ)) → key ≡ front ++ 47 ∷ back → list_all (is_other 47) back ≡ true → first ≡ found ++ map marker_of (keys_above front) → m ≡ marker_of front
+pub one_above : (key front back m : List ℕ) (found first : List (List ℕ)) → key ≡ front ++ 47 ∷ back → list_all (is_other 47) back ≡ true
+    → first ≡ found ++ map marker_of (keys_above front) → m ≡ marker_of front
     → first ++ m ∷ [] ≡ found ++ map marker_of (keys_above key)
 one_above key front back m found first e h f k =
     let more = above_more key front back (parts_round key front back e h) in

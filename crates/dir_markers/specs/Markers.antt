@@ -1,12 +1,12 @@
 -- The markers of directories (Hadoop, S3A: directory markers; Hadoop FileSystem specification, directories).
-use Rattle.std.specs.Prelude.{ℕ, ◌==◌, ◌||◌, Bool, true, false, List, [], ◌∷◌, ◌++◌, map, length, Option, Some, None, if◌then◌else◌}
-use Rattle.s3_types.specs.Prelude.{join_with_byte}
 use Rattle.basics.specs.Parts.{parts_of}
-use Rattle.path_keys.specs.Paths.{Path}
+use Rattle.dir_markers.specs.declared.marker.MarkerPolicy.{MarkerPolicy}
+use Rattle.dir_markers.specs.declared.marker.MarkerPolicy.TheVariants.{Delete, Keep}
 use Rattle.dir_markers.specs.declared.status.Status.{Status}
 use Rattle.dir_markers.specs.declared.status.Status.TheVariants.{Directory, File}
-use Rattle.dir_markers.specs.declared.marker.MarkerPolicy.{MarkerPolicy}
-use Rattle.dir_markers.specs.declared.marker.MarkerPolicy.TheVariants.{Keep, Delete}
+use Rattle.path_keys.specs.Paths.{Path}
+use Rattle.std.specs.List.{join_with_byte}
+use Rattle.std.specs.Prelude.{Bool, List, None, Option, Some, false, if◌then◌else◌, length, map, true, ℕ, [], ◌++◌, ◌==◌, ◌||◌, ◌∷◌}
 
 -- what stands at a path: the file of its object, else a directory where something is below it
 abbrev pub status_in : Option ℕ → Bool → Option Status

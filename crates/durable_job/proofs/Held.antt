@@ -1,7 +1,15 @@
 -- What is kept of a run since its opening store was put in place of what a shelf held.
-use Rattle.durable_job.proofs.Common.{Behind, Content, CrashesLeave, Entry, InPace, IsHeld, IsMoment, List, None, NotReplaced, Replaced}
-use Rattle.durable_job.proofs.Common.{ShelfStop, Sight, Some, Survives, WhereTold, [], ap, length, moment, subst, Lacks, LacksSince, inl}
-use Rattle.durable_job.proofs.Common.{inr, ◌∙◌, ◌≡◌, ◌⊎◌}
+use Rattle.durable_job.specs.Pace.{Behind, InPace, Lacks, LacksSince}
+use Rattle.durable_job.specs.Played.{IsHeld, Survives}
+use Rattle.journal_log.specs.Crashes.{WhereTold}
+use Rattle.journal_log.specs.Images.{NotReplaced, Replaced}
+use Rattle.journal_log.specs.Kept.{IsMoment}
+use Rattle.s3_types.specs.Moment.{moment}
+use Rattle.s3_types.specs.Store.{Content}
+use Rattle.s3_types.specs.declared.journal.Entry.{Entry}
+use Rattle.shelf.specs.Logged.{CrashesLeave, Sight}
+use Rattle.shelf.specs.declared.kept.ShelfStop.{ShelfStop}
+use Rattle.std.proofs.Common.{List, None, Some, ap, inl, inr, length, subst, [], ◌∙◌, ◌≡◌, ◌⊎◌}
 
 -- the store of a run in which nothing was sent
 pub opening_is : (d c : Content) (es : List Entry) → d ≡ (moment c es (length es)).content → es ≡ [] → d ≡ c

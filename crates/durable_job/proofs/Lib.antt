@@ -2,4 +2,3 @@ pub mod Paces
 pub mod Turns
 pub mod Held
 pub mod Ends
-mod Common

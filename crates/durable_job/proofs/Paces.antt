@@ -1,16 +1,30 @@
 -- How a shelf goes on with a run, step by step.
-use Rattle.durable_job.proofs.Common.{Adds, Appended, AreAnswered, Begins, Behind, Bool, Content, Counts, CrashesLeave, Entry, Err, Event}
-use Rattle.durable_job.proofs.Common.{Failed, FoundNone, Holding, Holds, HoldsPart, InPace, IsBetween, IsDurable, IsErrOf, IsMoment}
-use Rattle.durable_job.proofs.Common.{IsTimed, List, NoMemory, None, Ok, OnErr, OnOk, Option, Request, Result, Rose, Run, Script, ShelfStop}
-use Rattle.durable_job.proofs.Common.{Sight, Some, Stays, Stepped, Stopped, Stored, WentOn, WhereTold, [], ap, append-nil, arith, drop}
-use Rattle.durable_job.proofs.Common.{drop_at, false, inl, inr, left_of, length, length-append, refl, slice_get, slice_get_within, subst}
-use Rattle.durable_job.proofs.Common.{sym, true, ℕ, Lacks, append_assoc, ◌++◌, ◌+◌, ◌-◌, ◌<◌, ◌^◌, ◌∙◌, ◌∷◌, ◌≡◌, ◌≤◌, ◌⊎◌}
-use Rattle.std.proofs.lemmas.Option.{slice_get_cases}
-use Rattle.journal_log.specs.Changes.{changes}
+use Rattle.durable_job.specs.Moves.{Adds, Stays, Stepped, left_of}
+use Rattle.durable_job.specs.Pace.{Behind, InPace, Lacks}
+use Rattle.durable_job.specs.Played.{Counts}
+use Rattle.job_model.specs.JobScript.{Script}
+use Rattle.job_model.specs.declared.events.Event.{Event}
+use Rattle.job_world.specs.Worlds.{FoundNone, Run, WentOn}
 use Rattle.journal_log.proofs.Journals.{changes_append, changes_none}
-use Rattle.journal_log.proofs.Standing.{begins_all, begins_more, holds_none, holds_more, short, some}
-use Rattle.journal_log.proofs.Leaving.{started, on_and_on}
+use Rattle.journal_log.proofs.Leaving.{on_and_on, started}
+use Rattle.journal_log.proofs.Standing.{begins_all, begins_more, holds_more, holds_none, short, some}
 use Rattle.journal_log.proofs.Steps.{answered_then, some_grown, stops_of}
+use Rattle.journal_log.specs.Appends.{Appended, AreAnswered, Stopped}
+use Rattle.journal_log.specs.Changes.{Begins, changes}
+use Rattle.journal_log.specs.Crashes.{IsBetween, WhereTold}
+use Rattle.journal_log.specs.Kept.{Holds, HoldsPart, IsMoment}
+use Rattle.s3_types.specs.Store.{Content}
+use Rattle.s3_types.specs.declared.journal.Entry.{Entry}
+use Rattle.s3_types.specs.declared.request.Request.{Request}
+use Rattle.shelf.specs.Devices.{Rose}
+use Rattle.shelf.specs.Logged.{CrashesLeave, Holding, IsDurable, IsTimed, Sight, Stored}
+use Rattle.shelf.specs.declared.kept.ShelfStop.{ShelfStop}
+use Rattle.shelf.specs.declared.kept.ShelfStop.TheVariants.{Failed, NoMemory}
+use Rattle.std.proofs.Common.{Bool, Err, IsErrOf, List, None, Ok, OnErr, OnOk, Option, Result, Some, ap, append-nil, append_assoc, arith}
+use Rattle.std.proofs.Common.{drop, false, inl, inr, length, length-append, refl, slice_get, subst, sym, true, ℕ, [], ◌++◌, ◌+◌, ◌-◌, ◌<◌}
+use Rattle.std.proofs.Common.{◌^◌, ◌∙◌, ◌∷◌, ◌≡◌, ◌≤◌, ◌⊎◌}
+use Rattle.std.proofs.lemmas.List.{drop_at}
+use Rattle.std.proofs.lemmas.Option.{slice_get_cases, slice_get_within}
 
 -- ---- a step of a world
 
@@ -79,7 +93,8 @@ module _ {M : Type 0} (sent : M → List Entry) (left : M → ℕ) (old new : M)
 
     pub within : (all : List Entry) (from : ℕ) → from ≡ length (sent old) → all ≡ sent new → from ≤ length all
     within all from first same =
-        let longer : length all ≡ length (sent old) + length played.0 = ap length (same ∙ played.1.journal) ∙ length-append (sent old) played.0 in
+        let longer : length all ≡ length (sent old) + length played.0 = ap length (same ∙ played.1.journal) ∙ length-append (sent old)
+        played.0 in
         omega arith
 
   -- none was left
@@ -97,24 +112,30 @@ module _ {M : Type 0} (sent : M → List Entry) (left : M → ℕ) (old new : M)
 
 module _ {S : Type 0} (F : Sight S) (c : Content) where
   -- none yet
-  pub pace_begins : (es : List Entry) (s : S) → es ≡ [] → Holds (F.held s) c [] → IsTimed F → IsDurable (F.held s) (F.may_leave s) → InPace F c es s s
+  pub pace_begins : (es : List Entry) (s : S) → es ≡ [] → Holds (F.held s) c [] → IsTimed F → IsDurable (F.held s) (F.may_leave s)
+      → InPace F c es s s
   pace_begins es s none holds timed durable = subst (λ (l : List Entry). InPace F c l s s) (sym none) (record {
     holds = subst (Holds (F.held s) c) (sym changes_none) holds;
     durable = durable;
     answered = subst (λ (rs : List Request). AreAnswered F rs s s) (sym changes_none) refl;
-    leaves = started F s (λ h. WhereTold (F.held s) (IsMoment c [] h)) (λ h left. here (F.held s) holds durable h (timed.only_now s h left));
+    leaves = started F s (λ h. WhereTold (F.held s) (IsMoment c [] h)) (λ h left. here (F.held s) holds durable h
+        (timed.only_now s h left));
   })
     where
-      here : (o : Option Stored) → Holds o c [] → IsDurable o (F.may_leave s) → (h : Holding) → F.may_leave s h → WhereTold o (IsMoment c [] h)
+      here : (o : Option Stored) → Holds o c [] → IsDurable o (F.may_leave s) → (h : Holding) → F.may_leave s h
+          → WhereTold o (IsMoment c [] h)
       here None holds durable h left = tt
       here (Some x) holds durable h left = subst (IsMoment c []) (sym (durable h left ∙ holds)) (some c [] [] (changes [], refl))
 
   -- those of one step more
-  pub pace_on : (es fs part : List Entry) (first mid new : S) → InPace F c es first mid → Adds es fs part → Appended F (changes part) mid new → CrashesLeave F mid new (IsBetween (F.held mid) (changes part)) → InPace F c fs first new
+  pub pace_on : (es fs part : List Entry) (first mid new : S) → InPace F c es first mid → Adds es fs part
+      → Appended F (changes part) mid new → CrashesLeave F mid new (IsBetween (F.held mid) (changes part)) → InPace F c fs first new
   pace_on es fs part first mid new p a appended leaves = subst (λ (l : List Entry). InPace F c l first new) (sym a.journal) (record {
-    holds = subst (Holds (F.held new) c) (sym both) (holds_more c (F.held mid) (F.held new) (changes es) (changes part) p.holds appended.grown);
+    holds = subst (Holds (F.held new) c) (sym both) (holds_more c (F.held mid) (F.held new) (changes es) (changes part) p.holds
+        appended.grown);
     durable = appended.durable;
-    answered = subst (λ (rs : List Request). AreAnswered F rs first new) (sym both) (answered_then F (changes es) (changes part) first mid new p.answered appended.answered);
+    answered = subst (λ (rs : List Request). AreAnswered F rs first new) (sym both)
+        (answered_then F (changes es) (changes part) first mid new p.answered appended.answered);
     leaves = on_and_on F c es part first mid new p.holds (changes part, begins_all (changes part), appended.grown) p.leaves leaves;
   })
     where
@@ -122,7 +143,8 @@ module _ {S : Type 0} (F : Sight S) (c : Content) where
       both = changes_append es part
 
   -- the last step's fell behind
-  pub pace_ends : (es fs part : List Entry) (first mid new : S) (fault : ShelfStop) → InPace F c es first mid → Adds es fs part → Stopped F fault (changes part) mid new → CrashesLeave F mid new (IsBetween (F.held mid) (changes part)) → Behind F c fs first new
+  pub pace_ends : (es fs part : List Entry) (first mid new : S) (fault : ShelfStop) → InPace F c es first mid → Adds es fs part
+      → Stopped F fault (changes part) mid new → CrashesLeave F mid new (IsBetween (F.held mid) (changes part)) → Behind F c fs first new
   pace_ends es fs part first mid new fault p a stopped leaves =
       let grew = some_grown F fault (changes part) mid new stopped in
       let stops = stops_of F fault (changes part) mid new stopped in
@@ -130,7 +152,8 @@ module _ {S : Type 0} (F : Sight S) (c : Content) where
         part = short c (F.held mid) (F.held new) es part a.number p.holds a.event grew;
         stops = record {
           front = changes es ++ stops.front;
-          begins = subst (Begins (changes es ++ stops.front)) (sym (changes_append es part)) (begins_more (changes es) stops.front (changes part) stops.begins);
+          begins = subst (Begins (changes es ++ stops.front)) (sym (changes_append es part))
+              (begins_more (changes es) stops.front (changes part) stops.begins);
           at = stops.at;
           answered = answered_then F (changes es) stops.front first mid stops.at p.answered stops.answered;
           last = stops.last;
@@ -159,12 +182,14 @@ module _ {S : Type 0} (F : Sight S) (c : Content) where
   -- it stops there
   pub pace_stops : (es fs : List Entry) (first now : S) → InPace F c es first now → fs ≡ es → Behind F c fs first now
   pace_stops es fs first now p same = subst (λ (l : List Entry). Behind F c l first now) (sym same) (record {
-    part = subst (HoldsPart (F.held now) c) (append-nil es) (short c (F.held now) (F.held now) es [] 0 p.holds tt ([], (changes [], refl), holds_none (F.held now)));
+    part = subst (HoldsPart (F.held now) c) (append-nil es) (short c (F.held now) (F.held now) es [] 0 p.holds tt
+        ([], (changes [], refl), holds_none (F.held now)));
     stops = record { front = changes es; begins = begins_all (changes es); at = now; answered = p.answered; last = inl refl };
     leaves = p.leaves;
   })
 
-  pub leaves_so : {A : Type 0} (result : Result A ShelfStop) (es : List Entry) (first now : S) → OnOk result (InPace F c es first now) → OnErr result (Behind F c es first now) → CrashesLeave F first now (λ h. WhereTold (F.held now) (IsMoment c es h))
+  pub leaves_so : {A : Type 0} (result : Result A ShelfStop) (es : List Entry) (first now : S) → OnOk result (InPace F c es first now)
+      → OnErr result (Behind F c es first now) → CrashesLeave F first now (λ h. WhereTold (F.held now) (IsMoment c es h))
   leaves_so (Ok x) es first now p b = p.leaves
   leaves_so (Err e) es first now p b = b.leaves
 
@@ -174,7 +199,9 @@ module _ {S : Type 0} (F : Sight S) (c : Content) where
 pub counts_none : (before mid after : ℕ) → mid ≡ before → after ≡ mid → Counts None before after
 counts_none before mid after first second = second ∙ first
 
-pub counts_some : {A : Type 0} (fault : ShelfStop) (before mid after : ℕ) → mid ≡ before → before < 2 ^ 64 - 1 → (IsErrOf {T = A} {E = ShelfStop} (Err fault) Failed → Rose mid after) → ((IsErrOf {T = A} {E = ShelfStop} (Err fault) Failed → ⊥) → after ≡ mid) → Counts (Some fault) before after
+pub counts_some : {A : Type 0} (fault : ShelfStop) (before mid after : ℕ) → mid ≡ before → before < 2 ^ 64 - 1
+    → (IsErrOf {T = A} {E = ShelfStop} (Err fault) Failed → Rose mid after)
+    → ((IsErrOf {T = A} {E = ShelfStop} (Err fault) Failed → ⊥) → after ≡ mid) → Counts (Some fault) before after
 counts_some Failed before mid after first few rose calm = less (rose refl)
   where
     less : Rose mid after → before < after

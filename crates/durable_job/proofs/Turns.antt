@@ -1,10 +1,11 @@
 -- A step of a world of two jobs.
-use Rattle.durable_job.proofs.Common.{Bool, None, Option, Side, Some, Stepped, TwinsStay, [], ap, arith, is_some, length, length-append}
-use Rattle.durable_job.proofs.Common.{refl, slice_get_within, subst, sym, turns_left, ℕ, slice_get, false, inl, inr, ◌+◌, ◌-◌, ◌<◌, ◌∙◌}
-use Rattle.durable_job.proofs.Common.{◌∷◌, ◌≡◌}
-use Rattle.std.proofs.lemmas.Option.{slice_get_cases}
+use Rattle.durable_job.specs.Moves.{Stepped, TwinsStay, turns_left}
+use Rattle.std.proofs.Common.{Bool, None, Option, Some, ap, arith, false, inl, inr, is_some, length, length-append, refl, slice_get, subst}
+use Rattle.std.proofs.Common.{sym, ℕ, [], ◌+◌, ◌-◌, ◌<◌, ◌∙◌, ◌∷◌, ◌≡◌}
+use Rattle.std.proofs.lemmas.Option.{slice_get_cases, slice_get_within}
+use Rattle.twin_jobs.specs.Worlds.{FoundNone, JobRun, Played, Run, Turned, played}
+use Rattle.twin_script.specs.declared.turns.Side.{Side}
 use Rattle.twin_script.specs.declared.turns.Side.TheVariants.{First, Second}
-use Rattle.twin_jobs.specs.Worlds.{JobRun, Run, played, Played, Turned, FoundNone}
 
 -- nothing changed
 pub self_stays : (r : Run) → TwinsStay r r
@@ -33,7 +34,8 @@ second_script r s First p = ap (λ (j : JobRun). j.script) p.other
 second_script r s Second p = p.script
 
 -- one more has its end, of so many, and one less is left
-less_by_one : (all all_then ended ended_then : ℕ) → ended_then ≡ ended + 1 → all_then ≡ all → ended < all → all - ended ≡ (all_then - ended_then) + 1
+less_by_one : (all all_then ended ended_then : ℕ) → ended_then ≡ ended + 1 → all_then ≡ all → ended < all
+    → all - ended ≡ (all_then - ended_then) + 1
 less_by_one all all_then ended ended_then more same few = omega arith
 
 same_sum : (ended ended_then left left_then : ℕ) → ended_then ≡ ended + 1 → left ≡ left_then + 1 → ended_then + left_then ≡ ended + left
@@ -41,7 +43,8 @@ same_sum ended ended_then left left_then more less = omega arith
 
 module _ (r s : Run) (side : Side) (p : Played r s side) where
   one_less : turns_left r ≡ turns_left s + 1
-  one_less = less_by_one (length r.sides) (length s.sides) (played r) (played s) (more_played r s side p) (ap length p.sides) (slice_get_within r.sides (played r) side p.next)
+  one_less = less_by_one (length r.sides) (length s.sides) (played r) (played s) (more_played r s side p) (ap length p.sides)
+      (slice_get_within r.sides (played r) side p.next)
 
   played_stays : TwinsStay r s
   played_stays = record {
@@ -68,7 +71,8 @@ stepped_so : (r s : Run) (turned : Option Side) → Turned r s turned → Steppe
 stepped_so r s (Some side) p = (p.more.0, record { journal = p.more.1; number = played r + 1; event = p.more.2 }, one_less r s side p)
 stepped_so r s None h = (none_left (played r) (length r.sides) h.1, h.0)
 
-pub turn_steps : (r s : Run) (turned : Option Side) (more : Bool) → more ≡ is_some turned → Turned r s turned → Stepped {M = Run} (λ x. x.journal) turns_left r s more
+pub turn_steps : (r s : Run) (turned : Option Side) (more : Bool) → more ≡ is_some turned → Turned r s turned
+    → Stepped {M = Run} (λ x. x.journal) turns_left r s more
 turn_steps r s turned more is h = subst (Stepped {M = Run} (λ x. x.journal) turns_left r s) (sym is) (stepped_so r s turned h)
 
 -- no turn is next

@@ -1,16 +1,19 @@
 -- One job or two that are played, what is told of them, and what is promised of them.
-use Rattle.std.specs.Prelude.{◌≡◌, ◌==◌, ℕ, List, [], length, false, if◌then◌else◌}
-use Rattle.path_keys.specs.Paths.{Path}
-use Rattle.job_spec.specs.Prelude.{Content, Entry, Script, AreOwn, Promised, Sent, Finished, verdict}
-use Rattle.job_spec.specs.Promise.{all_picks, lacked_memory}
-use Rattle.job_spec.specs.States.{past}
-use Rattle.job_soundness.specs.Safe.{ReadersSafe}
-use Rattle.twin_script.specs.TwinScripts.{Twins, sides_in}
-use Rattle.twin_jobs.specs.Worlds.{Run, played, Keeps}
-use Rattle.twin_jobs.specs.declared.played.JobLeft.{JobLeft}
 use Rattle.durable_job.specs.declared.jobs.Jobs.{Jobs}
 use Rattle.durable_job.specs.declared.jobs.Jobs.TheVariants.{One, Two}
 use Rattle.durable_job.specs.declared.jobs.Told.{Told}
+use Rattle.job_model.specs.JobScript.{Script}
+use Rattle.job_soundness.specs.Safe.{ReadersSafe}
+use Rattle.job_spec.specs.Entries.{AreOwn}
+use Rattle.job_spec.specs.Promise.{Finished, Promised, Sent, all_picks, lacked_memory}
+use Rattle.job_spec.specs.States.{past, verdict}
+use Rattle.path_keys.specs.Paths.{Path}
+use Rattle.s3_types.specs.Store.{Content}
+use Rattle.s3_types.specs.declared.journal.Entry.{Entry}
+use Rattle.std.specs.Prelude.{List, false, if◌then◌else◌, length, ℕ, [], ◌==◌, ◌≡◌}
+use Rattle.twin_jobs.specs.Worlds.{Keeps, Run, played}
+use Rattle.twin_jobs.specs.declared.played.JobLeft.{JobLeft}
+use Rattle.twin_script.specs.TwinScripts.{Twins, sides_in}
 
 -- the destination, which two jobs share
 abbrev pub dest_of : Jobs → Path

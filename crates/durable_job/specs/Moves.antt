@@ -1,7 +1,8 @@
 -- What is moved step by step, and what a world keeps of it.
-use Rattle.std.specs.Prelude.{◌≡◌, ℕ, ◌+◌, ◌-◌, Bool, true, false, List, ◌++◌, length}
-use Rattle.job_spec.specs.Prelude.{AllByRecursion, Entry}
 use Rattle.job_world.specs.Worlds.{Run}
+use Rattle.s3_types.specs.declared.journal.Entry.{Entry}
+use Rattle.std.specs.List.{AllByRecursion}
+use Rattle.std.specs.Prelude.{Bool, List, false, length, true, ℕ, ◌++◌, ◌+◌, ◌-◌, ◌≡◌}
 use Rattle.twin_jobs.specs.Worlds as twins
 
 -- there are these entries more, all of one event

@@ -1,8 +1,14 @@
 -- How a shelf keeps pace with a run.
-use Rattle.std.specs.Prelude.{◌≡◌, List, ◌∷◌, ◌++◌}
-use Rattle.journal_log.specs.Prelude.{AppendOutOfMemory, AreAnswered, Content, CrashesLeave, Entry, Holds, HoldsPart, IsDurable, IsMoment}
-use Rattle.journal_log.specs.Prelude.{Replace, Request, Sight, Stops, WhereTold}
+use Rattle.journal_log.specs.Appends.{AreAnswered, Stops}
 use Rattle.journal_log.specs.Changes.{changes}
+use Rattle.journal_log.specs.Crashes.{WhereTold}
+use Rattle.journal_log.specs.Kept.{Holds, HoldsPart, IsMoment}
+use Rattle.s3_types.specs.Store.{Content}
+use Rattle.s3_types.specs.declared.journal.Entry.{Entry}
+use Rattle.s3_types.specs.declared.request.Request.{Request}
+use Rattle.shelf.specs.Logged.{CrashesLeave, IsDurable, Sight}
+use Rattle.shelf.specs.Logged.Call.{AppendOutOfMemory, Replace}
+use Rattle.std.specs.Prelude.{List, ◌++◌, ◌∷◌, ◌≡◌}
 
 -- since this state the shelf took all that a run changed, and a crash since then left a moment of it
 pub record InPace {S : Type 0} (F : Sight S) (opening : Content) (es : List Entry) (first now : S) : Type 0 where

@@ -1,21 +1,31 @@
 -- What comes of jobs that are played over a shelf.
-use Rattle.std.specs.Prelude.{List, None, Option, Some, length, ℕ, ◌+◌, ◌<◌, ◌≡◌, ◌⊎◌}
-use Rattle.journal_log.specs.Prelude.{AreCalled, AreStopped, Content, CrashesLeave, Entry, Failed, Holds, HoldsPart, IsDurable, IsMoment}
-use Rattle.journal_log.specs.Prelude.{KeepsImages, NoMemory, ShelfStop, Sight, WhereTold, fresh, image, moment}
-use Rattle.journal_log.specs.Changes.{changes}
 use Rattle.durable_job.specs.Jobs.{AreFinished, ArePromised, verdict_of}
 use Rattle.durable_job.specs.Pace.{LacksSince}
 use Rattle.durable_job.specs.declared.jobs.Jobs.{Jobs}
 use Rattle.durable_job.specs.declared.jobs.Jobs.TheVariants.{One, Two}
 use Rattle.durable_job.specs.declared.jobs.Told.{Told}
-use Rattle.twin_script.specs.TwinScripts.{sides_in}
 use Rattle.durable_job.specs.declared.playing.Kept.{Kept}
+use Rattle.journal_log.specs.Appends.{AreCalled, AreStopped}
+use Rattle.journal_log.specs.Changes.{changes}
+use Rattle.journal_log.specs.Crashes.{WhereTold}
+use Rattle.journal_log.specs.Kept.{Holds, HoldsPart, IsMoment}
+use Rattle.journal_log.specs.Made.{KeepsImages}
+use Rattle.s3_types.specs.Moment.{moment}
+use Rattle.s3_types.specs.Store.{Content}
+use Rattle.s3_types.specs.declared.journal.Entry.{Entry}
+use Rattle.shelf.specs.Logged.{CrashesLeave, IsDurable, Sight, fresh}
+use Rattle.shelf.specs.declared.kept.ShelfStop.{ShelfStop}
+use Rattle.shelf.specs.declared.kept.ShelfStop.TheVariants.{Failed, NoMemory}
+use Rattle.std.specs.Prelude.{List, None, Option, Some, length, ℕ, ◌+◌, ◌<◌, ◌≡◌, ◌⊎◌}
+use Rattle.store_image.specs.Image.{image}
+use Rattle.twin_script.specs.TwinScripts.{sides_in}
 
 -- ---- what is kept of a run
 
 -- what a shelf holds of it: where nothing stopped it all is held, and else the first of it, with all of the earlier events
 abbrev pub IsHeld : {S : Type 0} → Sight S → Content → List Entry → Option ShelfStop → S → S → Type 0
-IsHeld F c es None old new = Holds (F.held new) c (changes es) × (IsDurable (F.held new) (F.may_leave new) × AreCalled F (changes es) old new)
+IsHeld F c es None old new = Holds (F.held new) c (changes es)
+    × (IsDurable (F.held new) (F.may_leave new) × AreCalled F (changes es) old new)
 IsHeld F c es (Some fault) old new = HoldsPart (F.held new) c es × AreStopped F (changes es) old new
 
 -- what a crash left: first what one before it might leave or the image of the opening content, and since some state a moment of the run

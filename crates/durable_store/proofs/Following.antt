@@ -1,7 +1,16 @@
 -- What changes leave of a store.
-use Rattle.durable_store.proofs.Common.{BucketContent, ClusterDelete, ClusterGet, ClusterList, ClusterPut, ClusterRename, Content, GetObject, HeadObject, List, ListPage, ListParts, ListUploads, None, Option, Request, Some, [], ap, apply_at, apply_store, arith, content_after, false, is_changing, on_and_on, opening, others_leave, refl, true, ◌<◌, ◌^◌, ◌∙◌, ◌≡◌}
-use Rattle.std.specs.FinMap as fin
+use Rattle.journal_log.proofs.Imaged.{on_and_on}
+use Rattle.journal_log.proofs.Journals.{others_leave}
+use Rattle.journal_log.specs.Changes.{content_after}
+use Rattle.log_format.specs.Change.{is_changing}
+use Rattle.s3_types.specs.Answer.{apply_at, apply_store}
 use Rattle.s3_types.specs.Requests.{is_cluster}
+use Rattle.s3_types.specs.Store.{BucketContent, Content, opening}
+use Rattle.s3_types.specs.declared.request.Request.{Request}
+use Rattle.s3_types.specs.declared.request.Request.TheVariants.{ClusterDelete, ClusterGet, ClusterList, ClusterPut, ClusterRename}
+use Rattle.s3_types.specs.declared.request.Request.TheVariants.{GetObject, HeadObject, ListPage, ListParts, ListUploads}
+use Rattle.std.proofs.Common.{List, None, Option, Some, ap, arith, false, refl, true, [], ◌<◌, ◌^◌, ◌∙◌, ◌≡◌}
+use Rattle.std.specs.FinMap as fin
 
 -- ---- one request
 

@@ -1,14 +1,29 @@
 -- What is found on a shelf, by what was loaded.
-use Rattle.durable_store.proofs.Common.{AllByRecursion, AreAtKeys, Content, Err, IfOk, IsBucket, IsContent, IsMade, IsObject, IsOf, IsSmall, IsSound, List, None, Ok, Option, Request, Result, Some, Stored, all, and_parts, ap, arith, at, cond, content_after, false, image, inl, inr, is_bucket, is_key, kept, leb-true, length, most_base, most_file, nat_le, nat_lt, nat_tests, refl, subst, sym, text_cmp, text_total, true, ℕ, ◌<◌, ◌^◌, ◌||◌, ◌∙◌, ◌≡◌, ◌≤◌, ◌⊎◌}
+use Rattle.basics.specs.Order.{text_cmp, text_total}
+use Rattle.durable_store.specs.Outcomes.{AreAtKeys, IsOf, IsSound}
+use Rattle.durable_store.specs.Stores.{counted, found, read_as, unfolded}
+use Rattle.durable_store.specs.declared.held.Held.{Held}
+use Rattle.durable_store.specs.declared.held.Held.TheVariants.{Faulty, Nothing, Store}
+use Rattle.journal_log.proofs.Imaged.{all, at}
+use Rattle.journal_log.specs.Changes.{content_after}
+use Rattle.journal_log.specs.Kept.{kept}
+use Rattle.journal_log.specs.Made.{IsMade}
+use Rattle.s3_types.specs.Names.{is_bucket, is_key}
+use Rattle.s3_types.specs.Store.{Content}
+use Rattle.s3_types.specs.declared.request.Request.{Request}
+use Rattle.shelf.specs.Logged.{IsBad, IsLoaded, IsSmall, IsTooLarge, Stored, most_base, most_file}
+use Rattle.shelf.specs.Logged.Holding.{Stands}
+use Rattle.std.proofs.Common.{Err, IfOk, List, None, Ok, Option, Result, Some, ap, arith, cond, false, inl, inr, length, nat_le, nat_lt}
+use Rattle.std.proofs.Common.{refl, subst, sym, true, ℕ, ◌<◌, ◌^◌, ◌||◌, ◌∙◌, ◌≡◌, ◌≤◌, ◌⊎◌}
+use Rattle.std.proofs.lemmas.Bool.{and_parts, leb-true}
+use Rattle.std.proofs.lemmas.Bool.Decides.{nat_tests}
+use Rattle.std.specs.List.{AllByRecursion}
+use Rattle.store_image.specs.Content.{IsBucket, IsContent, IsObject}
+use Rattle.store_image.specs.Image.{image}
+use Rattle.store_image.specs.Reading.{content_in}
 use Rattle.std.specs.FinMap as fin
 use Rattle.log_format.specs.declared.held.Held as logs
-use Rattle.shelf.specs.Logged.{IsLoaded, IsTooLarge, IsBad}
-use Rattle.shelf.specs.Logged.Holding.{Stands}
 use Rattle.store_image.proofs.Whole as images
-use Rattle.store_image.specs.Reading.{content_in}
-use Rattle.durable_store.specs.declared.held.Held.{Held}
-use Rattle.durable_store.specs.declared.held.Held.TheVariants.{Nothing, Store, Faulty}
-use Rattle.durable_store.specs.Stores.{counted, unfolded, read_as, found}
 
 -- ---- the store that is unfolded
 
@@ -24,14 +39,17 @@ many d h =
 
 -- it is what the base and the changes stand for
 pub stood : (held : logs.Held) (c : Content) → held.base ≡ image c → IsOf (counted (content_after c held.changes)) (Stands held)
-stood held c is = elim (nat_lt (2 ^ 62) (content_after c held.changes).next) as (λ t. IsOf (cond t (Faulty 5 0) (Store (content_after c held.changes))) (Stands held)) [
-  | true ↦ tt
-  | false ↦ record { first = c; is_image = is; folded = refl }
-]
+stood held c is = elim (nat_lt (2 ^ 62) (content_after c held.changes).next) as
+    (λ t. IsOf (cond t (Faulty 5 0) (Store (content_after c held.changes))) (Stands held)) [
+      | true ↦ tt
+      | false ↦ record { first = c; is_image = is; folded = refl }
+    ]
 
 -- so what was followed stands for what is held
-pub stand_if : {E : Type 0} (r : Result Held E) (held : logs.Held) (c : Content) (rs : List Request) → rs ≡ held.changes → held.base ≡ image c → IfOk r (λ h. h ≡ counted (content_after c rs)) → IfOk r (λ h. IsOf h (Stands held))
-stand_if (Ok h) held c rs same is e = subst (λ (x : Held). IsOf x (Stands held)) (sym (e ∙ ap (λ (l : List Request). counted (content_after c l)) same)) (stood held c is)
+pub stand_if : {E : Type 0} (r : Result Held E) (held : logs.Held) (c : Content) (rs : List Request) → rs ≡ held.changes
+    → held.base ≡ image c → IfOk r (λ h. h ≡ counted (content_after c rs)) → IfOk r (λ h. IsOf h (Stands held))
+stand_if (Ok h) held c rs same is e = subst (λ (x : Held). IsOf x (Stands held))
+    (sym (e ∙ ap (λ (l : List Request). counted (content_after c l)) same)) (stood held c is)
 stand_if (Err fault) held c rs same is e = tt
 
 -- a store that can have an image has ids left
@@ -39,7 +57,8 @@ pub few_ids : (c : Content) → IsContent c → c.next ≤ 2 ^ 62
 few_ids c is = leb-true c.next (2 ^ 62) (and_parts (nat_le 1 c.next) (nat_le c.next (2 ^ 62)) is.counter).1
 
 -- and it can have an image
-pub imaged : (c d : Content) (rs : List Request) → d ≡ content_after c rs → AllByRecursion IsMade rs → (content_after c rs).next ≤ 2 ^ 62 → IsContent c → IsSound (Store d)
+pub imaged : (c d : Content) (rs : List Request) → d ≡ content_after c rs → AllByRecursion IsMade rs → (content_after c rs).next ≤ 2 ^ 62
+    → IsContent c → IsSound (Store d)
 imaged c d rs same m few is = subst IsContent (sym same) (all c rs is m few)
 
 pub sound_if : {E : Type 0} (r : Result Held E) (c : Content) → IsContent c → IfOk r (λ h. IsContent c → IsSound h) → IfOk r IsSound
@@ -54,8 +73,10 @@ small s h =
     let test : (nat_lt most_base s.base_length || nat_lt most_file s.file_length) ≡ false = grind (arith, nat_tests) in
     rw test refl
 
-pub again : (s : Stored) (c : Content) (rs : List Request) → s.holding ≡ kept c rs → IsSmall s → length (image c) < 2 ^ 64 → IsContent c → (content_after c rs).next ≤ 2 ^ 62 → found s ≡ Store (content_after c rs)
-again s c rs h sm fits is less = small s sm ∙ ap read_as h ∙ ap (λ r. unfolded r rs) (images.read_again (image c) c fits is refl) ∙ sym (few (content_after c rs) less)
+pub again : (s : Stored) (c : Content) (rs : List Request) → s.holding ≡ kept c rs → IsSmall s → length (image c) < 2 ^ 64 → IsContent c
+    → (content_after c rs).next ≤ 2 ^ 62 → found s ≡ Store (content_after c rs)
+again s c rs h sm fits is less = small s sm ∙ ap read_as h ∙ ap (λ r. unfolded r rs) (images.read_again (image c) c fits is refl) ∙ sym
+    (few (content_after c rs) less)
 
 pub at_keys : (c : Content) → IsContent c → AreAtKeys c
 at_keys c is n k b o g h =
@@ -71,7 +92,8 @@ found_nothing (Some t) s loaded e =
     subst (λ (x : Stored). Nothing ≡ found x) is (sym (small t loaded.1 ∙ ap read_as loaded.0))
 
 -- this was loaded
-pub found_held : (o : Option Stored) (held : logs.Held) (s : Stored) → IsLoaded o (Some held) → o ≡ Some s → unfolded (content_in held.base) held.changes ≡ found s
+pub found_held : (o : Option Stored) (held : logs.Held) (s : Stored) → IsLoaded o (Some held) → o ≡ Some s
+    → unfolded (content_in held.base) held.changes ≡ found s
 found_held None held s loaded e = cc
 found_held (Some t) held s loaded e =
     let is : t ≡ s = cc in

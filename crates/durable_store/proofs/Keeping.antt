@@ -1,10 +1,19 @@
 -- What is answered, by what came of a save, and which statuses of what is said are none of the shelf.
-use Rattle.durable_store.proofs.Common.{Content, Entry, Err, Failed, IsAnswer, IsSaid, List, NoMemory, Ok, Result, Saves, ShelfStop, Status, failed, saved, status_of, text_at, wanting, ℕ, ◌≢◌}
+use Rattle.durable_store.specs.Outcomes.{IsAnswer, status_of, text_at}
+use Rattle.durable_store.specs.Outcomes.IsAnswer.{failed, saved, wanting}
+use Rattle.durable_store.specs.Works.{IsSaid, Saves}
 use Rattle.exit_status.specs.Statuses.{code}
-use Rattle.exit_status.specs.declared.statuses.Status.TheVariants.{Done, Refused, BadImage}
+use Rattle.exit_status.specs.declared.statuses.Status.{Status}
+use Rattle.exit_status.specs.declared.statuses.Status.TheVariants.{BadImage, Done, Refused}
+use Rattle.s3_types.specs.Store.{Content}
+use Rattle.s3_types.specs.declared.journal.Entry.{Entry}
+use Rattle.shelf.specs.declared.kept.ShelfStop.{ShelfStop}
+use Rattle.shelf.specs.declared.kept.ShelfStop.TheVariants.{Failed, NoMemory}
+use Rattle.std.proofs.Common.{Err, List, Ok, Result, ℕ, ◌≢◌}
 
 -- of a save
-pub saved_answer : {A : Type 0} (r : Result A ShelfStop) (c : Content) (text : List ℕ) (es : List Entry) → IsAnswer (Saves c text es) (status_of r) (text_at (status_of r) text) es
+pub saved_answer : {A : Type 0} (r : Result A ShelfStop) (c : Content) (text : List ℕ) (es : List Entry)
+    → IsAnswer (Saves c text es) (status_of r) (text_at (status_of r) text) es
 saved_answer (Ok x) c text es = saved c text es
 saved_answer (Err Failed) c text es = failed c text es
 saved_answer (Err NoMemory) c text es = wanting c text es

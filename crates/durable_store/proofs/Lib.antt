@@ -2,4 +2,3 @@ pub mod Following
 pub mod Found
 pub mod Replacing
 pub mod Keeping
-mod Common

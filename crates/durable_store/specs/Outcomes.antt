@@ -1,16 +1,28 @@
 -- What comes of a load and of a command, beside what the shelf holds.
-use Rattle.std.specs.Prelude.{◌≡◌, ◌≢◌, ℕ, ◌<◌, ◌≤◌, ◌^◌, ◌⊎◌, true, List, length, Option, Some, None, Result, Ok, Err}
-use Rattle.journal_log.specs.Prelude.{is_key, BucketContent, Content, Object, Entry, Request, Holding, Stored, IsSmall, IsDurable, Sight, image, IsContent, content_after, KeepsImages, StandsFor, IsMoment, kept, Holds, HoldsPart, WhereTold, AreCalled, AreCut, ShelfStop}
-use Rattle.std.specs.FinMap as fin
-use Rattle.journal_log.specs.Changes.{changes}
 use Rattle.durable_store.specs.Stores.{found}
-use Rattle.durable_store.specs.Works.{Work, Says, Saves}
+use Rattle.durable_store.specs.Works.{Saves, Says, Work}
 use Rattle.durable_store.specs.declared.held.Held.{Held}
-use Rattle.durable_store.specs.declared.held.Held.TheVariants.{Nothing, Store, Faulty}
-use Rattle.shelf.specs.declared.kept.ShelfStop.TheVariants as stops
+use Rattle.durable_store.specs.declared.held.Held.TheVariants.{Faulty, Nothing, Store}
 use Rattle.exit_status.specs.declared.statuses.Status.{Status}
-use Rattle.exit_status.specs.declared.statuses.Status.TheVariants.{Done, ShelfFault, NoMemory}
+use Rattle.exit_status.specs.declared.statuses.Status.TheVariants.{Done, NoMemory, ShelfFault}
+use Rattle.journal_log.specs.Appends.{AreCalled, AreCut}
+use Rattle.journal_log.specs.Changes.{changes, content_after}
+use Rattle.journal_log.specs.Crashes.{WhereTold}
+use Rattle.journal_log.specs.Kept.{Holds, HoldsPart, IsMoment, StandsFor, kept}
+use Rattle.journal_log.specs.Made.{KeepsImages}
+use Rattle.s3_types.specs.Names.{is_key}
+use Rattle.s3_types.specs.Store.{BucketContent, Content}
+use Rattle.s3_types.specs.declared.journal.Entry.{Entry}
+use Rattle.s3_types.specs.declared.object.Object.{Object}
+use Rattle.s3_types.specs.declared.request.Request.{Request}
+use Rattle.shelf.specs.Logged.{Holding, IsDurable, IsSmall, Sight, Stored}
 use Rattle.shelf.specs.Logged.Holding.{Nothing as Absent}
+use Rattle.shelf.specs.declared.kept.ShelfStop.{ShelfStop}
+use Rattle.std.specs.Prelude.{Err, List, None, Ok, Option, Result, Some, length, true, ℕ, ◌<◌, ◌^◌, ◌≡◌, ◌≢◌, ◌≤◌, ◌⊎◌}
+use Rattle.store_image.specs.Content.{IsContent}
+use Rattle.store_image.specs.Image.{image}
+use Rattle.std.specs.FinMap as fin
+use Rattle.shelf.specs.declared.kept.ShelfStop.TheVariants as stops
 
 -- ---- a load
 
@@ -21,7 +33,8 @@ IsSound _ = Unit {0}
 
 -- the objects of a store stand at keys
 abbrev pub AreAtKeys : Content → Type 0
-AreAtKeys c = (n k : List ℕ) (b : BucketContent) (o : Object) → fin.get c.buckets n ≡ Some b → fin.get b.objects k ≡ Some o → is_key k ≡ true
+AreAtKeys c = (n k : List ℕ) (b : BucketContent) (o : Object) → fin.get c.buckets n ≡ Some b → fin.get b.objects k ≡ Some o
+    → is_key k ≡ true
 
 -- a store that can have an image is found again behind its changes, where it is small and its counter is at most 2^62
 pub record LoadsAgain : Type 0 where
@@ -61,10 +74,12 @@ pub data IsAnswer : Work → (due : Status) (text : Option (List ℕ)) (sent : L
   failed : (c : Content) (text : List ℕ) (es : List Entry) → IsAnswer (Saves c text es) ShelfFault None es
   wanting : (c : Content) (text : List ℕ) (es : List Entry) → IsAnswer (Saves c text es) NoMemory None es
 
--- what the shelf holds after a command: what it held, or the store that was to be saved with all that was sent, or, where that was not done, with the first of it
+-- what the shelf holds after a command: what it held, or the store that was to be saved with all that was sent, or, where that was not
+-- done, with the first of it
 abbrev pub IsHeld : Work → (due : Status) (before after : Option Stored) → Type 0
 IsHeld (Says d text es) due before after = after ≡ before
-IsHeld (Saves c text es) due before after = (due ≡ Done → Holds after c (changes es)) × (due ≢ Done → (after ≡ before) ⊎ HoldsPart after c es)
+IsHeld (Saves c text es) due before after = (due ≡ Done → Holds after c (changes es))
+    × (due ≢ Done → (after ≡ before) ⊎ HoldsPart after c es)
 
 -- what is saved leads through stores that can have an image
 abbrev pub HasImages : Work → Type 0

@@ -1,12 +1,16 @@
 -- What a shelf holds.
-use Rattle.std.specs.Prelude.{◌^◌, ◌||◌, ℕ, nat_lt, List, [], ◌∷◌, ◌++◌, codes, Result, Ok, Err, if◌then◌else◌}
-use Rattle.journal_log.specs.Prelude.{decimal, Content, Request, Holding, Stored, most_base, most_file, content_after}
-use Rattle.shelf.specs.Logged.Holding.{Nothing as Absent, Stands, BadAt}
+use Rattle.durable_store.specs.declared.held.Held.{Held}
+use Rattle.durable_store.specs.declared.held.Held.TheVariants.{Faulty, Nothing, Store}
+use Rattle.journal_log.specs.Changes.{content_after}
+use Rattle.s3_types.specs.Store.{Content}
+use Rattle.s3_types.specs.declared.request.Request.{Request}
+use Rattle.shelf.specs.Logged.{Holding, Stored, most_base, most_file}
+use Rattle.shelf.specs.Logged.Holding.{BadAt, Nothing as Absent, Stands}
+use Rattle.std.specs.Fmt.{decimal}
+use Rattle.std.specs.Prelude.{Err, List, Ok, Result, codes, if◌then◌else◌, nat_lt, ℕ, [], ◌++◌, ◌^◌, ◌||◌, ◌∷◌}
 use Rattle.store_image.specs.Fault.{number_of, place_in}
 use Rattle.store_image.specs.Reading.{content_in}
 use Rattle.store_image.specs.declared.fault.ImageFault.{ImageFault}
-use Rattle.durable_store.specs.declared.held.Held.{Held}
-use Rattle.durable_store.specs.declared.held.Held.TheVariants.{Nothing, Store, Faulty}
 
 -- ---- what is held
 

@@ -1,8 +1,10 @@
 -- What a command is to do.
-use Rattle.std.specs.Prelude.{◌≡◌, ℕ, List, Option}
-use Rattle.journal_log.specs.Prelude.{AllByRecursion, Content, Entry}
 use Rattle.exit_status.specs.declared.statuses.Status.{Status}
-use Rattle.exit_status.specs.declared.statuses.Status.TheVariants.{Done, Refused, BadImage}
+use Rattle.exit_status.specs.declared.statuses.Status.TheVariants.{BadImage, Done, Refused}
+use Rattle.s3_types.specs.Store.{Content}
+use Rattle.s3_types.specs.declared.journal.Entry.{Entry}
+use Rattle.std.specs.List.{AllByRecursion}
+use Rattle.std.specs.Prelude.{List, Option, ℕ, ◌≡◌}
 
 -- what is to be done: a text to be said, or a store to be kept
 pub data Work : Type 0 where

@@ -1,7 +1,8 @@
 -- The statuses that the program ends with, and the texts that go with some.
-use Rattle.std.specs.Prelude.{ℕ, ◌++◌, List, [], ◌∷◌, codes, Option, Some, None, unwrap_or}
 use Rattle.exit_status.specs.declared.statuses.Status.{Status}
-use Rattle.exit_status.specs.declared.statuses.Status.TheVariants.{Done, Refused, Usage, ReadFault, WriteFault, ShelfFault, BadScript, BadImage, StoreFault, NoMemory}
+use Rattle.exit_status.specs.declared.statuses.Status.TheVariants.{BadImage, BadScript, Done, NoMemory, ReadFault, Refused, ShelfFault}
+use Rattle.exit_status.specs.declared.statuses.Status.TheVariants.{StoreFault, Usage, WriteFault}
+use Rattle.std.specs.Prelude.{List, None, Option, Some, codes, unwrap_or, ℕ, [], ◌++◌, ◌∷◌}
 
 -- the exit status as a number
 abbrev pub code : Status → ℕ

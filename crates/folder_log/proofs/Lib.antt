@@ -3,4 +3,3 @@ pub mod Moments
 pub mod Appends
 pub mod Recorded
 pub mod Choices
-mod Common

@@ -1,12 +1,20 @@
 -- How a run of calls goes on.
-use Rattle.folder_log.proofs.Common.{Elapses, FewMore, File, LeavesOnly, ap, arith, inl, more, ℕ, ◌+◌, ◌∙◌, ◌≡◌, ◌≤◌}
+use Rattle.folder_log.specs.Disk.{Elapses, FewMore, File, more}
+use Rattle.shelf.specs.Logged.{LeavesOnly}
+use Rattle.std.proofs.Common.{ap, arith, inl, ℕ, ◌+◌, ◌∙◌, ◌≡◌, ◌≤◌}
 
 -- counts of calls, one run behind another
 pub more_more : (m n c : ℕ) → more n (more m c) ≡ more (m + n) c
 more_more m n c = omega arith
 
 pub few_more : (m most all c d e : ℕ) → d ≡ more m c → m + most ≤ all → FewMore most d e → FewMore all c e
-few_more m most all c d e is le few = (m + few.0, omega (arith, few.1), omega (arith, few.2, le), few.3 ∙ ap (more few.0) is ∙ more_more m few.0 c)
+few_more m most all c d e is le few = (
+  m + few.0,
+  omega (arith, few.1),
+  omega (arith, few.2, le),
+  few.3 ∙ ap (more few.0) is ∙ more_more m
+      few.0 c,
+)
 
 pub fewer : (most all c d : ℕ) → most ≤ all → FewMore most c d → FewMore all c d
 fewer most all c d le few = (few.0, few.1, omega (arith, few.2, le), few.3)
@@ -17,14 +25,17 @@ module _ {D : Type 0} (moment : D → ℕ) (left_since : D → ℕ → File → 
   started old P here = record { later = omega arith; each = here; before = λ t c le left. inl left }
 
   -- one call more, after which a crash leaves what has P
-  pub goes_on : (old mid new : D) (P may_leave : File → Type 0) → LeavesOnly moment left_since old mid P → Elapses (moment mid) (moment new) (left_since mid) (left_since new) may_leave
+  pub goes_on : (old mid new : D) (P may_leave : File → Type 0) → LeavesOnly moment left_since old mid P
+      → Elapses (moment mid) (moment new) (left_since mid) (left_since new) may_leave
       → ((c : File) → may_leave c → P c) → LeavesOnly moment left_since old new P
   goes_on old mid new P may_leave h g e = grind arith
 
   -- one run and then another
-  pub then_on : (old mid new : D) (P Q R : File → Type 0) → LeavesOnly moment left_since old mid P → LeavesOnly moment left_since mid new Q → ((c : File) → P c → R c) → ((c : File) → Q c → R c) → LeavesOnly moment left_since old new R
+  pub then_on : (old mid new : D) (P Q R : File → Type 0) → LeavesOnly moment left_since old mid P → LeavesOnly moment left_since mid new Q
+      → ((c : File) → P c → R c) → ((c : File) → Q c → R c) → LeavesOnly moment left_since old new R
   then_on old mid new P Q R h g e f = grind arith
 
   -- what is known of less is known of more
-  pub widened : (old new : D) (P R : File → Type 0) → LeavesOnly moment left_since old new P → ((c : File) → P c → R c) → LeavesOnly moment left_since old new R
+  pub widened : (old new : D) (P R : File → Type 0) → LeavesOnly moment left_since old new P → ((c : File) → P c → R c)
+      → LeavesOnly moment left_since old new R
   widened old new P R h g = grind arith

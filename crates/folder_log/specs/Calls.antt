@@ -20,7 +20,12 @@ is_within at (Some bytes) = nat_le at (length bytes)
 
 -- the disk once these bytes were written at a place
 abbrev pub wrote : State → ℕ → List ℕ → State
-wrote s place bytes = record { synced = s.synced; now = file_after place bytes s.now; ranges = s.ranges ++ record { place = place; length = length bytes } ∷ [] }
+wrote s place bytes = record {
+  synced = s.synced;
+  now = file_after place bytes s.now;
+  ranges = s.ranges ++ record
+      { place = place; length = length bytes } ∷ [];
+}
 
 -- after one call that was answered well
 abbrev pub after : State → DiskCall → State
@@ -61,7 +66,8 @@ left_by Lost s = s.synced
 left_by Kept s = s.now
 left_by (Torn byte) s = filled byte s.ranges s.synced
 
--- a disk in memory: the file that it was made with, its calls that were answered well and may have changed what a crash leaves, and all its calls by number
+-- a disk in memory: the file that it was made with, its calls that were answered well and may have changed what a crash leaves, and all its
+-- calls by number
 pub record Recorded : Type 0 where
   pub first : File
   pub calls : List DiskCall

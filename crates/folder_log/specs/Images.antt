@@ -18,7 +18,8 @@ pub torn_last : (rs : List Span) (r : Span) (a b c : File) → IsTornBy rs a b �
 torn_last [] r a b c h t = (c, subst (λ (f : File). IsTorn r.place r.length f c) h t, refl)
 torn_last (x ∷ rs) r a b c h t = (h.0, h.1, torn_last rs r h.0 b c h.2 t)
 
-torn_split : (rs : List Span) (r : Span) (a c : File) → IsTornBy (rs ++ r ∷ []) a c → (b : File) × IsTornBy rs a b × IsTorn r.place r.length b c
+torn_split : (rs : List Span) (r : Span) (a c : File) → IsTornBy (rs ++ r ∷ []) a c → (b : File) × IsTornBy rs a b
+    × IsTorn r.place r.length b c
 torn_split [] r a c h = (a, refl, subst (λ (f : File). IsTorn r.place r.length a f) (sym h.2) h.1)
 torn_split (x ∷ rs) r a c h = let s = torn_split rs r h.0 c h.2 in (s.0, (h.0, h.1, s.1), s.2)
 
@@ -36,9 +37,11 @@ written_torn : (at : ℕ) (bytes old : List ℕ) → at ≤ length old → Torn 
 written_torn at bytes old le =
     let first : length (take at old) ≡ at = omega (arith, length-take at old) in
     let both : length (take at old ++ bytes) ≡ at + length bytes = omega (arith, first, length-append (take at old) bytes) in
-    let all : length (overwritten at bytes old) ≡ at + length bytes + length (drop (at + length bytes) old) = omega (arith, both, length-append (take at old ++ bytes) (drop (at + length bytes) old)) in
+    let all : length (overwritten at bytes old) ≡ at + length bytes + length (drop (at + length bytes) old) = omega
+    (arith, both, length-append (take at old ++ bytes) (drop (at + length bytes) old)) in
     record {
-      before = ap (take at) (append_three (take at old) bytes (drop (at + length bytes) old)) ∙ take_at (take at old) (bytes ++ drop (at + length bytes) old) at first;
+      before = ap (take at) (append_three (take at old) bytes (drop (at + length bytes) old)) ∙ take_at (take at old)
+          (bytes ++ drop (at + length bytes) old) at first;
       after = drop_at (take at old ++ bytes) (drop (at + length bytes) old) (at + length bytes) both;
       no_shorter = omega (arith, all, length-drop (at + length bytes) old, le);
       no_longer = omega (arith, all, length-drop (at + length bytes) old, le);
@@ -48,7 +51,8 @@ written_torn at bytes old le =
     append_three [] b c = refl
     append_three (x ∷ a) b c = ap (λ (l : List ℕ). x ∷ l) (append_three a b c)
 
-pub after_torn : (at : ℕ) (bytes : List ℕ) (file : File) → is_within at file ≡ true → IsTorn at (length bytes) file (file_after at bytes file)
+pub after_torn : (at : ℕ) (bytes : List ℕ) (file : File) → is_within at file ≡ true
+    → IsTorn at (length bytes) file (file_after at bytes file)
 after_torn at bytes None h = refl
 after_torn at bytes (Some old) h = written_torn at bytes old (leb-true at (length old) h)
 
@@ -69,17 +73,26 @@ pub shown : (d : Recorded) → IsImage (state_in d) (state_in d).now
 shown d = image_now (at_rest d.first) d.calls refl
 
 -- a write is followed by what may be left of it
-pub write_follows : (s : State) (place : ℕ) (bytes : List ℕ) → is_within place s.now ≡ true → Follows (IsTorn place (length bytes)) (IsImage s) (IsImage (after s (Write place bytes)))
+pub write_follows : (s : State) (place : ℕ) (bytes : List ℕ) → is_within place s.now ≡ true
+    → Follows (IsTorn place (length bytes)) (IsImage s) (IsImage (after s (Write place bytes)))
 write_follows s place bytes e c left =
     torn_split s.ranges (span place bytes) s.synced c (subst (λ (b : Bool). IsImage (cond b (wrote s place bytes) s) c) e left)
 
 all_taken : (calls : List DiskCall) → take (length calls) calls ≡ calls
 all_taken calls = take_all (length calls) calls (omega arith)
 
-pub counted : (first : File) (calls : List DiskCall) (t : ℕ) (c : File) → t ≤ length calls → IsImage (state_of first calls) c → LeftSince first calls t c
-counted first calls t c le image = (length calls, le, omega arith, subst (λ (l : List DiskCall). IsImage (state_of first l) c) (sym (all_taken calls)) image)
+pub counted : (first : File) (calls : List DiskCall) (t : ℕ) (c : File) → t ≤ length calls → IsImage (state_of first calls) c
+    → LeftSince first calls t c
+counted first calls t c le image = (
+  length calls,
+  le,
+  omega arith,
+  subst (λ (l : List DiskCall). IsImage (state_of first l) c)
+      (sym (all_taken calls)) image,
+)
 
-pub only_last : (first : File) (calls : List DiskCall) (c : File) → LeftSince first calls (length calls) c → IsImage (state_of first calls) c
+pub only_last : (first : File) (calls : List DiskCall) (c : File) → LeftSince first calls (length calls) c
+    → IsImage (state_of first calls) c
 only_last first calls c left =
     let same : left.0 ≡ length calls = omega (arith, left.1, left.2) in
     subst (λ (l : List DiskCall). IsImage (state_of first l) c) (ap (λ k. take k calls) same ∙ all_taken calls) left.3

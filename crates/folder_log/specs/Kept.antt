@@ -1,16 +1,17 @@
 -- What a log file holds, and how it stands between two changes.
-use Rattle.std.specs.Prelude.{◌≡◌, ◌⊎◌, ℕ, ◌+◌, ◌<◌, ◌≤◌, ◌^◌, List, [], ◌∷◌, ◌++◌, length, Option, Some, None, Result, Ok, Err}
-use Rattle.s3_types.specs.Prelude.{option_map, AllByRecursion}
-use Rattle.s3_types.specs.declared.request.Request.{Request}
+use Rattle.folder_log.specs.Disk.{File, Only}
 use Rattle.log_format.specs.Change.{IsChange}
-use Rattle.log_format.specs.Log.{headed, opened, record_of, log}
-use Rattle.log_format.specs.Reading.{held_in, base_length}
-use Rattle.log_format.specs.declared.held.Held.{Held}
+use Rattle.log_format.specs.Log.{headed, log, opened, record_of}
+use Rattle.log_format.specs.Reading.{base_length, held_in}
 use Rattle.log_format.specs.declared.fault.LogFault.{LogFault}
 use Rattle.log_format.specs.declared.fault.LogFault.TheVariants.{Bad, NoMemory}
+use Rattle.log_format.specs.declared.held.Held.{Held}
+use Rattle.s3_types.specs.declared.request.Request.{Request}
 use Rattle.shelf.specs.Logged.{Holding, Stored}
-use Rattle.shelf.specs.Logged.Holding.{Nothing, Stands, BadAt}
-use Rattle.folder_log.specs.Disk.{File, Only}
+use Rattle.shelf.specs.Logged.Holding.{BadAt, Nothing, Stands}
+use Rattle.std.specs.List.{AllByRecursion}
+use Rattle.std.specs.Option.{option_map}
+use Rattle.std.specs.Prelude.{Err, List, None, Ok, Option, Result, Some, length, ℕ, [], ◌++◌, ◌+◌, ◌<◌, ◌^◌, ◌∷◌, ◌≡◌, ◌≤◌, ◌⊎◌}
 
 -- what was read of a file, as what it holds
 abbrev pub as_holding : Result Held LogFault → Holding
@@ -68,7 +69,8 @@ pub record IsClosed (front : List ℕ) (gate : ℕ) (seen : Option File) (leaves
 
 -- the front stands, and behind it a closed gate and any bytes, no more than the record has, or any gate and the record whole
 abbrev pub IsLeftOf : List ℕ → List ℕ → File → Type 0
-IsLeftOf front written c = ((rest : List ℕ) × (length rest ≤ length written) × (c ≡ Some (front ++ 0 ∷ rest))) ⊎ ((g : ℕ) × (c ≡ Some (front ++ g ∷ written)))
+IsLeftOf front written c = ((rest : List ℕ) × (length rest ≤ length written) × (c ≡ Some (front ++ 0 ∷ rest)))
+    ⊎ ((g : ℕ) × (c ≡ Some (front ++ g ∷ written)))
 
 -- a change as it is written behind a closed gate, and the place of the gate that then stands behind it
 pub record IsPrepared (gate : ℕ) (change : Request) (written : List ℕ) (end : ℕ) : Type 0 where

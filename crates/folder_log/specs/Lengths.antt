@@ -1,17 +1,17 @@
 -- The two lengths by which a load of a log file decides what is too large.
-use Rattle.std.specs.Prelude.{◌≡◌, ℕ, Bool, true, false, if◌then◌else◌, List, [], length, drop, Option, Some, None, Result, Ok, Err, refl}
-use Rattle.std.proofs.Common.{sym, ap, subst, inr, ◌∙◌, arith, rules}
-use Rattle.s3_types.specs.Prelude.{◌>>=◌}
-use Rattle.log_format.specs.Log.{log}
-use Rattle.log_format.specs.Reading.{Read, held_in, logged_in, block_at, changes_at, is_log, length_of, base_length}
-use Rattle.s3_types.specs.declared.request.Request.{Request}
-use Rattle.log_format.specs.declared.held.Held.{Held}
-use Rattle.log_format.specs.declared.fault.LogFault.{LogFault}
-use Rattle.shelf.specs.Logged.{Holding, HasBaseLength, IsWithinLog}
-use Rattle.shelf.specs.Logged.Holding.{Stands}
+use Rattle.basics.specs.Reading.{◌>>=◌}
 use Rattle.folder_log.specs.Disk.{File}
-use Rattle.folder_log.specs.Kept.{IsAtRest, as_holding, stored, TakesAppends}
+use Rattle.folder_log.specs.Kept.{IsAtRest, TakesAppends, as_holding, stored}
 use Rattle.log_format.proofs.Files.{file_again}
+use Rattle.log_format.specs.Log.{log}
+use Rattle.log_format.specs.Reading.{Read, base_length, block_at, changes_at, held_in, is_log, length_of, logged_in}
+use Rattle.log_format.specs.declared.fault.LogFault.{LogFault}
+use Rattle.log_format.specs.declared.held.Held.{Held}
+use Rattle.s3_types.specs.declared.request.Request.{Request}
+use Rattle.shelf.specs.Logged.{HasBaseLength, Holding, IsWithinLog}
+use Rattle.shelf.specs.Logged.Holding.{Stands}
+use Rattle.std.proofs.Common.{ap, arith, inr, rules, subst, sym, ◌∙◌}
+use Rattle.std.specs.Prelude.{Bool, Err, List, None, Ok, Option, Result, Some, drop, false, if◌then◌else◌, length, refl, true, ℕ, [], ◌≡◌}
 
 one_held : (a b : Held) → Stands a ≡ Stands b → a ≡ b
 one_held a b is = cc

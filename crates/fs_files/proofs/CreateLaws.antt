@@ -1,46 +1,66 @@
 -- Making a file, stage by stage.
-use Rattle.std.specs.Prelude.{◌≡◌, ◌⊎◌, ℕ, ◌+◌, ◌*◌, ◌<◌, ◌≤◌, nat_lt, Bool, true, false, cond, List, [], ◌∷◌, Ok, Err, Option, Some, None}
-use Rattle.std.specs.Prelude.{length}
-use Rattle.fs_files.proofs.Common.{AlreadyExists, Ask, BucketContent, Completed, Creates, DeleteObjects, Done, End, Falls, FsRefusal, Goes}
-use Rattle.fs_files.proofs.Common.{HasFile, HasRoom, Head, Heard, InFile, IsAbsent, IsBeside, IsFileOrNot, Look, Next, NoBucket, NoFileAt}
-use Rattle.fs_files.proofs.Common.{NoSuchBucket, NoSuchUpload, NoneBut, NoneLeft, Objects, On, Part, Refused, Refusing, Reply, Request}
-use Rattle.fs_files.proofs.Common.{Scene, Step, Stored, There, Writing, all_gone, answer, answered, ap, applied_none, apply, apply_in}
-use Rattle.fs_files.proofs.Common.{are_gone, arith, below_asks, climbed, climbing, created, get_put, head, heard, heard_at, inl, inr}
-use Rattle.fs_files.proofs.Common.{is_key, key_no_marker, keys_above, look_asks, look_of, marker_of, objects_at, only_reads, placed, refl}
-use Rattle.fs_files.proofs.Common.{reply_in, request_of, stage_in, stream_of, subst, sym, true≢false, unless, unsent, upload_at, upload_in}
-use Rattle.fs_files.proofs.Common.{without, ◌∙◌}
-use Rattle.bucket_ops.specs.Prelude.{MaySend}
-use Rattle.std.specs.FinMap as fin
-use Rattle.store_frame.proofs.Reading.{reads_nothing}
-use Rattle.operations.specs.Courses.{IsCourse, IsCalm}
-use Rattle.bucket_ops.specs.Asks.{objects_of}
-use Rattle.fs_tree.specs.declared.answers.FsRefusal.TheVariants.{IsDirectory, NotFound}
-use Rattle.fs_tree.specs.Tree as tree
-use Rattle.fs_ops.proofs.Looks.{head_tells, at_key, below_key}
-use Rattle.fs_ops.proofs.StepLaws.{not_missing}
-use Rattle.fs_ops.specs.declared.climb.Climbed.{Climbed}
-use Rattle.fs_ops.proofs.Climbing.{IsClimbed, seen_on, all_on, IsShorter, climbing_falls, climbed_falls}
-use Rattle.fs_files.specs.declared.create.CreateStage.{CreateStage}
-use Rattle.fs_files.specs.declared.create.CreateStage.TheVariants.{Here, Below, Up, Write, DropMarkers}
-use Rattle.fs_files.specs.declared.create.CreateFile.{CreateFile}
-use Rattle.fs_files.proofs.Writing as writing
-use Rattle.fs_files.proofs.Writing.{is_due, is_short}
-use Rattle.fs_files.specs.Creation.{Creation, IsCreation}
-use Rattle.fs_files.proofs.WritingLaws as files
-use Rattle.fs_files.proofs.WritingLaws.{Known, known, stage_is, wanted_is, placed_same, placed_by, Wrote, HeardSo, OwnHeard, GoesOn}
-use Rattle.fs_files.proofs.WritingLaws.{goes_further}
-use Rattle.fs_files.specs.Requests.{IsWriteOf, Cleans}
-use Rattle.fs_files.proofs.Sending.{GoesOnSo, applied, is_write, sending_begins, sends_on}
-use Rattle.fs_files.proofs.Creating.{created_above, makes_file, few_created}
-use Rattle.block_stream.specs.declared.stage.Stage.{Stage}
-use Rattle.block_stream.specs.declared.stage.Stage.TheVariants.{Waiting, Putting, Beginning, Sending, Completing, Over}
+use Rattle.block_stream.specs.Holds.{HasRoom}
 use Rattle.block_stream.specs.Stream.{Stream, answers, told}
-use Rattle.s3_types.specs.declared.reply.Reply.TheVariants.{Upload as Drawn}
-use Rattle.fs_files.specs.code.Create.{Answer, CreateStep, asks, asked_or, write_at, on_climb, climb, replace, here as here_at, on_here}
-use Rattle.fs_files.specs.code.Create.{on_below, drop_from, moved, heard as heard_in, on, goes, IsOpen, IsDue, SomeDue, file_in}
-use Rattle.fs_files.specs.code.Create.{IsMade, IsSending, least, HoldsIn, bucket_at, HoldsAt, holds, IsUndone, GivesFile, always_in}
-use Rattle.fs_files.specs.code.Create.{AlwaysFile, starts, request, stepped, led, gives, always, sends, upload_of, calm, leaves, write_left}
-use Rattle.fs_files.specs.code.Create.{left_at, left, Writes}
+use Rattle.block_stream.specs.declared.stage.Stage.{Stage}
+use Rattle.block_stream.specs.declared.stage.Stage.TheVariants.{Beginning, Completing, Over, Putting, Sending, Waiting}
+use Rattle.bucket_ops.proofs.AskLaws.{all_gone, answered, applied_none, are_gone, get_put}
+use Rattle.bucket_ops.specs.Asks.{Ask, Head, objects_at, objects_of, reply_in, request_of}
+use Rattle.bucket_ops.specs.Looks.{look_of}
+use Rattle.bucket_ops.specs.declared.look.Look.{Look}
+use Rattle.bucket_ops.specs.declared.look.Look.TheVariants.{NoBucket, There}
+use Rattle.dir_markers.specs.Markers.{created, keys_above, marker_of}
+use Rattle.fs_files.proofs.Creating.{created_above, few_created, makes_file}
+use Rattle.fs_files.proofs.Sending.{GoesOnSo, applied, is_write, sending_begins, sends_on}
+use Rattle.fs_files.proofs.Writing.{Done, Heard, On, Refusing, heard, heard_at, is_due, is_short, stage_in, unsent}
+use Rattle.fs_files.proofs.WritingLaws.{GoesOn, HeardSo, Known, OwnHeard, Wrote, goes_further, known, placed_by, placed_same, stage_is}
+use Rattle.fs_files.proofs.WritingLaws.{wanted_is}
+use Rattle.fs_files.specs.Creation.{Creation, IsCreation}
+use Rattle.fs_files.specs.Placed.{InFile, IsBeside, IsFileOrNot, NoneBut, NoneLeft, placed}
+use Rattle.fs_files.specs.Requests.{Cleans, IsWriteOf}
+use Rattle.fs_files.specs.code.Create.{AlwaysFile, Answer, CreateStep, GivesFile, HoldsAt, HoldsIn, IsDue, IsMade, IsOpen, IsSending}
+use Rattle.fs_files.specs.code.Create.{IsUndone, SomeDue, Writes, always, always_in, asked_or, asks, bucket_at, calm, climb, drop_from}
+use Rattle.fs_files.specs.code.Create.{file_in, gives, goes, heard as heard_in, here as here_at, holds, least, leaves, led, left, left_at}
+use Rattle.fs_files.specs.code.Create.{moved, on, on_below, on_climb, on_here, replace, request, sends, starts, stepped, upload_of}
+use Rattle.fs_files.specs.code.Create.{write_at, write_left}
+use Rattle.fs_files.specs.code.Writing.{Writing, stream_of}
+use Rattle.fs_files.specs.declared.create.CreateFile.{CreateFile}
+use Rattle.fs_files.specs.declared.create.CreateStage.{CreateStage}
+use Rattle.fs_files.specs.declared.create.CreateStage.TheVariants.{Below, DropMarkers, Here, Up, Write}
+use Rattle.fs_ops.proofs.Climbing.{IsClimbed, IsShorter, all_on, climbed_falls, climbing_falls, seen_on}
+use Rattle.fs_ops.proofs.Looks.{at_key, below_key, head_tells}
+use Rattle.fs_ops.proofs.StepLaws.{not_missing}
+use Rattle.fs_ops.specs.Places.{NoFileAt, below_asks, look_asks}
+use Rattle.fs_ops.specs.code.Climbs.{climbed, climbing}
+use Rattle.fs_ops.specs.code.Steps.{unless}
+use Rattle.fs_ops.specs.declared.climb.Climbed.{Climbed}
+use Rattle.fs_tree.proofs.Above.{key_no_marker}
+use Rattle.fs_tree.specs.Answers.{Creates}
+use Rattle.fs_tree.specs.Tree.{HasFile, IsAbsent}
+use Rattle.fs_tree.specs.declared.answers.FsRefusal.{FsRefusal}
+use Rattle.fs_tree.specs.declared.answers.FsRefusal.TheVariants.{AlreadyExists, IsDirectory, NoSuchBucket, NotFound}
+use Rattle.operations.specs.Courses.{IsCalm, IsCourse, MaySend}
+use Rattle.operations.specs.Plans.{Falls, Goes}
+use Rattle.operations.specs.declared.plan.Step.{Step}
+use Rattle.operations.specs.declared.plan.Step.TheVariants.{End, Next}
+use Rattle.path_keys.specs.Paths.{is_key}
+use Rattle.s3_types.specs.Answer.{answer, apply, apply_in, head, without}
+use Rattle.s3_types.specs.Requests.{only_reads}
+use Rattle.s3_types.specs.Store.{BucketContent, Objects, Scene}
+use Rattle.s3_types.specs.declared.reply.Refusal.TheVariants.{NoSuchUpload}
+use Rattle.s3_types.specs.declared.reply.Reply.{Reply}
+use Rattle.s3_types.specs.declared.reply.Reply.TheVariants.{Completed, Part, Refused, Stored, Upload as Drawn}
+use Rattle.s3_types.specs.declared.request.Request.{Request}
+use Rattle.s3_types.specs.declared.request.Request.TheVariants.{DeleteObjects}
+use Rattle.std.proofs.Common.{ap, arith, inl, inr, refl, subst, sym, ◌∙◌}
+use Rattle.std.proofs.lemmas.Bool.{true≢false}
+use Rattle.std.specs.Prelude.{Bool, Err, List, None, Ok, Option, Some, cond, false, length, nat_lt, true, ℕ, [], ◌*◌, ◌+◌, ◌<◌, ◌∷◌, ◌≡◌}
+use Rattle.std.specs.Prelude.{◌≤◌, ◌⊎◌}
+use Rattle.store_frame.proofs.Reading.{reads_nothing}
+use Rattle.store_frame.specs.Held.{upload_at, upload_in}
+use Rattle.std.specs.FinMap as fin
+use Rattle.fs_tree.specs.Tree as tree
+use Rattle.fs_files.proofs.Writing as writing
+use Rattle.fs_files.proofs.WritingLaws as files
 
 -- where there is no bucket it ends, and else it goes on
 unless_so : {X : Type 0} (l : Look) (absent y : X) (P : X → Type 0) → (l ≡ NoBucket → P absent) → P y → P (unless l absent y)
@@ -97,7 +117,8 @@ module _ (o : Creation) (z : Scene) (ok : IsCreation o) where
   -- a step in a bucket that is there, or that is not
   abbrev OnAt : Option BucketContent → CreateStep → Scene → Type 0
   OnAt v (Next x) s = HoldsAt v o z x s false
-  OnAt v (End a) s = least o z → InFile v (λ m n. Creates o.path o.bytes o.overwrite o.policy m a n) (a ≡ Err NoSuchBucket) z B s × IsUndone a z s
+  OnAt v (End a) s = least o z → InFile v (λ m n. Creates o.path o.bytes o.overwrite o.policy m a n) (a ≡ Err NoSuchBucket) z B s
+      × IsUndone a z s
 
   -- what holds of a stage: its reply leads on, a sending that is lost keeps it, and what is sent is due
   record IsLed (v : Option BucketContent) (x : CreateStage) (s : Scene) (repeated : Bool) : Type 0 where
@@ -109,7 +130,9 @@ module _ (o : Creation) (z : Scene) (ok : IsCreation o) where
 
   -- ---- no bucket
 
-  none_goes : fin.get z.content.buckets B ≡ None → (s : Scene) → s ≡ z → OnAt None (goes o Here (answer s (asks o Here)) false) (apply s (asks o Here)) × ((repeated : Bool) → goes o Here (answer s (asks o Here)) repeated ≡ End (Err NoSuchBucket))
+  none_goes : fin.get z.content.buckets B ≡ None → (s : Scene) → s ≡ z
+      → OnAt None (goes o Here (answer s (asks o Here)) false) (apply s (asks o Here))
+      × ((repeated : Bool) → goes o Here (answer s (asks o Here)) repeated ≡ End (Err NoSuchBucket))
   none_goes h s g = grind arith
 
   -- ---- a bucket that held c
@@ -126,10 +149,24 @@ module _ (o : Creation) (z : Scene) (ok : IsCreation o) where
 
     -- nothing changed
     still : (holds : Objects → Type 0) → holds Z → IsBeside z B c holds z
-    still holds h = record { content = c; next = z.content.next; scene = sym (placed_same z B c there); later = record { drawn = omega arith; uploads = λ id l. refl }; objects = h }
+    still holds h = record {
+      content = c;
+      next = z.content.next;
+      scene = sym (placed_same z B c there);
+      later = record
+          { drawn = omega arith; uploads = λ id l. refl };
+      objects = h;
+    }
 
     map_beside : (P Q : Objects → Type 0) (s : Scene) → ((m : Objects) → P m → Q m) → IsBeside z B c P s → IsBeside z B c Q s
-    map_beside P Q s f h = record { content = h.content; next = h.next; scene = h.scene; later = h.later; objects = f h.content.objects h.objects }
+    map_beside P Q s f h = record {
+      content = h.content;
+      next = h.next;
+      scene = h.scene;
+      later = h.later;
+      objects = f h.content.objects
+          h.objects;
+    }
 
     refuses : (r : FsRefusal) → Creates o.path o.bytes o.overwrite o.policy Z (Err r) Z → At (End (Err r)) z
     refuses r h = λ l. (still (λ n. Creates o.path o.bytes o.overwrite o.policy Z (Err r) n) h, refl)
@@ -168,7 +205,8 @@ module _ (o : Creation) (z : Scene) (ok : IsCreation o) where
 
     look_goes : (k : List ℕ) → o.path.key ≡ k → At (on_here k o (look_of (reply_in Z (look_asks k)))) z
     look_goes [] e = refuses IsDirectory (subst (tree.IsDirectory Z) (sym e) (tt, tt), refl)
-    look_goes (x ∷ p) e = at_key (λ l. At (here_at o l) z) Z (x ∷ p) (λ s. replace_goes o.overwrite refl (subst (HasFile Z) (sym e) s)) (λ n. (refl, subst (NoFileAt Z) (sym e) n))
+    look_goes (x ∷ p) e = at_key (λ l. At (here_at o l) z) Z (x ∷ p) (λ s. replace_goes o.overwrite refl (subst (HasFile Z) (sym e) s))
+        (λ n. (refl, subst (NoFileAt Z) (sym e) n))
 
     page_goes : (k : List ℕ) → o.path.key ≡ k → NoFileAt Z k → At (on_below o (look_of (reply_in Z (below_asks k 1)))) z
     page_goes [] e h = absurd h
@@ -177,7 +215,8 @@ module _ (o : Creation) (z : Scene) (ok : IsCreation o) where
         (λ n. climb_goes (inr (subst (IsAbsent Z) (sym e) (h, n))))
 
     -- what is read of the bucket in the scene z
-    read_goes : (x : CreateStage) (a : Ask) → asks o x ≡ request_of B a → only_reads (request_of B a) ≡ true → (repeated : Bool) → At (on o x (reply_in Z a) repeated) z → (s : Scene) → s ≡ z → At (goes o x (answer s (asks o x)) repeated) (apply s (asks o x))
+    read_goes : (x : CreateStage) (a : Ask) → asks o x ≡ request_of B a → only_reads (request_of B a) ≡ true → (repeated : Bool)
+        → At (on o x (reply_in Z a) repeated) z → (s : Scene) → s ≡ z → At (goes o x (answer s (asks o x)) repeated) (apply s (asks o x))
     read_goes x a h g repeated e s f = grind (arith, answered, here_is, reads_nothing, not_missing)
 
     -- ---- the markers
@@ -198,8 +237,13 @@ module _ (o : Creation) (z : Scene) (ok : IsCreation o) where
     cons_nil : {X : Type 0} {x : X} {xs : List X} → x ∷ xs ≡ [] → ⊥
     cons_nil e = cc
 
-    wrote_goes : (ks : List (List ℕ)) → Ks ≡ ks → IsDue o Z → (s : Scene) → (least o z → Wrote z B o.path.key o.bytes c s) → At (drop_from ks) s
-    wrote_goes [] e d s f = λ l. (map_beside (λ m. m ≡ file_in o Z) (λ m. Creates o.path o.bytes o.overwrite o.policy Z (Ok tt) m) s (λ m g. makes m d (g ∙ ap (without (file_in o Z)) (sym e))) (f l), tt)
+    wrote_goes : (ks : List (List ℕ)) → Ks ≡ ks → IsDue o Z → (s : Scene) → (least o z → Wrote z B o.path.key o.bytes c s)
+        → At (drop_from ks) s
+    wrote_goes [] e d s f = λ l. (
+      map_beside (λ m. m ≡ file_in o Z) (λ m. Creates o.path o.bytes o.overwrite o.policy Z (Ok tt) m) s
+          (λ m g. makes m d (g ∙ ap (without (file_in o Z)) (sym e))) (f l),
+      tt,
+    )
     wrote_goes (k ∷ ks) e d s f =
         (d, λ g. absurd (cons_nil (sym e ∙ g)), λ l. map_beside (λ m. m ≡ file_in o Z) (IsMade o Z) s (λ m g. inl g) (f l))
 
@@ -254,11 +298,16 @@ module _ (o : Creation) (z : Scene) (ok : IsCreation o) where
     drop_look : (s : Scene) → IsBeside z B c (IsMade o Z) s → look_of (answer s drops) ≡ NoBucket → ⊥
     drop_look s h g = grind (arith, get_put, few)
 
-    drop_goes : (s : Scene) (repeated : Bool) → IsDue o Z → (least o z → IsBeside z B c (IsMade o Z) s) → At (goes o DropMarkers (answer s drops) repeated) (apply s drops)
+    drop_goes : (s : Scene) (repeated : Bool) → IsDue o Z → (least o z → IsBeside z B c (IsMade o Z) s)
+        → At (goes o DropMarkers (answer s drops) repeated) (apply s drops)
     drop_goes s repeated d f =
         unless_so (look_of (answer s drops)) (End (Err NoSuchBucket)) (End (Ok tt)) (λ y. At y (apply s drops))
         (λ e l. absurd (drop_look s (f l) e))
-        (λ l. (map_beside (λ m. m ≡ without (file_in o Z) Ks) (λ m. Creates o.path o.bytes o.overwrite o.policy Z (Ok tt) m) (apply s drops) (λ m e. makes m d e) (dropped s (f l)), tt))
+        (λ l. (
+          map_beside (λ m. m ≡ without (file_in o Z) Ks) (λ m. Creates o.path o.bytes o.overwrite o.policy Z (Ok tt) m) (apply s drops)
+              (λ m e. makes m d e) (dropped s (f l)),
+          tt,
+        ))
 
     -- ---- each stage
 
@@ -267,7 +316,8 @@ module _ (o : Creation) (z : Scene) (ok : IsCreation o) where
     same_look a reads s e = reads_nothing s (request_of B a) reads ∙ e
 
     looks : (x : CreateStage) (a : Ask) → asks o x ≡ request_of B a → only_reads (request_of B a) ≡ true → (repeated : Bool)
-        → ((s : Scene) → s ≡ z → HoldsIn o z c x s true) → At (on o x (reply_in Z a) repeated) z → (s : Scene) → s ≡ z → IsLed (Some c) x s repeated
+        → ((s : Scene) → s ≡ z → HoldsIn o z c x s true) → At (on o x (reply_in Z a) repeated) z → (s : Scene) → s ≡ z
+        → IsLed (Some c) x s repeated
     looks x a e reads repeated f h s g = record {
       steps = read_goes x a e reads repeated h s g;
       hides = f (apply s (asks o x)) (ap (apply s) e ∙ same_look a reads s g);
@@ -304,11 +354,14 @@ module _ (o : Creation) (z : Scene) (ok : IsCreation o) where
         }
 
     leads : (x : CreateStage) (s : Scene) (repeated : Bool) → HoldsIn o z c x s repeated → IsLed (Some c) x s repeated
-    leads Here s repeated h = looks Here (look_asks o.path.key) refl (reads_look B o.path.key) repeated (λ s g. g) (look_goes o.path.key refl) s h
-    leads Below s repeated h = looks Below (below_asks o.path.key 1) refl refl repeated (λ s g. (g, h.1)) (page_goes o.path.key refl h.1) s h.0
+    leads Here s repeated h = looks Here (look_asks o.path.key) refl (reads_look B o.path.key) repeated (λ s g. g)
+        (look_goes o.path.key refl) s h
+    leads Below s repeated h = looks Below (below_asks o.path.key 1) refl refl repeated (λ s g. (g, h.1)) (page_goes o.path.key refl h.1) s
+        h.0
     leads (Up d) s repeated h =
         let l = look_of (head (fin.get Z d.first)) in
-        looks (Up d) (Head d.first) refl refl repeated (λ s g. (g, h.1, h.2)) (on_goes (climbed d l) h.1 (seen_on Z (keys_above o.path.key) d l h.2 (head_tells Z d.first))) s h.0
+        looks (Up d) (Head d.first) refl refl repeated (λ s g. (g, h.1, h.2))
+        (on_goes (climbed d l) h.1 (seen_on Z (keys_above o.path.key) d l h.2 (head_tells Z d.first))) s h.0
     leads (Write m) s repeated h =
         subst (λ m. IsLed (Some c) (Write m) s repeated) (sym h.is)
         (writes_led h.so_far s repeated h.due h.room h.key h.block h.writes h.sending)
@@ -342,20 +395,26 @@ module _ (o : Creation) (z : Scene) (ok : IsCreation o) where
         (written_own w (heard w a false) (apply s (writing.asks B w))
         (files.goes_on z B o.bytes c w s false h) (files.own_goes z B o.bytes c w s h g))))
 
-    drop_own : (s : Scene) → IsBeside z B c (IsMade o Z) s → NoneBut None z B s → OwnStep o z (goes o DropMarkers (answer s drops) false) (apply s drops)
+    drop_own : (s : Scene) → IsBeside z B c (IsMade o Z) s → NoneBut None z B s
+        → OwnStep o z (goes o DropMarkers (answer s drops) false) (apply s drops)
     unfolding dropped
     drop_own s h g =
         unless_so (look_of (answer s drops)) (End (Err NoSuchBucket)) (End (Ok tt)) (λ y. OwnStep o z y (apply s drops))
         (λ e. absurd (drop_look s h e))
-        (λ id l e. upload_there (apply s drops) (dropped s h).content (dropped s h).next id (dropped s h).scene ∙ sym (upload_there s h.content h.next id h.scene) ∙ g id l e (λ f. absurd (cc)))
+        (λ id l e. upload_there (apply s drops) (dropped s h).content (dropped s h).next id (dropped s h).scene ∙ sym
+        (upload_there s h.content h.next id h.scene) ∙ g id l e (λ f. absurd (cc)))
       where
         upload_there : (s : Scene) (d : BucketContent) (n id : ℕ) → s ≡ placed z B d n → upload_at s.content B id ≡ fin.get d.uploads id
         upload_there s d n id e = ap (λ (s : Scene). upload_at s.content B id) e ∙ ap (λ v. upload_in v id) (get_put z.content.buckets B d)
 
-    owns : (x : CreateStage) (s : Scene) → HoldsIn o z c x s false → least o z → NoneBut (upload_of x) z B s → OwnStep o z (goes o x (answer s (asks o x)) false) (apply s (asks o x))
-    owns Here s h l g = here_own (goes o Here (answer s (asks o Here)) false) (apply s (asks o Here)) (same_look (look_asks o.path.key) (reads_look B o.path.key) s h)
-    owns Below s h l g = here_own (goes o Below (answer s (asks o Below)) false) (apply s (asks o Below)) (same_look (below_asks o.path.key 1) refl s h.0)
-    owns (Up d) s h l g = here_own (goes o (Up d) (answer s (asks o (Up d))) false) (apply s (asks o (Up d))) (same_look (Head d.first) refl s h.0)
+    owns : (x : CreateStage) (s : Scene) → HoldsIn o z c x s false → least o z → NoneBut (upload_of x) z B s
+        → OwnStep o z (goes o x (answer s (asks o x)) false) (apply s (asks o x))
+    owns Here s h l g = here_own (goes o Here (answer s (asks o Here)) false) (apply s (asks o Here))
+        (same_look (look_asks o.path.key) (reads_look B o.path.key) s h)
+    owns Below s h l g = here_own (goes o Below (answer s (asks o Below)) false) (apply s (asks o Below))
+        (same_look (below_asks o.path.key 1) refl s h.0)
+    owns (Up d) s h l g = here_own (goes o (Up d) (answer s (asks o (Up d))) false) (apply s (asks o (Up d)))
+        (same_look (Head d.first) refl s h.0)
     owns (Write m) s h l g =
         subst
         (λ (m : Stream). NoneBut m.upload z B s
@@ -368,7 +427,8 @@ module _ (o : Creation) (z : Scene) (ok : IsCreation o) where
   none_hides : fin.get z.content.buckets B ≡ None → (s : Scene) → s ≡ z → apply s (asks o Here) ≡ z
   none_hides e s h = ap (λ s. apply s (asks o Here)) h ∙ applied_none z B (look_asks o.path.key) (ap objects_of e)
 
-  all_led : (v : Option BucketContent) → fin.get z.content.buckets B ≡ v → (x : CreateStage) (s : Scene) (repeated : Bool) → HoldsAt v o z x s repeated → IsLed v x s repeated
+  all_led : (v : Option BucketContent) → fin.get z.content.buckets B ≡ v → (x : CreateStage) (s : Scene) (repeated : Bool)
+      → HoldsAt v o z x s repeated → IsLed v x s repeated
   all_led None e x s repeated h =
       let k = none_goes e s h.0 in
       subst (λ x. IsLed None x s repeated) (sym h.1)
@@ -381,13 +441,15 @@ module _ (o : Creation) (z : Scene) (ok : IsCreation o) where
       })
   all_led (Some c) e x s repeated h = leads c e x s repeated h
 
-  all_own : (v : Option BucketContent) → fin.get z.content.buckets B ≡ v → (x : CreateStage) (s : Scene) → HoldsAt v o z x s false → least o z → NoneBut (upload_of x) z B s → OwnStep o z (goes o x (answer s (asks o x)) false) (apply s (asks o x))
+  all_own : (v : Option BucketContent) → fin.get z.content.buckets B ≡ v → (x : CreateStage) (s : Scene) → HoldsAt v o z x s false
+      → least o z → NoneBut (upload_of x) z B s → OwnStep o z (goes o x (answer s (asks o x)) false) (apply s (asks o x))
   all_own v h x s g e f = grind (arith, none_hides, own_z, owns)
 
   began : (v : Option BucketContent) → HoldsAt v o z Here z false
   began v = grind arith
 
-  goes_so : (y : CreateStep) (s : Scene) → OnAt (bucket_at z B) y s → (n : CreateFile) → n.file ≡ o → Goes (λ p s. holds n z p s false) (gives n z) (stepped o y) s
+  goes_so : (y : CreateStep) (s : Scene) → OnAt (bucket_at z B) y s → (n : CreateFile) → n.file ≡ o
+      → Goes (λ p s. holds n z p s false) (gives n z) (stepped o y) s
   goes_so y s h n g = grind arith
 
 answered_in : (o : Creation) (z : Objects) (a : Answer) (m : Objects) → Creates o.path o.bytes o.overwrite o.policy z a m → always_in o z m
@@ -397,9 +459,18 @@ answered_in o z a m h = grind arith
 ends_always : (o : Creation) (z : Scene) (a : Answer) (s : Scene) → GivesFile o z a s → AlwaysFile o z s
 ends_always o z a s h l = by (bucket_at z o.path.bucket) refl (h l).0
   where
-    by : (v : Option BucketContent) → bucket_at z o.path.bucket ≡ v → InFile v (λ m n. Creates o.path o.bytes o.overwrite o.policy m a n) (a ≡ Err NoSuchBucket) z o.path.bucket s → InFile v (always_in o) (Unit {0}) z o.path.bucket s
+    by : (v : Option BucketContent) → bucket_at z o.path.bucket ≡ v
+        → InFile v (λ m n. Creates o.path o.bytes o.overwrite o.policy m a n) (a ≡ Err NoSuchBucket) z o.path.bucket s
+        → InFile v (always_in o) (Unit {0}) z o.path.bucket s
     by None e g = (g.0, tt)
-    by (Some c) e g = record { content = g.content; next = g.next; scene = g.scene; later = g.later; objects = answered_in o c.objects a g.content.objects g.objects }
+    by (Some c) e g = record {
+      content = g.content;
+      next = g.next;
+      scene = g.scene;
+      later = g.later;
+      objects = answered_in o c.objects a
+          g.content.objects g.objects;
+    }
 
 -- ---- what is left falls
 
@@ -411,7 +482,8 @@ fall_climb : (o : Creation) (c : Climbed) (m n : ℕ) → IsShorter c m → m + 
 fall_climb o c m n h g = grind arith
 
 fall_all : (o : Creation) (n : ℕ) → length (keys_above o.path.key) + write_left o ≤ n → FallsTo o (climb o) n
-fall_all o n h = fall_climb o (climbing (keys_above o.path.key)) (length (keys_above o.path.key)) n (climbing_falls (keys_above o.path.key)) h
+fall_all o n h = fall_climb o (climbing (keys_above o.path.key)) (length (keys_above o.path.key)) n (climbing_falls (keys_above o.path.key))
+    h
 
 fall_here : (o : Creation) (l : Look) → FallsTo o (here_at o l) (left_at o Here)
 fall_here o l = grind arith
@@ -426,9 +498,12 @@ HasBlock o (Write m) = (w : Writing) × (m ≡ stream_of o.path.bucket w) × Has
 HasBlock o _ = Unit {0}
 
 falls_on : (o : Creation) (x : CreateStage) (r : Reply) (repeated : Bool) → HasBlock o x → FallsTo o (on o x r repeated) (left_at o x)
-falls_on o Here r repeated h = elim o.path.key as (λ k. FallsTo o (on_here k o (look_of r)) (left_at o Here)) [ [] ↦ tt | x ∷ p ↦ fall_here o (look_of r) ]
-falls_on o Below r repeated h = elim (look_of r) as (λ l. FallsTo o (on_below o l) (left_at o Below)) [ There ↦ tt | _ ↦ fall_all o (left_at o Below) (omega arith) ]
-falls_on o (Up c) r repeated h = fall_climb o (climbed c (look_of r)) (length c.rest) (left_at o (Up c)) (climbed_falls c (look_of r)) (omega arith)
+falls_on o Here r repeated h = elim o.path.key as (λ k. FallsTo o (on_here k o (look_of r)) (left_at o Here))
+    [ [] ↦ tt | x ∷ p ↦ fall_here o (look_of r) ]
+falls_on o Below r repeated h = elim (look_of r) as (λ l. FallsTo o (on_below o l) (left_at o Below))
+    [ There ↦ tt | _ ↦ fall_all o (left_at o Below) (omega arith) ]
+falls_on o (Up c) r repeated h = fall_climb o (climbed c (look_of r)) (length c.rest) (left_at o (Up c)) (climbed_falls c (look_of r))
+    (omega arith)
 falls_on o (Write m) r repeated h =
     subst (λ (m : Stream). FallsTo o (heard_in o m r repeated) (left_at o (Write m))) (sym h.1)
     (subst (λ y. FallsTo o y (left_at o (Write (stream_of o.path.bucket h.0)))) (sym (heard_is o h.0 h.2.some r repeated))
@@ -436,12 +511,14 @@ falls_on o (Write m) r repeated h =
 falls_on o DropMarkers r repeated h = tt
 
 falls_to : (o : Creation) (x : CreateStage) (r : Reply) (repeated : Bool) → HasBlock o x → FallsTo o (goes o x r repeated) (left_at o x)
-falls_to o x r repeated h = unless_so (look_of r) (End (Err NoSuchBucket)) (on o x r repeated) (λ y. FallsTo o y (left_at o x)) (λ e. tt) (falls_on o x r repeated h)
+falls_to o x r repeated h = unless_so (look_of r) (End (Err NoSuchBucket)) (on o x r repeated) (λ y. FallsTo o y (left_at o x)) (λ e. tt)
+    (falls_on o x r repeated h)
 
 stepped_falls : (o : Creation) (y : CreateStep) (s : Scene) (n : ℕ) → FallsTo o y n → Falls left (stepped o y) s n
 stepped_falls o y s n h = grind arith
 
-has_block : (v : Option BucketContent) (o : Creation) (z : Scene) (x : CreateStage) (s : Scene) (repeated : Bool) → HoldsAt v o z x s repeated → HasBlock o x
+has_block : (v : Option BucketContent) (o : Creation) (z : Scene) (x : CreateStage) (s : Scene) (repeated : Bool)
+    → HoldsAt v o z x s repeated → HasBlock o x
 has_block (Some c) o z (Write m) s repeated h = (h.so_far, h.is, h.room)
 has_block v o z x s repeated h = grind arith
 
@@ -450,13 +527,16 @@ has_block v o z x s repeated h = grind arith
 abbrev Next_so : CreateFile → Scene → CreateFile → Scene → Bool → Type 0
 Next_so o z p s repeated = Goes (λ p s. holds o z p s false) (gives o z) (led p (answer s (request p)) repeated) (apply s (request p))
 
-course_goes : (o : CreateFile) (z : Scene) (p : CreateFile) (s : Scene) (repeated : Bool) → holds o z p s repeated → Next_so o z p s repeated
+course_goes : (o : CreateFile) (z : Scene) (p : CreateFile) (s : Scene) (repeated : Bool) → holds o z p s repeated
+    → Next_so o z p s repeated
 course_goes o z p s repeated h =
-    subst (λ n. Goes (λ p s. holds o z p s false) (gives o z) (stepped n (goes n p.stage (answer s (asks n p.stage)) repeated)) (apply s (asks n p.stage))) (sym h.0)
+    subst (λ n. Goes (λ p s. holds o z p s false) (gives o z) (stepped n (goes n p.stage (answer s (asks n p.stage)) repeated))
+    (apply s (asks n p.stage))) (sym h.0)
     (goes_so o.file z h.1 (goes o.file p.stage (answer s (asks o.file p.stage)) repeated) (apply s (asks o.file p.stage))
     (all_led o.file z h.1 (bucket_at z o.file.path.bucket) refl p.stage s repeated h.2).steps o refl)
 
-course_hidden : (o : CreateFile) (z : Scene) (p : CreateFile) (s : Scene) (repeated : Bool) → holds o z p s repeated → holds o z p (apply s (request p)) true
+course_hidden : (o : CreateFile) (z : Scene) (p : CreateFile) (s : Scene) (repeated : Bool) → holds o z p s repeated
+    → holds o z p (apply s (request p)) true
 course_hidden o z p s repeated h = (
   h.0,
   h.1,
@@ -464,11 +544,17 @@ course_hidden o z p s repeated h = (
       (all_led o.file z h.1 (bucket_at z o.file.path.bucket) refl p.stage s repeated h.2).hides,
 )
 
-course_falls : (o : CreateFile) (z : Scene) (p : CreateFile) (s : Scene) (repeated : Bool) → holds o z p s repeated → Falls left (led p (answer s (request p)) repeated) (apply s (request p)) (left p s)
+course_falls : (o : CreateFile) (z : Scene) (p : CreateFile) (s : Scene) (repeated : Bool) → holds o z p s repeated
+    → Falls left (led p (answer s (request p)) repeated) (apply s (request p)) (left p s)
 course_falls o z p s repeated h = grind (arith, stepped_falls, falls_to, has_block)
 
 begins_so : (p : CreateFile) (s : Scene) → starts p → holds p s p s false
-begins_so p s h = (refl, h.0, subst (λ x. HoldsAt (bucket_at s p.file.path.bucket) p.file s x s false) (sym h.1) (began p.file s h.0 (bucket_at s p.file.path.bucket)))
+begins_so p s h = (
+  refl,
+  h.0,
+  subst (λ x. HoldsAt (bucket_at s p.file.path.bucket) p.file s x s false) (sym h.1)
+      (began p.file s h.0 (bucket_at s p.file.path.bucket)),
+)
 
 pub create_laws : IsCourse starts request led holds gives always left
 create_laws = record {
@@ -488,13 +574,16 @@ abbrev NextOwn : CreateFile → Scene → Step CreateFile Answer → Scene → T
 NextOwn o z (Next p) s = least o.file z → NoneBut (upload_of p.stage) z o.file.path.bucket s
 NextOwn o z (End a) s = least o.file z → NoneLeft z o.file.path.bucket s
 
-both_so : (o : CreateFile) (z : Scene) (y : Step CreateFile Answer) (s : Scene) → Goes (λ p s. holds o z p s false) (gives o z) y s → NextOwn o z y s → Goes (calm o z) (leaves o z) y s
+both_so : (o : CreateFile) (z : Scene) (y : Step CreateFile Answer) (s : Scene) → Goes (λ p s. holds o z p s false) (gives o z) y s
+    → NextOwn o z y s → Goes (calm o z) (leaves o z) y s
 both_so o z y s h g = grind arith
 
-own_so : (o : CreateFile) (z : Scene) (f : Creation) (y : CreateStep) (s : Scene) → (least o.file z → OwnStep o.file z y s) → NextOwn o z (stepped f y) s
+own_so : (o : CreateFile) (z : Scene) (f : Creation) (y : CreateStep) (s : Scene) → (least o.file z → OwnStep o.file z y s)
+    → NextOwn o z (stepped f y) s
 own_so o z f y s h = grind arith
 
-calm_goes : (o : CreateFile) (z : Scene) (p : CreateFile) (s : Scene) → calm o z p s → Goes (calm o z) (leaves o z) (led p (answer s (request p)) false) (apply s (request p))
+calm_goes : (o : CreateFile) (z : Scene) (p : CreateFile) (s : Scene) → calm o z p s
+    → Goes (calm o z) (leaves o z) (led p (answer s (request p)) false) (apply s (request p))
 calm_goes o z p s h =
     both_so o z (led p (answer s (request p)) false) (apply s (request p)) (course_goes o z p s false h.0)
     (subst (λ n. NextOwn o z (stepped n (goes n p.stage (answer s (asks n p.stage)) false)) (apply s (asks n p.stage))) (sym h.0.0)

@@ -1,13 +1,31 @@
 -- Making a file, in the tree. Contracts cite none of these laws.
-use Rattle.std.specs.Prelude.{List, Some, [], false, length, nat_lt, suc, true, zero, ℕ, ◌&&◌, ◌*◌, ◌++◌, ◌+◌, ◌<◌, ◌∷◌, ◌≡◌, ◌≤◌, ◌⊎◌}
-use Rattle.fs_files.proofs.Common.{Cut, Delete, HasDir, IsIn, Keep, MarkerPolicy, NoSlash, Objects, Path, above_begins, begins, begins_above, created, cut, in_map, inl, inr, is_element, is_key, is_marker, keys_above, length-append, length-map, marker_of, more_above, none_above, none_some, object_of, same_or_other, text_here, text_other, without}
-use Rattle.basics.proofs.Common.{and_parts, ap, arith, false≢true, list_all, list_all-append, nat_tests, parts_of, refl, subst, sym, ◌∙◌}
+use Rattle.basics.proofs.Members.{in_map, none_some, same_or_other, text_here, text_other}
+use Rattle.basics.specs.Members.{IsIn}
+use Rattle.basics.specs.Parts.{parts_of}
+use Rattle.bucket_ops.proofs.Below.{gone_in, is_in, kept_out}
+use Rattle.dir_markers.specs.Markers.{created, keys_above, marker_of}
+use Rattle.dir_markers.specs.declared.marker.MarkerPolicy.{MarkerPolicy}
+use Rattle.dir_markers.specs.declared.marker.MarkerPolicy.TheVariants.{Delete, Keep}
+use Rattle.fs_files.specs.Placed.{object_of}
+use Rattle.fs_ops.proofs.Showing.{element_some}
+use Rattle.fs_tree.proofs.Above.{Cut, NoSlash, above_begins, begins_above, cut, more_above, none_above}
+use Rattle.fs_tree.proofs.Begins.{begins_marker, begins_trans, marker_at, marker_is}
+use Rattle.fs_tree.specs.Changes.{MakesFile}
+use Rattle.fs_tree.specs.Tree.{HasDir, is_marker}
 use Rattle.path_keys.proofs.Keys.{some_key}
 use Rattle.path_keys.proofs.Last.{front_is_key, parts_round}
-use Rattle.fs_tree.specs.Changes.{MakesFile}
-use Rattle.fs_tree.proofs.Begins.{begins_marker, begins_trans, marker_at, marker_is}
-use Rattle.fs_ops.proofs.Showing.{element_some}
-use Rattle.bucket_ops.proofs.Below.{gone_in, is_in, kept_out}
+use Rattle.path_keys.specs.Paths.{Path, is_key}
+use Rattle.s3_types.specs.Answer.{without}
+use Rattle.s3_types.specs.Names.{is_element}
+use Rattle.s3_types.specs.Pages.{begins}
+use Rattle.s3_types.specs.Store.{Objects}
+use Rattle.std.proofs.Common.{ap, arith, inl, inr, length-append, refl, subst, sym, ◌∙◌}
+use Rattle.std.proofs.lemmas.Bool.{and_parts, false≢true}
+use Rattle.std.proofs.lemmas.Bool.Decides.{nat_tests}
+use Rattle.std.proofs.lemmas.List.{length-map}
+use Rattle.std.proofs.lemmas.List.Folds.{list_all-append}
+use Rattle.std.specs.List.{list_all}
+use Rattle.std.specs.Prelude.{List, Some, false, length, nat_lt, suc, true, zero, ℕ, [], ◌&&◌, ◌*◌, ◌++◌, ◌+◌, ◌<◌, ◌∷◌, ◌≡◌, ◌≤◌, ◌⊎◌}
 use Rattle.std.specs.FinMap as fin
 
 -- these are markers of directories above a path
@@ -42,7 +60,8 @@ module _ (k bytes : List ℕ) (ks : List (List ℕ)) (z : Objects) (plain : is_m
   dir_kept (x ∷ q) h = by (same_or_other h.0 k) (is_in h.0 ks)
     where
       -- its witness was a marker above the file
-      up : (a : List ℕ) → begins (marker_of (x ∷ q)) (marker_of a) ≡ true → IsIn a (keys_above k) → (x ∷ q ≡ a) ⊎ (begins (marker_of (x ∷ q)) a ≡ true) → begins (marker_of (x ∷ q)) k ≡ true
+      up : (a : List ℕ) → begins (marker_of (x ∷ q)) (marker_of a) ≡ true → IsIn a (keys_above k) → (x ∷ q ≡ a)
+          ⊎ (begins (marker_of (x ∷ q)) a ≡ true) → begins (marker_of (x ∷ q)) k ≡ true
       up a b i (inl e) = ap (λ v. begins (marker_of v) k) e ∙ above_begins a k i
       up a b i (inr g) = begins_trans (marker_of (x ∷ q)) a k g (begins_trans a (marker_of a) k (begins_marker a) (above_begins a k i))
 
@@ -82,8 +101,10 @@ last_some : (p front back : List ℕ) → is_key p ≡ true → p ≡ front ++ 4
 last_some p front back k e h =
     let long : length p ≡ length front + suc (length back) = ap length e ∙ length-append front (47 ∷ back) in
     let some : 0 < length p = omega (arith, long) in
-    let all = sym (ap (list_all is_element) (parts_round p front back e h) ∙ list_all-append is_element (parts_of 47 front) (back ∷ [])) ∙ (some_key p some k).0 in
-    element_some back (and_parts (is_element back) true (and_parts (list_all is_element (parts_of 47 front)) (is_element back && true) all).1).0
+    let all = sym (ap (list_all is_element) (parts_round p front back e h) ∙ list_all-append is_element (parts_of 47 front) (back ∷ [])) ∙
+    (some_key p some k).0 in
+    element_some back (and_parts (is_element back) true (and_parts (list_all is_element (parts_of 47 front)) (is_element back && true)
+    all).1).0
 
 more : (a f b p : ℕ) → 2 * a ≤ f → p ≡ f + suc b → 0 < b → 2 * (a + 1) ≤ p
 more a f b p h e g = omega (arith, h, e, g)
@@ -93,14 +114,16 @@ few_above : (n : ℕ) (p : List ℕ) → length p < n → is_key p ≡ true → 
 few_above zero p l k = absurd (omega (arith, l))
 few_above (suc n) p l k = by (cut p) (λ front. few_above n front)
   where
-    by : Cut p → ((front : List ℕ) → length front < n → is_key front ≡ true → 2 * length (keys_above front) ≤ length front) → 2 * length (keys_above p) ≤ length p
+    by : Cut p → ((front : List ℕ) → length front < n → is_key front ≡ true → 2 * length (keys_above front) ≤ length front)
+        → 2 * length (keys_above p) ≤ length p
     by (inl h) ih = let e = ap length (none_above p h) in omega (arith, e)
     by (inr c) ih =
         let long : length p ≡ length c.0 + suc (length c.1) = ap length c.2 ∙ length-append c.0 (47 ∷ c.1) in
         let one = last_some p c.0 c.1 k c.2 c.3 in
         let less : length c.0 < n = omega (arith, long, l) in
         let e = ap length (more_above p c.0 c.1 c.2 c.3) ∙ length-append (keys_above c.0) (c.0 ∷ []) in
-        subst (λ v. 2 * v ≤ length p) (sym e) (more (length (keys_above c.0)) (length c.0) (length c.1) (length p) (ih c.0 less (front_is_key p c.0 c.1 k c.2 c.3)) long one)
+        subst (λ v. 2 * v ≤ length p) (sym e) (more (length (keys_above c.0)) (length c.0) (length c.1) (length p)
+        (ih c.0 less (front_is_key p c.0 c.1 k c.2 c.3)) long one)
 
 key_long : (p : List ℕ) → is_key p ≡ true → length p ≤ 1023
 key_long [] k = omega arith

@@ -1,26 +1,32 @@
 -- What the making of a file sends is the file: each part, and all parts at the end. Contracts cite none of these laws.
-use Rattle.std.specs.Prelude.{◌≡◌, ◌⊎◌, ℕ, zero, suc, ◌+◌, ◌-◌, ◌*◌, ◌<◌, ◌≤◌, nat_lt, not, ◌||◌, Bool, true, false, List, [], ◌∷◌, ◌++◌}
-use Rattle.std.specs.Prelude.{length, map, take, drop, get_or, Some, None}
-use Rattle.fs_files.proofs.Common.{CompleteUpload, CreateUpload, Heard, On, Part, PutObject, Reply, Request, Scene, Spelled, UploadPart}
-use Rattle.fs_files.proofs.Common.{Writing, answer, ap, apply, arith, asks, asks_at, begun, drop-drop, heard, heard_at, id_in, inl, inr}
-use Rattle.fs_files.proofs.Common.{is_due, is_short, length-append, length-drop, named_from, nat_tests, none_some, parted, refl, some_is}
-use Rattle.fs_files.proofs.Common.{stage_in, subst, sym, take_all, true≢false, unsent, ◌∙◌}
-use Rattle.basics.proofs.Common.{map-append}
-use Rattle.std.proofs.Math.Nat.{div-lt_iff_lt-mul, lt_of_mul-lt-mul_right, suc-mul}
-use Rattle.std.proofs.lemmas.List.{get_or-drop}
-use Rattle.std.proofs.lemmas.Option.{slice_get_read}
-use Rattle.s3_types.specs.Blocks.{quotient_up, parts_of}
-use Rattle.s3_types.specs.Tags.{plain_tag}
-use Rattle.s3_types.proofs.Blocks.{drop-parts, greater_most, greater_right, length-parts, some_parts}
-use Rattle.std.specs.List.{slice_get}
+use Rattle.basics.proofs.Members.{none_some, some_is}
 use Rattle.block_stream.specs.Stream.{has_some}
 use Rattle.block_stream.specs.declared.stage.Stage.{Stage}
-use Rattle.block_stream.specs.declared.stage.Stage.TheVariants.{Putting, Beginning, Sending, Completing}
-use Rattle.fs_files.specs.Creation.{Creation, IsCreation}
-use Rattle.fs_files.specs.Requests.{IsWriteOf, Puts, Begins, Sends, Completes, parts_in}
-use Rattle.fs_files.specs.code.Create.{IsSending}
+use Rattle.block_stream.specs.declared.stage.Stage.TheVariants.{Beginning, Completing, Putting, Sending}
+use Rattle.fs_files.proofs.Writing.{Heard, On, asks, asks_at, begun, heard, heard_at, id_in, is_due, is_short, parted, stage_in, unsent}
 use Rattle.fs_files.proofs.WritingLaws.{Known, known}
-use Rattle.s3_types.specs.declared.reply.Reply.TheVariants.{Upload as Drawn}
+use Rattle.fs_files.specs.Creation.{Creation, IsCreation}
+use Rattle.fs_files.specs.Requests.{Begins, Completes, IsWriteOf, Puts, Sends, parts_in}
+use Rattle.fs_files.specs.code.Create.{IsSending}
+use Rattle.fs_files.specs.code.Writing.{Writing}
+use Rattle.s3_types.proofs.Blocks.{drop-parts, greater_most, greater_right, length-parts, some_parts}
+use Rattle.s3_types.specs.Answer.{answer, apply}
+use Rattle.s3_types.specs.Blocks.{named_from, parts_of, quotient_up}
+use Rattle.s3_types.specs.Store.{Scene}
+use Rattle.s3_types.specs.Tags.{Spelled, plain_tag}
+use Rattle.s3_types.specs.declared.reply.Reply.{Reply}
+use Rattle.s3_types.specs.declared.reply.Reply.TheVariants.{Part, Upload as Drawn}
+use Rattle.s3_types.specs.declared.request.Request.{Request}
+use Rattle.s3_types.specs.declared.request.Request.TheVariants.{CompleteUpload, CreateUpload, PutObject, UploadPart}
+use Rattle.std.proofs.Common.{ap, arith, inl, inr, length-append, length-drop, refl, subst, sym, ◌∙◌}
+use Rattle.std.proofs.Math.Nat.{div-lt_iff_lt-mul, lt_of_mul-lt-mul_right, suc-mul}
+use Rattle.std.proofs.lemmas.Bool.{true≢false}
+use Rattle.std.proofs.lemmas.Bool.Decides.{nat_tests}
+use Rattle.std.proofs.lemmas.List.{drop-drop, get_or-drop, map-append, take_all}
+use Rattle.std.proofs.lemmas.Option.{slice_get_read}
+use Rattle.std.specs.List.{slice_get}
+use Rattle.std.specs.Prelude.{Bool, List, None, Some, drop, false, get_or, length, map, nat_lt, not, suc, take, true, zero, ℕ, [], ◌*◌}
+use Rattle.std.specs.Prelude.{◌++◌, ◌+◌, ◌-◌, ◌<◌, ◌||◌, ◌∷◌, ◌≡◌, ◌≤◌, ◌⊎◌}
 
 -- ---- how many parts there are
 

@@ -1,12 +1,18 @@
 -- How far a file is written, as proofs go through it stage by stage: what is asked, and where replies lead.
-use Rattle.std.specs.Prelude.{ℕ, ◌+◌, ◌||◌, not, nat_lt, Bool, true, false, List, [], ◌∷◌, ◌++◌, take, drop, length, Option, Some, None}
-use Rattle.fs_ops.specs.Prelude.{unwrap_or, Spelled, named_from, Request, PutObject, CreateUpload, UploadPart, CompleteUpload, Reply}
-use Rattle.fs_ops.specs.Prelude.{Stored, Part, Completed, Refused, Refusal, NoSuchUpload}
-use Rattle.s3_types.specs.declared.reply.Reply.TheVariants.{Upload}
+use Rattle.block_stream.specs.Stream.{has_some, is_begun, one_if}
 use Rattle.block_stream.specs.declared.stage.Stage.{Stage}
-use Rattle.block_stream.specs.declared.stage.Stage.TheVariants.{Putting, Beginning, Sending, Completing}
-use Rattle.block_stream.specs.Stream.{has_some, one_if, is_begun}
+use Rattle.block_stream.specs.declared.stage.Stage.TheVariants.{Beginning, Completing, Putting, Sending}
 use Rattle.fs_files.specs.code.Writing.{Writing}
+use Rattle.s3_types.specs.Blocks.{named_from}
+use Rattle.s3_types.specs.Tags.{Spelled}
+use Rattle.s3_types.specs.declared.reply.Refusal.{Refusal}
+use Rattle.s3_types.specs.declared.reply.Refusal.TheVariants.{NoSuchUpload}
+use Rattle.s3_types.specs.declared.reply.Reply.{Reply}
+use Rattle.s3_types.specs.declared.reply.Reply.TheVariants.{Completed, Part, Refused, Stored, Upload}
+use Rattle.s3_types.specs.declared.request.Request.{Request}
+use Rattle.s3_types.specs.declared.request.Request.TheVariants.{CompleteUpload, CreateUpload, PutObject, UploadPart}
+use Rattle.std.specs.Option.{unwrap_or}
+use Rattle.std.specs.Prelude.{Bool, List, None, Option, Some, drop, false, length, nat_lt, not, take, true, ℕ, [], ◌++◌, ◌+◌, ◌||◌, ◌∷◌}
 
 -- nothing was sent yet
 abbrev pub unsent : List ℕ → ℕ → List ℕ → Writing

@@ -1,17 +1,43 @@
--- A file that is written is a closed stream: its bytes are held, whatever the store loses, and nothing else changes. Contracts cite none of these laws.
-use Rattle.std.specs.Prelude.{◌≡◌, ◌⊎◌, ℕ, ◌+◌, ◌<◌, ◌≤◌, nat_lt, nat_le, Bool, true, false, cond, List, [], take, length, Option, Some, None, Result, Ok, Err}
-use Rattle.fs_files.proofs.Common.{BucketContent, Buckets, CompleteUpload, Completed, CreateUpload, Done, HasRoom, Heard, Holds, IsBeside, IsFileOrNot, IsLater, NoBucket, NoSuchUpload, NoneBut, NoneLeft, Objects, On, Part, PutObject, Refusal, Refused, Refusing, Reply, Request, Scene, Spelled, Stored, Upload, UploadPart, Uploads, Writing, answer, answer_at, ap, apply, apply_at, apply_in, arith, asks, asks_at, begun, bucket_of, complete_answer, completed, exact_bytes, first_stage, get_put, heard, heard_at, id_in, inl, inr, insert_same, is_due, is_short, joined, left, live, look_of, named_from, nat_gone, nat_left, nat_other, nat_tests, object_of, part_put, parted, placed, put_put, refl, refused, same_or_not, some_is, stage_in, stream_of, subst, sym, take_all, text_total, unsent, upload_at, upload_in, ◌∙◌}
-use Rattle.store_frame.specs.Prelude.{draws}
-use Rattle.std.specs.FinMap as fin
-use Rattle.block_stream.specs.declared.stage.Stage.{Stage}
-use Rattle.block_stream.specs.declared.stage.Stage.TheVariants.{Waiting, Putting, Beginning, Sending, Completing, Over}
-use Rattle.block_stream.specs.Stream as streams
-use Rattle.block_stream.specs.Stream.{Stream, has_part, begin_or_wait, stage, wanted, told, answers, ended}
-use Rattle.block_stream.proofs.FillingLaws.{due, room_after, room_begun, held_at}
-use Rattle.block_stream.proofs.KeepingLaws as keeping
-use Rattle.fs_files.specs.code.Create.{Writes}
-use Rattle.s3_types.specs.declared.reply.Reply.TheVariants.{Upload as Drawn}
+-- A file that is written is a closed stream: its bytes are held, whatever the store loses, and nothing else changes. Contracts cite none of
+-- these laws.
+use Rattle.basics.proofs.Members.{nat_gone, nat_left, nat_other, same_or_not, some_is}
+use Rattle.basics.proofs.Tree.{insert_same}
+use Rattle.basics.specs.Order.{text_total}
+use Rattle.block_stream.proofs.FillingLaws.{due, held_at, room_after, room_begun}
+use Rattle.block_stream.specs.Holds.{HasRoom, Holds}
+use Rattle.block_stream.specs.Stream.{Stream, answers, begin_or_wait, ended, has_part, stage, told, wanted}
 use Rattle.block_stream.specs.declared.mode.StreamEnd.TheVariants.{Done as Ended}
+use Rattle.block_stream.specs.declared.stage.Stage.{Stage}
+use Rattle.block_stream.specs.declared.stage.Stage.TheVariants.{Beginning, Completing, Over, Putting, Sending, Waiting}
+use Rattle.bucket_ops.proofs.AskLaws.{get_put, put_put}
+use Rattle.bucket_ops.specs.Looks.{look_of}
+use Rattle.bucket_ops.specs.declared.look.Look.TheVariants.{NoBucket}
+use Rattle.fs_files.proofs.Writing.{Done, Heard, On, Refusing, asks, asks_at, begun, first_stage, heard, heard_at, id_in, is_due, is_short}
+use Rattle.fs_files.proofs.Writing.{left, parted, refused, stage_in, unsent}
+use Rattle.fs_files.specs.Placed.{IsBeside, IsFileOrNot, IsLater, NoneBut, NoneLeft, object_of, placed}
+use Rattle.fs_files.specs.code.Create.{Writes}
+use Rattle.fs_files.specs.code.Writing.{Writing, stream_of}
+use Rattle.s3_types.specs.Answer.{answer, answer_at, apply, apply_at, apply_in, bucket_of, complete_answer, completed, draws, part_put}
+use Rattle.s3_types.specs.Blocks.{named_from}
+use Rattle.s3_types.specs.Multipart.{joined, live}
+use Rattle.s3_types.specs.Store.{BucketContent, Buckets, Objects, Scene, Upload, Uploads}
+use Rattle.s3_types.specs.Tags.{Spelled}
+use Rattle.s3_types.specs.declared.reply.Refusal.{Refusal}
+use Rattle.s3_types.specs.declared.reply.Refusal.TheVariants.{NoSuchUpload}
+use Rattle.s3_types.specs.declared.reply.Reply.{Reply}
+use Rattle.s3_types.specs.declared.reply.Reply.TheVariants.{Completed, Part, Refused, Stored, Upload as Drawn}
+use Rattle.s3_types.specs.declared.request.Request.{Request}
+use Rattle.s3_types.specs.declared.request.Request.TheVariants.{CompleteUpload, CreateUpload, PutObject, UploadPart}
+use Rattle.std.proofs.Common.{ap, arith, inl, inr, refl, subst, sym, ◌∙◌}
+use Rattle.std.proofs.lemmas.Bool.Decides.{nat_tests}
+use Rattle.std.proofs.lemmas.List.{take_all}
+use Rattle.std.proofs.lemmas.Map.Lookups.{exact_bytes}
+use Rattle.std.specs.Prelude.{Bool, Err, List, None, Ok, Option, Result, Some, cond, false, length, nat_le, nat_lt, take, true, ℕ, [], ◌+◌}
+use Rattle.std.specs.Prelude.{◌<◌, ◌≡◌, ◌≤◌, ◌⊎◌}
+use Rattle.store_frame.specs.Held.{upload_at, upload_in}
+use Rattle.std.specs.FinMap as fin
+use Rattle.block_stream.specs.Stream as streams
+use Rattle.block_stream.proofs.KeepingLaws as keeping
 
 -- ---- what a stage tells
 
@@ -56,24 +82,31 @@ module _ (b : List ℕ) (w : Writing) (some : 1 ≤ w.block) where
 -- ---- one bucket's requests
 
 pub placed_same : (z : Scene) (b : List ℕ) (c : BucketContent) → fin.get z.content.buckets b ≡ Some c → placed z b c z.content.next ≡ z
-placed_same z b c h = ap (λ (m : Buckets). record { content = record { buckets = m; next = z.content.next; minimum = z.content.minimum }; files = z.files }) (insert_same text_total exact_bytes z.content.buckets b c h)
+placed_same z b c h = ap (λ (m : Buckets). record {
+  content = record { buckets = m; next = z.content.next; minimum = z.content.minimum };
+  files = z.files;
+}) (insert_same text_total exact_bytes z.content.buckets b c h)
 
 pub placed_by : (z : Scene) (b : List ℕ) (d : BucketContent) (n : ℕ) (r : Request) → bucket_of r ≡ b
-    → record { content = apply_at (fin.get (placed z b d n).content.buckets (bucket_of r)) (placed z b d n).content r; files = z.files } ≡ placed z b (apply_in d n z.content.minimum r) (cond (draws r) (n + 1) n)
+    → record { content = apply_at (fin.get (placed z b d n).content.buckets (bucket_of r)) (placed z b d n).content r; files = z.files } ≡
+    placed z b (apply_in d n z.content.minimum r) (cond (draws r) (n + 1) n)
 placed_by z b d n r h = grind (arith, get_put, put_put)
 
 applied_at : (g : Stage) (w : Writing) (z : Scene) (b : List ℕ) (d : BucketContent) (n : ℕ)
-    → apply (placed z b d n) (asks_at g b w) ≡ placed z b (apply_in d n z.content.minimum (asks_at g b w)) (cond (draws (asks_at g b w)) (n + 1) n)
+    → apply (placed z b d n) (asks_at g b w) ≡ placed z b (apply_in d n z.content.minimum (asks_at g b w))
+    (cond (draws (asks_at g b w)) (n + 1) n)
 applied_at Putting w z b d n = placed_by z b d n (PutObject b w.key w.pending None) refl
 applied_at Beginning w z b d n = placed_by z b d n (CreateUpload b w.key) refl
 applied_at Sending w z b d n = placed_by z b d n (UploadPart b w.key (id_in w) (length w.tags + 1) (take w.block w.pending)) refl
 applied_at _ w z b d n = placed_by z b d n (CompleteUpload b w.key (id_in w) (named_from 1 w.tags)) refl
 
-pub placed_there : (z : Scene) (b : List ℕ) (d c : BucketContent) (n : ℕ) (s : Scene) → s ≡ placed z b d n → fin.get s.content.buckets b ≡ Some c → c ≡ d
+pub placed_there : (z : Scene) (b : List ℕ) (d c : BucketContent) (n : ℕ) (s : Scene) → s ≡ placed z b d n
+    → fin.get s.content.buckets b ≡ Some c → c ≡ d
 placed_there z b d c n s e h = some_is (sym h ∙ ap (λ (s : Scene). fin.get s.content.buckets b) e ∙ get_put z.content.buckets b d)
 
 answered_there : (z : Scene) (b : List ℕ) (d : BucketContent) (n : ℕ) (s : Scene) → s ≡ placed z b d n → (r : Request)
-    → answer (placed z b d n) r ≡ answer_at (fin.get (placed z b d n).content.buckets b) n z.content.minimum r → answer s r ≡ answer_at (Some d) n z.content.minimum r
+    → answer (placed z b d n) r ≡ answer_at (fin.get (placed z b d n).content.buckets b) n z.content.minimum r
+    → answer s r ≡ answer_at (Some d) n z.content.minimum r
 answered_there z b d n s e r f = ap (λ s. answer s r) e ∙ f ∙ ap (λ o. answer_at o n z.content.minimum r) (get_put z.content.buckets b d)
 
 -- ---- what is kept
@@ -82,27 +115,39 @@ answered_there z b d n s e r f = ap (λ s. answer s r) e ∙ f ∙ ap (λ o. ans
 abbrev pub Wrote : Scene → List ℕ → List ℕ → List ℕ → BucketContent → Scene → Type 0
 Wrote z b key bytes c s = IsBeside z b c (λ m. m ≡ fin.insert c.objects key (object_of bytes)) s
 
-pub begins : (z : Scene) (b bytes key : List ℕ) (block : ℕ) (c : BucketContent) → fin.get z.content.buckets b ≡ Some c → z.content.minimum ≤ block → HasRoom (stream_of b (unsent key block bytes)) → Writes z b bytes c (unsent key block bytes) z false
+pub begins : (z : Scene) (b bytes key : List ℕ) (block : ℕ) (c : BucketContent) → fin.get z.content.buckets b ≡ Some c
+    → z.content.minimum ≤ block → HasRoom (stream_of b (unsent key block bytes)) → Writes z b bytes c (unsent key block bytes) z false
 begins z b bytes key block c h least room = record {
-  beside = record { content = c; next = z.content.next; scene = sym (placed_same z b c h); later = record { drawn = omega arith; uploads = λ id l. refl }; objects = inl refl };
+  beside = record {
+    content = c;
+    next = z.content.next;
+    scene = sym (placed_same z b c h);
+    later = record
+        { drawn = omega arith; uploads = λ id l. refl };
+    objects = inl refl;
+  };
   drawn = λ id e. absurd (cc);
   holds = record { content = c; there = h; least = least; room = room; held = (refl, refl) };
 }
 
 -- a bucket's uploads after a request of the stream
 
-part_kept : (m : Uploads) (i j : ℕ) (o : Option Upload) (n : ℕ) (bytes : List ℕ) → (j ≡ i → ⊥) → fin.get (part_put m i o n bytes) j ≡ fin.get m j
+part_kept : (m : Uploads) (i j : ℕ) (o : Option Upload) (n : ℕ) (bytes : List ℕ) → (j ≡ i → ⊥)
+    → fin.get (part_put m i o n bytes) j ≡ fin.get m j
 part_kept m i j o n bytes h = grind (arith, nat_other)
 
-ended_kept : (d : BucketContent) (key : List ℕ) (i j : ℕ) (r : Result (List ℕ) Refusal) → (j ≡ i → ⊥) → fin.get (completed d key i r).uploads j ≡ fin.get d.uploads j
+ended_kept : (d : BucketContent) (key : List ℕ) (i j : ℕ) (r : Result (List ℕ) Refusal) → (j ≡ i → ⊥)
+    → fin.get (completed d key i r).uploads j ≡ fin.get d.uploads j
 ended_kept d key i j (Ok bytes) h = nat_left d.uploads i j h
 ended_kept d key i j (Err r) h = refl
 
 apart : (i j n : ℕ) → n ≤ i → j < n → j ≡ i → ⊥
 apart i j n h l e = omega (arith, h, l, e)
 
-module _ (z : Scene) (b bytes : List ℕ) (c : BucketContent) (w : Writing) (drawn : (id : ℕ) → w.upload ≡ Some id → z.content.next ≤ id) (d : BucketContent) (n : ℕ) (later : IsLater z c d n) where
-  later_after : (g : Stage) → Known w g → IsLater z c (apply_in d n z.content.minimum (asks_at g b w)) (cond (draws (asks_at g b w)) (n + 1) n)
+module _ (z : Scene) (b bytes : List ℕ) (c : BucketContent) (w : Writing) (drawn : (id : ℕ) → w.upload ≡ Some id → z.content.next ≤ id)
+    (d : BucketContent) (n : ℕ) (later : IsLater z c d n) where
+  later_after : (g : Stage) → Known w g → IsLater z c (apply_in d n z.content.minimum (asks_at g b w))
+      (cond (draws (asks_at g b w)) (n + 1) n)
   later_after g h = grind (arith, nat_other, apart, part_kept, ended_kept)
 
 -- ---- a request of the stream
@@ -110,13 +155,16 @@ module _ (z : Scene) (b bytes : List ℕ) (c : BucketContent) (w : Writing) (dra
 abbrev next_of : ℕ → Request → ℕ
 next_of n r = cond (draws r) (n + 1) n
 
-twice : (z m : Objects) (key bytes : List ℕ) → IsFileOrNot z key bytes m → fin.insert m key (object_of bytes) ≡ fin.insert z key (object_of bytes)
+twice : (z m : Objects) (key bytes : List ℕ) → IsFileOrNot z key bytes m
+    → fin.insert m key (object_of bytes) ≡ fin.insert z key (object_of bytes)
 twice z m key bytes (inl e) = ap (λ (m : Objects). fin.insert m key (object_of bytes)) e
 twice z m key bytes (inr e) = ap (λ (m : Objects). fin.insert m key (object_of bytes)) e ∙ put_put z key (object_of bytes) (object_of bytes)
 
 -- where the file stands whole
-whole_is : (z m : Objects) (key bytes : List ℕ) → IsFileOrNot z key bytes m → fin.get m key ≡ Some (object_of bytes) → m ≡ fin.insert z key (object_of bytes)
-whole_is z m key bytes (inl e) g = e ∙ sym (insert_same text_total exact_bytes z key (object_of bytes) (ap (λ (m : Objects). fin.get m key) (sym e) ∙ g))
+whole_is : (z m : Objects) (key bytes : List ℕ) → IsFileOrNot z key bytes m → fin.get m key ≡ Some (object_of bytes)
+    → m ≡ fin.insert z key (object_of bytes)
+whole_is z m key bytes (inl e) g = e ∙ sym (insert_same text_total exact_bytes z key (object_of bytes)
+    (ap (λ (m : Objects). fin.get m key) (sym e) ∙ g))
 whole_is z m key bytes (inr e) g = e
 
 drawn_same : (i j : ℕ) → Drawn i ≡ Drawn j → i ≡ j
@@ -132,7 +180,8 @@ HeardSo z b key bytes c Refusing s = ⊥
 not_gone : (g : Stage) (a : Reply) → answers g a ≡ true → look_of a ≡ NoBucket → ⊥
 not_gone g a h e = grind arith
 
-module _ (z : Scene) (b bytes : List ℕ) (c : BucketContent) (w : Writing) (s : Scene) (repeated : Bool) (h : Writes z b bytes c w s repeated) where
+module _ (z : Scene) (b bytes : List ℕ) (c : BucketContent) (w : Writing) (s : Scene) (repeated : Bool)
+    (h : Writes z b bytes c w s repeated) where
   abbrev S : Stream
   S = stream_of b w
 
@@ -151,45 +200,55 @@ module _ (z : Scene) (b bytes : List ℕ) (c : BucketContent) (w : Writing) (s :
   is_wanted : wanted S ≡ Some r
   is_wanted = wanted_is b w some_block
 
-  scene_after : (g : Stage) → apply s (asks_at g b w) ≡ placed z b (apply_in d n z.content.minimum (asks_at g b w)) (next_of n (asks_at g b w))
+  scene_after : (g : Stage) → apply s (asks_at g b w) ≡ placed z b (apply_in d n z.content.minimum (asks_at g b w))
+      (next_of n (asks_at g b w))
   scene_after g = ap (λ s. apply s (asks_at g b w)) h.beside.scene ∙ applied_at g w z b d n
 
   -- what the stream holds and is told
   took : Holds (told (stage_in w) S repeated (answer s r)) (apply s r) false bytes
-  took = subst (λ g. Holds (told g S repeated (answer s r)) (apply s r) false bytes) (stage_is b w some_block) (keeping.took S s repeated bytes h.holds r is_wanted)
+  took = subst (λ g. Holds (told g S repeated (answer s r)) (apply s r) false bytes) (stage_is b w some_block)
+      (keeping.took S s repeated bytes h.holds r is_wanted)
 
   fits : answers (stage_in w) (answer s r) ≡ true
   fits = subst (λ g. answers g (answer s r) ≡ true) (stage_is b w some_block) (keeping.fit S s repeated bytes h.holds r is_wanted)
 
   -- ---- the objects
 
-  stands : (s' : Scene) → Holds (ended S Ended) s' false bytes → (e : BucketContent) × (fin.get s'.content.buckets b ≡ Some e) × (fin.get e.objects w.key ≡ Some (object_of bytes))
+  stands : (s' : Scene) → Holds (ended S Ended) s' false bytes → (e : BucketContent) × (fin.get s'.content.buckets b ≡ Some e)
+      × (fin.get e.objects w.key ≡ Some (object_of bytes))
   stands s' k = (k.content, k.there, k.held.1)
 
-  completes : (a : Reply) (s' : Scene) → answers Completing a ≡ true → Holds (told Completing S repeated a) s' false bytes → (e : BucketContent) × (fin.get s'.content.buckets b ≡ Some e) × (fin.get e.objects w.key ≡ Some (object_of bytes))
+  completes : (a : Reply) (s' : Scene) → answers Completing a ≡ true → Holds (told Completing S repeated a) s' false bytes
+      → (e : BucketContent) × (fin.get s'.content.buckets b ≡ Some e) × (fin.get e.objects w.key ≡ Some (object_of bytes))
   completes (Completed t) s' f k = stands s' k
   completes (Refused NoSuchUpload) s' f k = again repeated k
     where
-      again : (c : Bool) → Holds (streams.refused S c NoSuchUpload) s' false bytes → (e : BucketContent) × (fin.get s'.content.buckets b ≡ Some e) × (fin.get e.objects w.key ≡ Some (object_of bytes))
+      again : (c : Bool) → Holds (streams.refused S c NoSuchUpload) s' false bytes → (e : BucketContent)
+          × (fin.get s'.content.buckets b ≡ Some e) × (fin.get e.objects w.key ≡ Some (object_of bytes))
       again true k = stands s' k
       again false k = absurd k.held
   completes _ s' f k = absurd (cc)
 
-  joined_is : (m : Result (List ℕ) Refusal) → fin.get (completed d w.key (id_in w) m).objects w.key ≡ Some (object_of bytes) → IsFileOrNot c.objects w.key bytes (completed d w.key (id_in w) m).objects
-  joined_is (Ok x) g = inr (ap (λ o. fin.insert d.objects w.key o) (some_is (sym (get_put d.objects w.key (object_of x)) ∙ g)) ∙ twice c.objects d.objects w.key bytes h.beside.objects)
+  joined_is : (m : Result (List ℕ) Refusal) → fin.get (completed d w.key (id_in w) m).objects w.key ≡ Some (object_of bytes)
+      → IsFileOrNot c.objects w.key bytes (completed d w.key (id_in w) m).objects
+  joined_is (Ok x) g = inr (ap (λ o. fin.insert d.objects w.key o) (some_is (sym (get_put d.objects w.key (object_of x)) ∙ g)) ∙ twice
+      c.objects d.objects w.key bytes h.beside.objects)
   joined_is (Err x) g = h.beside.objects
 
   put_is : w.upload ≡ None → bytes ≡ w.pending
   put_is e = (held_at S h.holds.content repeated bytes None None refl e h.holds.held).0
 
-  objects_at : (g : Stage) → Known w g → answers g (answer s (asks_at g b w)) ≡ true → Holds (told g S repeated (answer s (asks_at g b w))) (apply s (asks_at g b w)) false bytes
+  objects_at : (g : Stage) → Known w g → answers g (answer s (asks_at g b w)) ≡ true
+      → Holds (told g S repeated (answer s (asks_at g b w))) (apply s (asks_at g b w)) false bytes
       → IsFileOrNot c.objects w.key bytes (apply_in d n z.content.minimum (asks_at g b w)).objects
-  objects_at Putting k f t = inr (ap (λ x. fin.insert d.objects w.key (object_of x)) (sym (put_is k.0)) ∙ twice c.objects d.objects w.key bytes h.beside.objects)
+  objects_at Putting k f t = inr (ap (λ x. fin.insert d.objects w.key (object_of x)) (sym (put_is k.0)) ∙ twice c.objects d.objects w.key
+      bytes h.beside.objects)
   objects_at Completing k f t =
       let r = asks_at Completing b w in
       let e = completes (answer s r) (apply s r) f t in
       let g = placed_there z b (apply_in d n z.content.minimum r) e.0 (next_of n r) (apply s r) (scene_after Completing) e.1 in
-      joined_is (joined (live d.uploads w.key (id_in w)) (named_from 1 w.tags) z.content.minimum) (ap (λ (e : BucketContent). fin.get e.objects w.key) (sym g) ∙ e.2)
+      joined_is (joined (live d.uploads w.key (id_in w)) (named_from 1 w.tags) z.content.minimum)
+      (ap (λ (e : BucketContent). fin.get e.objects w.key) (sym g) ∙ e.2)
   objects_at Waiting k f t = absurd k
   objects_at Over k f t = absurd k
   objects_at _ k f t = h.beside.objects
@@ -216,7 +275,8 @@ module _ (z : Scene) (b bytes : List ℕ) (c : BucketContent) (w : Writing) (s :
   abbrev So : Heard → Scene → Type 0
   So = HeardSo z b w.key bytes c
 
-  wrote : (e : BucketContent) → fin.get (apply s r).content.buckets b ≡ Some e → fin.get e.objects w.key ≡ Some (object_of bytes) → Wrote z b w.key bytes c (apply s r)
+  wrote : (e : BucketContent) → fin.get (apply s r).content.buckets b ≡ Some e → fin.get e.objects w.key ≡ Some (object_of bytes)
+      → Wrote z b w.key bytes c (apply s r)
   wrote e f g =
       let k = placed_there z b beside_after.content e beside_after.next (apply s r) beside_after.scene f in
       record {
@@ -224,13 +284,19 @@ module _ (z : Scene) (b bytes : List ℕ) (c : BucketContent) (w : Writing) (s :
         next = beside_after.next;
         scene = beside_after.scene;
         later = beside_after.later;
-        objects = whole_is c.objects beside_after.content.objects w.key bytes beside_after.objects (ap (λ (e : BucketContent). fin.get e.objects w.key) (sym k) ∙ g);
+        objects = whole_is c.objects beside_after.content.objects w.key bytes beside_after.objects
+            (ap (λ (e : BucketContent). fin.get e.objects w.key) (sym k) ∙ g);
       }
 
   heard_so : (g : Stage) (a : Reply) → answers g a ≡ true → Holds (told g S repeated a) (apply s r) false bytes
       → ((id : ℕ) → g ≡ Beginning → a ≡ Drawn id → z.content.next ≤ id) → So (heard_at g w a repeated) (apply s r)
   heard_so Putting (Stored t) f k i = let v = stands (apply s r) k in wrote v.0 v.1 v.2
-  heard_so Beginning (Drawn id) f k i = record { beside = beside_after; drawn = λ j x. subst (λ j. z.content.next ≤ j) (some_is x) (i id refl refl); holds = k }
+  heard_so Beginning (Drawn id) f k i = record {
+    beside = beside_after;
+    drawn = λ j x. subst (λ j. z.content.next ≤ j) (some_is x)
+        (i id refl refl);
+    holds = k;
+  }
   heard_so Sending (Part t) f k i = record { beside = beside_after; drawn = h.drawn; holds = k }
   heard_so Sending (Refused NoSuchUpload) f k i = absurd k.held
   heard_so Completing (Completed t) f k i = let v = stands (apply s r) k in wrote v.0 v.1 v.2
@@ -263,7 +329,8 @@ OwnHeard z b Refusing s = Unit {0}
 no_own : (u : Option ℕ) (id : ℕ) → u ≡ None → u ≡ Some id → ⊥
 no_own u id e f = cc
 
-module _ (z : Scene) (b bytes : List ℕ) (c : BucketContent) (w : Writing) (s : Scene) (h : Writes z b bytes c w s false) (own : NoneBut w.upload z b s) where
+module _ (z : Scene) (b bytes : List ℕ) (c : BucketContent) (w : Writing) (s : Scene) (h : Writes z b bytes c w s false)
+    (own : NoneBut w.upload z b s) where
   abbrev dd : BucketContent
   dd = h.beside.content
 
@@ -273,18 +340,21 @@ module _ (z : Scene) (b bytes : List ℕ) (c : BucketContent) (w : Writing) (s :
   there : (id : ℕ) → upload_at s.content b id ≡ fin.get dd.uploads id
   there id = ap (λ (s : Scene). upload_at s.content b id) h.beside.scene ∙ ap (λ o. upload_in o id) (get_put z.content.buckets b dd)
 
-  since : (g : Stage) (id : ℕ) → upload_at (apply s (asks_at g b w)).content b id ≡ fin.get (apply_in dd nn z.content.minimum (asks_at g b w)).uploads id
+  since : (g : Stage) (id : ℕ) → upload_at (apply s (asks_at g b w)).content b id ≡ fin.get
+      (apply_in dd nn z.content.minimum (asks_at g b w)).uploads id
   since g id = grind (arith, applied_at, get_put)
 
   -- an id that is not its own
   other : (id : ℕ) → z.content.next ≤ id → upload_at z.content b id ≡ None → (w.upload ≡ Some id → ⊥) → fin.get dd.uploads id ≡ None
   other id l e ne = sym (there id) ∙ own id l e ne
 
-  ended_gone : (id : ℕ) (t : Spelled) (m : Result (List ℕ) Refusal) → id ≡ id_in w → complete_answer (named_from 1 w.tags) m ≡ Completed t → fin.get (completed dd w.key (id_in w) m).uploads id ≡ None
+  ended_gone : (id : ℕ) (t : Spelled) (m : Result (List ℕ) Refusal) → id ≡ id_in w → complete_answer (named_from 1 w.tags) m ≡ Completed t
+      → fin.get (completed dd w.key (id_in w) m).uploads id ≡ None
   ended_gone id t (Ok x) f e = nat_gone dd.uploads (id_in w) id f
   ended_gone id t (Err r) f e = absurd (cc)
 
-  own_at : (g : Stage) → Known w g → (a : Reply) → answer s (asks_at g b w) ≡ a → OwnHeard z b (heard_at g w a false) (apply s (asks_at g b w))
+  own_at : (g : Stage) → Known w g → (a : Reply) → answer s (asks_at g b w) ≡ a
+      → OwnHeard z b (heard_at g w a false) (apply s (asks_at g b w))
   own_at Putting k (Stored t) e = λ id l f. since Putting id ∙ other id l f (no_own w.upload id k.0)
   own_at Beginning k (Drawn i) e = λ id l f ne.
       let q = drawn_same i nn (sym e ∙ answered_there z b dd nn s h.beside.scene (CreateUpload b w.key) refl) in
@@ -293,11 +363,14 @@ module _ (z : Scene) (b bytes : List ℕ) (c : BucketContent) (w : Writing) (s :
       ∙ other id l f (no_own w.upload id k.0)
   own_at Sending k (Part t) e = λ id l f ne.
       since Sending id
-      ∙ part_kept dd.uploads (id_in w) id (live dd.uploads w.key (id_in w)) (length w.tags + 1) (take w.block w.pending) (λ g. ne (k.0 ∙ ap Some (sym g)))
+      ∙ part_kept dd.uploads (id_in w) id (live dd.uploads w.key (id_in w)) (length w.tags + 1) (take w.block w.pending)
+      (λ g. ne (k.0 ∙ ap Some (sym g)))
       ∙ other id l f ne
   own_at Completing k (Completed t) e = λ id l f. since Completing id ∙ by id l f (same_or_not id (id_in w))
     where
-      by : (id : ℕ) → z.content.next ≤ id → upload_at z.content b id ≡ None → (id ≡ id_in w) ⊎ (id ≡ id_in w → ⊥) → fin.get (completed dd w.key (id_in w) (joined (live dd.uploads w.key (id_in w)) (named_from 1 w.tags) z.content.minimum)).uploads id ≡ None
+      by : (id : ℕ) → z.content.next ≤ id → upload_at z.content b id ≡ None → (id ≡ id_in w) ⊎ (id ≡ id_in w → ⊥)
+          → fin.get (completed dd w.key (id_in w) (joined (live dd.uploads w.key (id_in w)) (named_from 1 w.tags)
+          z.content.minimum)).uploads id ≡ None
       by id l f (inl g) =
           ended_gone id t (joined (live dd.uploads w.key (id_in w)) (named_from 1 w.tags) z.content.minimum) g
           (sym (answered_there z b dd nn s h.beside.scene (CompleteUpload b w.key (id_in w) (named_from 1 w.tags)) refl) ∙ e)
@@ -323,7 +396,8 @@ begun_left w id e = let h : 1 + left (begun w id) < 1 + left w = keeping.left_be
 
 parted_left : (w : Writing) (t : Spelled) → 1 ≤ w.block → is_due w ≡ true → left (parted w t) < left w
 parted_left w t some d =
-    let h : 1 + left (parted w t) < 1 + left w = keeping.left_parted (stream_of [] w) t some (due (stream_of [] w) (part_due [] w some ∙ d)) in
+    let h : 1 + left (parted w t) < 1 + left w = keeping.left_parted (stream_of [] w) t some (due (stream_of [] w) (part_due [] w some ∙ d))
+    in
     omega (arith, h)
 
 -- a part that is due leaves room

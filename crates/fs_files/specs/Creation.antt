@@ -1,11 +1,16 @@
 -- What is asked of the making of a file.
-use Rattle.std.specs.Prelude.{◌≡◌, ℕ, ◌*◌, ◌≤◌, Bool, true, false, List, length}
-use Rattle.std.proofs.Common.{refl}
-use Rattle.fs_ops.specs.Prelude.{Coded, code_by, coded×, coded_ℕ, coded_text, Path, is_key, keys_above, created, MarkerPolicy, Keep, Delete}
-use Rattle.s3_types.specs.Prelude.{coded_bool}
+use Rattle.dir_markers.specs.Markers.{created, keys_above}
+use Rattle.dir_markers.specs.declared.marker.MarkerPolicy.{MarkerPolicy}
+use Rattle.dir_markers.specs.declared.marker.MarkerPolicy.TheVariants.{Delete, Keep}
+use Rattle.path_keys.specs.Paths.{Path, is_key}
+use Rattle.s3_types.specs.Coded.{coded_text}
 use Rattle.s3_types.specs.declared.limits.TheConstants.{MOST_PARTS}
+use Rattle.std.proofs.Common.{refl}
+use Rattle.std.specs.Coded.{Coded, code_by, coded_bool, coded_ℕ, coded×}
+use Rattle.std.specs.Prelude.{Bool, List, false, length, true, ℕ, ◌*◌, ◌≡◌, ◌≤◌}
 
--- what is to be made: the file's path, its bytes, the length in bytes of its parts, whether a file that stands there is replaced, and what becomes of the markers above it
+-- what is to be made: the file's path, its bytes, the length in bytes of its parts, whether a file that stands there is replaced, and what
+-- becomes of the markers above it
 pub record Creation : Type 0 where
   pub path : Path
   pub bytes : List ℕ
@@ -31,13 +36,28 @@ policy_and_back Delete = refl
 -- the code of the making of a file
 abbrev pub coded_creation : Coded Creation
 coded_creation =
-    code_by (List ℕ × (List ℕ × (List ℕ × (ℕ × (Bool × MarkerPolicy))))) (coded× coded_text (coded× coded_text (coded× coded_text (coded× coded_ℕ (coded× coded_bool (code_by Bool coded_bool deletes policy_of policy_and_back))))))
+    code_by (List ℕ × (List ℕ × (List ℕ × (ℕ × (Bool × MarkerPolicy))))) (coded× coded_text
+    (coded× coded_text (coded× coded_text (coded× coded_ℕ (coded× coded_bool
+    (code_by Bool coded_bool deletes policy_of policy_and_back))))))
     (λ o. (o.path.bucket, (o.path.key, (o.bytes, (o.block, (o.overwrite, o.policy))))))
-    (λ t. record { path = record { bucket = t.0; key = t.1.0 }; bytes = t.1.1.0; block = t.1.1.1.0; overwrite = t.1.1.1.1.0; policy = t.1.1.1.1.1 }) (λ _. refl)
+    (λ t. record {
+      path = record { bucket = t.0; key = t.1.0 };
+      bytes = t.1.1.0;
+      block = t.1.1.1.0;
+      overwrite = t.1.1.1.1.0;
+      policy =
+          t.1.1.1.1.1;
+    }) (λ _. refl)
 
 -- the making of a file, of its parts
 abbrev pub created_of : List ℕ → List ℕ → List ℕ → ℕ → Bool → MarkerPolicy → Creation
-created_of bucket key bytes block overwrite policy = record { path = record { bucket = bucket; key = key }; bytes = bytes; block = block; overwrite = overwrite; policy = policy }
+created_of bucket key bytes block overwrite policy = record {
+  path = record { bucket = bucket; key = key };
+  bytes = bytes;
+  block = block;
+  overwrite = overwrite;
+  policy = policy;
+}
 
 -- what a creation is begun with
 pub record IsCreation (o : Creation) : Type 0 where

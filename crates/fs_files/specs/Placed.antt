@@ -1,12 +1,17 @@
 -- A scene of which one bucket changes.
-use Rattle.std.specs.Prelude.{◌≡◌, ◌⊎◌, ℕ, ◌≤◌, ◌<◌, List, Option, Some, None}
-use Rattle.fs_ops.specs.Prelude.{Objects, BucketContent, Scene, Object}
-use Rattle.std.specs.FinMap as fin
+use Rattle.s3_types.specs.Store.{BucketContent, Objects, Scene}
+use Rattle.s3_types.specs.declared.object.Object.{Object}
+use Rattle.std.specs.Prelude.{List, None, Option, Some, ℕ, ◌<◌, ◌≡◌, ◌≤◌, ◌⊎◌}
 use Rattle.store_frame.specs.Held.{upload_at}
+use Rattle.std.specs.FinMap as fin
 
 -- z with this in a bucket, and this as the next upload's id
 abbrev pub placed : Scene → List ℕ → BucketContent → ℕ → Scene
-placed z b d n = record { content = record { buckets = fin.insert z.content.buckets b d; next = n; minimum = z.content.minimum }; files = z.files }
+placed z b d n = record {
+  content = record { buckets = fin.insert z.content.buckets b d; next = n; minimum = z.content.minimum };
+  files =
+      z.files;
+}
 
 -- uploads that were begun before are as they were, and later ones have ids that were not drawn then
 pub record IsLater (z : Scene) (c d : BucketContent) (n : ℕ) : Type 0 where

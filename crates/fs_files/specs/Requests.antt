@@ -1,11 +1,13 @@
 -- The requests that put a file into S3: PutObject or a multipart upload, and DeleteObjects of the directory markers above it
 -- (Amazon S3 API; Hadoop, S3A: block output, directory markers).
-use Rattle.std.specs.Prelude.{◌≡◌, ℕ, ◌+◌, ◌≤◌, ◌<◌, List, [], length, map, Some, None}
-use Rattle.fs_ops.specs.Prelude.{slice_get, named_from, created, Request, PutObject, CreateUpload, UploadPart, CompleteUpload}
-use Rattle.fs_ops.specs.Prelude.{DeleteObjects}
-use Rattle.s3_types.specs.Blocks.{parts_of}
-use Rattle.s3_types.specs.Tags.{plain_tag}
+use Rattle.dir_markers.specs.Markers.{created}
 use Rattle.fs_files.specs.Creation.{Creation}
+use Rattle.s3_types.specs.Blocks.{named_from, parts_of}
+use Rattle.s3_types.specs.Tags.{plain_tag}
+use Rattle.s3_types.specs.declared.request.Request.{Request}
+use Rattle.s3_types.specs.declared.request.Request.TheVariants.{CompleteUpload, CreateUpload, DeleteObjects, PutObject, UploadPart}
+use Rattle.std.specs.List.{slice_get}
+use Rattle.std.specs.Prelude.{List, None, Some, length, map, ℕ, [], ◌+◌, ◌<◌, ◌≡◌, ◌≤◌}
 
 -- the parts of the file's upload, from part 1 on: its bytes cut into blocks
 abbrev pub parts_in : Creation → List (List ℕ)

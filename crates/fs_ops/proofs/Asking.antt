@@ -1,7 +1,11 @@
 -- What is asked, told by what follows from it.
-use Rattle.std.specs.Prelude.{ℕ, List, None, Option, Some, [], ◌∷◌}
-use Rattle.fs_ops.specs.Prelude.{AllByRecursion, Ask, Entry, Objects, Request, Scene, SendsIn, objects_at}
-use Rattle.bucket_ops.specs.Phases.{SendsAt}
+use Rattle.bucket_ops.specs.Asks.{Ask, objects_at}
+use Rattle.bucket_ops.specs.Phases.{SendsAt, SendsIn}
+use Rattle.s3_types.specs.Store.{Objects, Scene}
+use Rattle.s3_types.specs.declared.journal.Entry.{Entry}
+use Rattle.s3_types.specs.declared.request.Request.{Request}
+use Rattle.std.specs.List.{AllByRecursion}
+use Rattle.std.specs.Prelude.{List, None, Option, Some, ℕ, [], ◌∷◌}
 
 -- of each request
 pub each_asked : (P Q : Request → Type 0) → ((r : Request) → P r → Q r) → (es : List Entry) → AllByRecursion (λ e. P e.request) es

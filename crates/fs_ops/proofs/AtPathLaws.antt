@@ -1,26 +1,42 @@
 -- What stands at a path, stage by stage, whatever is asked of a file there.
-use Rattle.std.specs.Prelude.{◌≡◌, true, ℕ, List, [], ◌∷◌, Result, Err, Option}
-use Rattle.fs_ops.proofs.Common.{Ask, Falls, FsRefusal, Goes, IsAbsent, IsDirectory, IsPhases, IsStages, IsStill, MayAsk, NoSuchBucket, NotFound, Objects, OnlyLooks, Reply, arith, edited, first, get_asks, goes_by, holds, is_look, left, look_asks, marker_of, refl, reply_in, subst, sym, told, ◌∙◌}
-use Rattle.fs_ops.specs.declared.at_path.PathStage.{PathStage}
-use Rattle.fs_ops.specs.declared.at_path.PathStage.TheVariants.{Here, Below}
-use Rattle.fs_ops.proofs.StepLaws.{phases_of}
+use Rattle.bucket_ops.specs.Asks.{Ask, edited, is_look, reply_in}
+use Rattle.bucket_ops.specs.Phases.{IsPhases, MayAsk}
+use Rattle.dir_markers.specs.Markers.{marker_of}
 use Rattle.fs_ops.proofs.Looks.{below_key}
-use Rattle.fs_ops.specs.code.AtPath.{asks, on_here, on_below, on}
+use Rattle.fs_ops.proofs.StepLaws.{phases_of}
+use Rattle.fs_ops.specs.Places.{get_asks, look_asks}
+use Rattle.fs_ops.specs.code.AtPath.{asks, first, holds, left, on, on_below, on_here, told}
+use Rattle.fs_ops.specs.code.Steps.{IsStages, IsStill, OnlyLooks, goes_by}
+use Rattle.fs_ops.specs.declared.at_path.PathStage.{PathStage}
+use Rattle.fs_ops.specs.declared.at_path.PathStage.TheVariants.{Below, Here}
+use Rattle.fs_tree.specs.Tree.{IsAbsent, IsDirectory}
+use Rattle.fs_tree.specs.declared.answers.FsRefusal.{FsRefusal}
+use Rattle.fs_tree.specs.declared.answers.FsRefusal.TheVariants.{NoSuchBucket, NotFound}
+use Rattle.operations.specs.Plans.{Falls, Goes}
+use Rattle.s3_types.specs.Store.{Objects}
+use Rattle.s3_types.specs.declared.reply.Reply.{Reply}
+use Rattle.std.proofs.Common.{arith, refl, subst, sym, ◌∙◌}
+use Rattle.std.specs.Prelude.{Err, List, Option, Result, true, ℕ, [], ◌∷◌, ◌≡◌}
 
 -- what a question owes that is asked of a file so, is told so, and answers so where a directory stands
-pub record IsQuestion {A : Type 0} (ask : List ℕ → Ask) (file : Reply → Option A) (directory : Result A FsRefusal) (gives : List ℕ → Objects → Result A FsRefusal → Objects → Type 0) : Type 0 where
+pub record IsQuestion {A : Type 0} (ask : List ℕ → Ask) (file : Reply → Option A) (directory : Result A FsRefusal)
+    (gives : List ℕ → Objects → Result A FsRefusal → Objects → Type 0) : Type 0 where
   pub still : (p : List ℕ) (z : Objects) → edited (ask p) z ≡ z
   pub here : (x : ℕ) (p : List ℕ) (z : Objects) → Goes (holds (x ∷ p) z) (gives (x ∷ p) z) (told (file (reply_in z (ask (x ∷ p))))) z
   pub found : (p : List ℕ) (z : Objects) → IsDirectory z p → gives p z directory z
   pub missing : (p : List ℕ) (z : Objects) → IsAbsent z p → gives p z (Err NotFound) z
   pub at_end : (p : List ℕ) (z : Objects) (a : Result A FsRefusal) (m : Objects) → gives p z a m → m ≡ z
 
-module _ {A : Type 0} {ask : List ℕ → Ask} {file : Reply → Option A} {directory : Result A FsRefusal} {gives : List ℕ → Objects → Result A FsRefusal → Objects → Type 0} (k : IsQuestion ask file directory gives) where
+module _ {A : Type 0} {ask : List ℕ → Ask} {file : Reply → Option A} {directory : Result A FsRefusal}
+    {gives : List ℕ → Objects → Result A FsRefusal → Objects → Type 0} (k : IsQuestion ask file directory gives) where
   abbrev Stepped : List ℕ → Objects → PathStage → Objects → Type 0
   Stepped o z x m = Goes (holds o z) (gives o z) (on directory file o x (reply_in m (asks ask o x))) (edited (asks ask o x) m)
 
-  asked_here : (o : List ℕ) (z m : Objects) → edited (ask o) z ≡ m → Goes (holds o z) (gives o z) (on_here directory (file (reply_in z (ask o))) o) z → Goes (holds o z) (gives o z) (on_here directory (file (reply_in z (ask o))) o) m
-  asked_here o z m e h = subst (λ m. Goes (holds o z) (gives o z) (on_here directory (file (reply_in z (ask o))) o) m) (sym (k.still o z) ∙ e) h
+  asked_here : (o : List ℕ) (z m : Objects) → edited (ask o) z ≡ m
+      → Goes (holds o z) (gives o z) (on_here directory (file (reply_in z (ask o))) o) z
+      → Goes (holds o z) (gives o z) (on_here directory (file (reply_in z (ask o))) o) m
+  asked_here o z m e h = subst (λ m. Goes (holds o z) (gives o z) (on_here directory (file (reply_in z (ask o))) o) m)
+      (sym (k.still o z) ∙ e) h
 
   here : (o : List ℕ) (z : Objects) → Goes (holds o z) (gives o z) (on_here directory (file (reply_in z (ask o))) o) z
   here [] z = k.found [] z (tt, tt)
@@ -30,7 +46,8 @@ module _ {A : Type 0} {ask : List ℕ → Ask} {file : Reply → Option A} {dire
   step o z Here h = asked_here o z (edited (ask o) z) refl (here o z)
   step [] z Below h = absurd h.1
   step (x ∷ p) z Below h =
-      below_key (λ l. Goes (holds (x ∷ p) z) (gives (x ∷ p) z) (on_below directory l) z) x (marker_of p) z (λ s. k.found (x ∷ p) z (h.1, s)) (λ n. k.missing (x ∷ p) z (h.1, n))
+      below_key (λ l. Goes (holds (x ∷ p) z) (gives (x ∷ p) z) (on_below directory l) z) x (marker_of p) z (λ s. k.found (x ∷ p) z (h.1, s))
+      (λ n. k.missing (x ∷ p) z (h.1, n))
 
   falls_here : (o : List ℕ) (r : Reply) (m : Objects) → Falls (left o) (on_here directory (file r) o) m 1
   falls_here o r m = grind arith

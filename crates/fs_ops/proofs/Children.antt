@@ -1,10 +1,34 @@
 -- What a delimited listing has of a directory's children. Contracts cite none of these laws.
-use Rattle.std.specs.Prelude.{◌≡◌, ◌⊎◌, ℕ, ◌==◌, ◌&&◌, not, Bool, true, false, cond, List, [], ◌∷◌, ◌++◌, map, length, Option, Some, None}
-use Rattle.fs_ops.proofs.Common.{DirEntry, Directory, File, IsIn, NoneBelow, Object, Objects, PageEntry, Prefix, RisesFrom, SomeBelow, Status, and_parts, ap, append_assoc, append_cancel_left, append_cancel_right, arith, begins, begins_more, entry_of, eqb-true, false≢true, filter, filter_in, folded_from, found_at, found_in, in_filter, in_map, inl, inr, is_again, is_lt, is_other, list_all, listed, lt, map_in, map_sorted, nat_true, none_some, not_so, refl, rest_after, some_is, subst, sym, text_by, text_cmp, text_exact, text_in, tied, walked_listed, ◌∙◌}
-use Rattle.store_frame.specs.Prelude.{option_map, before_slash, stem, entry_by}
+use Rattle.basics.proofs.Bools.{not_so}
+use Rattle.basics.proofs.Less.{lt}
+use Rattle.basics.proofs.Members.{filter_in, in_filter, in_map, map_in, nat_true, none_some, some_is, text_exact}
+use Rattle.basics.proofs.Tree.{map_sorted, tied}
+use Rattle.basics.specs.Members.{IsIn, RisesFrom}
+use Rattle.basics.specs.Order.{text_cmp}
+use Rattle.basics.specs.Parts.{is_other}
+use Rattle.dir_markers.specs.declared.status.Status.{Status}
+use Rattle.dir_markers.specs.declared.status.Status.TheVariants.{Directory, File}
+use Rattle.fs_tree.proofs.Begins.{begins_more}
+use Rattle.fs_tree.proofs.Moving.{rest_after}
+use Rattle.fs_tree.specs.Changes.{text_by}
+use Rattle.fs_tree.specs.Tree.{NoneBelow, SomeBelow}
+use Rattle.fs_tree.specs.declared.answers.DirEntry.{DirEntry}
+use Rattle.s3_types.specs.Pages.{before_slash, begins, entry_by, entry_of, folded_from, is_again, listed, stem, text_in}
+use Rattle.s3_types.specs.Store.{Objects}
+use Rattle.s3_types.specs.declared.object.Object.{Object}
+use Rattle.s3_types.specs.declared.reply.PageEntry.{PageEntry}
+use Rattle.s3_types.specs.declared.reply.PageEntry.TheVariants.{Object as Single, Prefix}
+use Rattle.std.proofs.Common.{ap, append_assoc, arith, inl, inr, refl, subst, sym, ◌∙◌}
+use Rattle.std.proofs.lemmas.Bool.{and_parts, eqb-true, false≢true}
+use Rattle.std.proofs.lemmas.List.{append_cancel_left, append_cancel_right}
+use Rattle.std.specs.List.{filter, list_all}
+use Rattle.std.specs.Option.{option_map}
+use Rattle.std.specs.Ordering.{is_lt}
+use Rattle.std.specs.Prelude.{Bool, List, None, Option, Some, cond, false, length, map, not, true, ℕ, [], ◌&&◌, ◌++◌, ◌==◌, ◌∷◌, ◌≡◌, ◌⊎◌}
+use Rattle.store_frame.proofs.Flat.{found_at, found_in}
+use Rattle.store_frame.proofs.Listed.{walked_listed}
+use Rattle.store_frame.specs.Walk.{text_of as walked_text, walked}
 use Rattle.std.specs.FinMap as fin
-use Rattle.store_frame.specs.Walk.{walked, text_of as walked_text}
-use Rattle.s3_types.specs.declared.reply.PageEntry.TheVariants.{Object as Single}
 
 abbrev pub NoSlash : List ℕ → Type 0
 NoSlash n = list_all (is_other 47) n ≡ true
@@ -18,13 +42,15 @@ before_at : (n : List ℕ) → NoSlash n → before_slash n ≡ None
 before_at [] h = refl
 before_at (x ∷ n) h =
     let w = and_parts (not (x == 47)) (list_all (is_other 47) n) h in
-    ap (λ b. cond b (Some []) (option_map (λ s. x ∷ s) (before_slash n))) (not_so (x == 47) w.0) ∙ ap (option_map (λ s. x ∷ s)) (before_at n w.1)
+    ap (λ b. cond b (Some []) (option_map (λ s. x ∷ s) (before_slash n))) (not_so (x == 47) w.0) ∙ ap (option_map (λ s. x ∷ s))
+    (before_at n w.1)
 
 before_one : (n w : List ℕ) → NoSlash n → before_slash (n ++ 47 ∷ w) ≡ Some n
 before_one [] w h = refl
 before_one (x ∷ n) w h =
     let g = and_parts (not (x == 47)) (list_all (is_other 47) n) h in
-    ap (λ b. cond b (Some []) (option_map (λ s. x ∷ s) (before_slash (n ++ 47 ∷ w)))) (not_so (x == 47) g.0) ∙ ap (option_map (λ s. x ∷ s)) (before_one n w g.1)
+    ap (λ b. cond b (Some []) (option_map (λ s. x ∷ s) (before_slash (n ++ 47 ∷ w)))) (not_so (x == 47) g.0) ∙ ap (option_map (λ s. x ∷ s))
+    (before_one n w g.1)
 
 stem_more : (q k : List ℕ) (x : ℕ) → stem (x ∷ q) (x ∷ k) ≡ option_map (λ s. x ∷ s) (stem q k)
 stem_more q k x = ap (λ b. cond b (option_map (λ s. x ∷ s) (stem q k)) None) (nat_true x x refl)
@@ -57,7 +83,8 @@ slashed n m h e = false≢true (sym (all n) ∙ ap (list_all (is_other 47)) (sym
   where
     all : (n : List ℕ) → list_all (is_other 47) (n ++ 47 ∷ []) ≡ false
     all [] = refl
-    all (x ∷ n) = ap (λ b. is_other 47 x && b) (all n) ∙ (elim (is_other 47 x) as (λ b. (b && false) ≡ false) [ true ↦ refl | false ↦ refl ])
+    all (x ∷ n) = ap (λ b. is_other 47 x && b) (all n) ∙ (elim (is_other 47 x) as (λ b. (b && false) ≡ false)
+        [ true ↦ refl | false ↦ refl ])
 
 -- ---- children as entries
 
@@ -96,7 +123,8 @@ pub folded_sub : (last : Option (List ℕ)) (xs : List PageEntry) (x : PageEntry
 folded_sub last [] x i = absurd i
 folded_sub last (y ∷ ys) x i = by (is_again last y) refl (folded_sub last ys x) (folded_sub (Some (text_in y)) ys x)
   where
-    by : (b : Bool) → is_again last y ≡ b → (IsIn x (folded_from last ys) → IsIn x ys) → (IsIn x (folded_from (Some (text_in y)) ys) → IsIn x ys) → IsIn x (y ∷ ys)
+    by : (b : Bool) → is_again last y ≡ b → (IsIn x (folded_from last ys) → IsIn x ys)
+        → (IsIn x (folded_from (Some (text_in y)) ys) → IsIn x ys) → IsIn x (y ∷ ys)
     by b h g e = grind arith
 
 -- an entry is listed, or another of its text is
@@ -107,19 +135,27 @@ again_text : (last : Option (List ℕ)) (y : PageEntry) → is_again last y ≡ 
 again_text None y h = absurd (false≢true h)
 again_text (Some t) y h = ap Some (text_exact t (text_in y) (tied (text_cmp t (text_in y)) h))
 
-folded_all : (last : Option (List ℕ)) (xs : List PageEntry) (x : PageEntry) → IsIn x xs → HasText (text_in x) (folded_from last xs) ⊎ (last ≡ Some (text_in x))
+folded_all : (last : Option (List ℕ)) (xs : List PageEntry) (x : PageEntry) → IsIn x xs → HasText (text_in x) (folded_from last xs)
+    ⊎ (last ≡ Some (text_in x))
 folded_all last [] x i = absurd i
 folded_all last (y ∷ ys) x i = by (is_again last y) refl i (folded_all last ys x) (folded_all (Some (text_in y)) ys x)
   where
-    later : HasText (text_in x) (folded_from (Some (text_in y)) ys) ⊎ (Some (text_in y) ≡ Some (text_in x)) → HasText (text_in x) (y ∷ folded_from (Some (text_in y)) ys) ⊎ (last ≡ Some (text_in x))
+    later : HasText (text_in x) (folded_from (Some (text_in y)) ys) ⊎ (Some (text_in y) ≡ Some (text_in x))
+        → HasText (text_in x) (y ∷ folded_from (Some (text_in y)) ys) ⊎ (last ≡ Some (text_in x))
     later h = grind arith
 
-    by : (b : Bool) → is_again last y ≡ b → (x ≡ y) ⊎ IsIn x ys → (IsIn x ys → HasText (text_in x) (folded_from last ys) ⊎ (last ≡ Some (text_in x))) → (IsIn x ys → HasText (text_in x) (folded_from (Some (text_in y)) ys) ⊎ (Some (text_in y) ≡ Some (text_in x)))
-        → HasText (text_in x) (cond (is_again last y) (folded_from last ys) (y ∷ folded_from (Some (text_in y)) ys)) ⊎ (last ≡ Some (text_in x))
+    by : (b : Bool) → is_again last y ≡ b → (x ≡ y) ⊎ IsIn x ys
+        → (IsIn x ys → HasText (text_in x) (folded_from last ys) ⊎ (last ≡ Some (text_in x)))
+        → (IsIn x ys → HasText (text_in x) (folded_from (Some (text_in y)) ys) ⊎ (Some (text_in y) ≡ Some (text_in x)))
+        → HasText (text_in x) (cond (is_again last y) (folded_from last ys) (y ∷ folded_from (Some (text_in y)) ys))
+        ⊎ (last ≡ Some (text_in x))
     by true e (inl h) old new = inr (again_text last y e ∙ ap (λ v. Some (text_in v)) (sym h))
-    by true e (inr j) old new = subst (λ b. HasText (text_in x) (cond b (folded_from last ys) (y ∷ folded_from (Some (text_in y)) ys)) ⊎ (last ≡ Some (text_in x))) (sym e) (old j)
-    by false e (inl h) old new = subst (λ b. HasText (text_in x) (cond b (folded_from last ys) (y ∷ folded_from (Some (text_in y)) ys)) ⊎ (last ≡ Some (text_in x))) (sym e) (inl (y, inl refl, ap text_in (sym h)))
-    by false e (inr j) old new = subst (λ b. HasText (text_in x) (cond b (folded_from last ys) (y ∷ folded_from (Some (text_in y)) ys)) ⊎ (last ≡ Some (text_in x))) (sym e) (later (new j))
+    by true e (inr j) old new = subst (λ b. HasText (text_in x) (cond b (folded_from last ys) (y ∷ folded_from (Some (text_in y)) ys))
+        ⊎ (last ≡ Some (text_in x))) (sym e) (old j)
+    by false e (inl h) old new = subst (λ b. HasText (text_in x) (cond b (folded_from last ys) (y ∷ folded_from (Some (text_in y)) ys))
+        ⊎ (last ≡ Some (text_in x))) (sym e) (inl (y, inl refl, ap text_in (sym h)))
+    by false e (inr j) old new = subst (λ b. HasText (text_in x) (cond b (folded_from last ys) (y ∷ folded_from (Some (text_in y)) ys))
+        ⊎ (last ≡ Some (text_in x))) (sym e) (later (new j))
 
 module _ (q : List ℕ) (z : Objects) where
   abbrev all : List PageEntry
@@ -167,12 +203,15 @@ module _ (q : List ℕ) (z : Objects) where
   child_stands n (File l) h = (q ++ n, begins_more q n, h.0, h.1)
 
   pub some_listed : (mark : List ℕ) (x : PageEntry) (xs : List PageEntry) → listed q true mark z ≡ x ∷ xs → SomeBelow z q
-  some_listed mark x xs e = let s = shown_in mark x (subst (IsIn x) (sym e) (inl refl)) in child_stands s.child.name s.child.status s.is_child.stands
+  some_listed mark x xs e = let s = shown_in mark x (subst (IsIn x) (sym e) (inl refl)) in child_stands s.child.name s.child.status
+      s.is_child.stands
 
   -- each key that stands has an entry of its text
-  pub has_text : (k : List ℕ) (o : Object) → fin.get z k ≡ Some o → begins q k ≡ true → lt text_cmp [] (text_in (entry_of q true (k, o))) ≡ true → HasText (text_in (entry_of q true (k, o))) all
+  pub has_text : (k : List ℕ) (o : Object) → fin.get z k ≡ Some o → begins q k ≡ true
+      → lt text_cmp [] (text_in (entry_of q true (k, o))) ≡ true → HasText (text_in (entry_of q true (k, o))) all
   has_text k o g b l =
-      let a = filter_in (λ (e : Entry). begins q e.0) (k, o) (fin.entries z) (found_in (fin.entries z) k o (sym (fin.get-entries z k) ∙ g)) b in
+      let a = filter_in (λ (e : Entry). begins q e.0) (k, o) (fin.entries z) (found_in (fin.entries z) k o (sym (fin.get-entries z k) ∙ g))
+      b in
       let c = map_in (entry_of q true) (k, o) (filter (λ (e : Entry). begins q e.0) (fin.entries z)) a in
       elim (folded_all None (filter (after []) flat) (entry_of q true (k, o)) (filter_in (after []) (entry_of q true (k, o)) flat c l)) [
         | inl h ↦ h
@@ -183,10 +222,13 @@ module _ (q : List ℕ) (z : Objects) where
 
   rises_walked : (last : List ℕ) (es : List Entry) → RisesFrom last (map text_in (walked q true last es))
   rises_walked last [] = tt
-  rises_walked last (e ∷ es) = by (begins q e.0) (lt text_cmp last (walked_text q true e.0)) refl (rises_walked last es) (rises_walked (walked_text q true e.0) es)
+  rises_walked last (e ∷ es) = by (begins q e.0) (lt text_cmp last (walked_text q true e.0)) refl (rises_walked last es)
+      (rises_walked (walked_text q true e.0) es)
     where
-      by : (b c : Bool) → lt text_cmp last (walked_text q true e.0) ≡ c → RisesFrom last (map text_in (walked q true last es)) → RisesFrom (walked_text q true e.0) (map text_in (walked q true (walked_text q true e.0) es))
-          → RisesFrom last (map text_in (cond (b && c) (entry_of q true e ∷ walked q true (walked_text q true e.0) es) (walked q true last es)))
+      by : (b c : Bool) → lt text_cmp last (walked_text q true e.0) ≡ c → RisesFrom last (map text_in (walked q true last es))
+          → RisesFrom (walked_text q true e.0) (map text_in (walked q true (walked_text q true e.0) es))
+          → RisesFrom last (map text_in (cond (b && c) (entry_of q true e ∷ walked q true (walked_text q true e.0) es)
+          (walked q true last es)))
       by b c h g e = grind arith
 
   pub listed_rises : (mark : List ℕ) → RisesFrom mark (map text_in (listed q true mark z))
@@ -215,7 +257,8 @@ module _ (q : List ℕ) (z : Objects) where
     entry_in : (t : List ℕ) → HasText t all → (d : DirEntry) × IsIn d ds × (q ++ text_by d.name d.status ≡ t)
     entry_in t h = grind (arith, in_map, text_at)
 
-    file_is : (n : List ℕ) (o : Object) (d : DirEntry) → fin.get z (q ++ n) ≡ Some o → NoSlash n → IsIn d ds → q ++ text_by d.name d.status ≡ q ++ n → IsIn (child_at n (File (length o.bytes))) ds
+    file_is : (n : List ℕ) (o : Object) (d : DirEntry) → fin.get z (q ++ n) ≡ Some o → NoSlash n → IsIn d ds
+        → q ++ text_by d.name d.status ≡ q ++ n → IsIn (child_at n (File (length o.bytes))) ds
     file_is n o d g s i e = by d.status refl (append_cancel_left q (text_by d.name d.status) n e) (are d i).stands
       where
         by : (k : Status) → d.status ≡ k → text_by d.name k ≡ n → Standing q z d.name k → IsIn (child_at n (File (length o.bytes))) ds
@@ -225,22 +268,26 @@ module _ (q : List ℕ) (z : Objects) where
             let size : l ≡ length o.bytes = sym h.2 ∙ ap (λ (o : Object). length o.bytes) same in
             subst (λ d. IsIn d ds) ((λ j. child_at (d.name) (f j)) ∙ (λ j. child_at (m j) (File (size j)))) i
 
-    pub file_listed : (n : List ℕ) (o : Object) → fin.get z (q ++ n) ≡ Some o → NoSlash n → lt text_cmp [] (q ++ n) ≡ true → IsIn (child_at n (File (length o.bytes))) ds
+    pub file_listed : (n : List ℕ) (o : Object) → fin.get z (q ++ n) ≡ Some o → NoSlash n → lt text_cmp [] (q ++ n) ≡ true
+        → IsIn (child_at n (File (length o.bytes))) ds
     file_listed n o g s l =
         let t : text_in (entry_of q true (q ++ n, o)) ≡ q ++ n = ap (λ s. text_in (entry_by s (q ++ n) (length o.bytes))) (stem_at q n s) in
         let w = entry_in (text_in (entry_of q true (q ++ n, o))) (has_text (q ++ n) o g (begins_more q n) (ap (lt text_cmp []) t ∙ l)) in
         file_is n o w.0 g s w.1 (w.2 ∙ t)
 
-    dir_is : (n : List ℕ) (d : DirEntry) → NoSlash n → IsIn d ds → q ++ text_by d.name d.status ≡ (q ++ n) ++ 47 ∷ [] → IsIn (child_at n Directory) ds
+    dir_is : (n : List ℕ) (d : DirEntry) → NoSlash n → IsIn d ds → q ++ text_by d.name d.status ≡ (q ++ n) ++ 47 ∷ []
+        → IsIn (child_at n Directory) ds
     dir_is n d s i e = by d.status refl (append_cancel_left q (text_by d.name d.status) (n ++ 47 ∷ []) (e ∙ append_assoc q n (47 ∷ [])))
       where
         by : (k : Status) → d.status ≡ k → text_by d.name k ≡ n ++ 47 ∷ [] → IsIn (child_at n Directory) ds
-        by Directory f m = subst (λ d. IsIn d ds) ((λ j. child_at d.name (f j)) ∙ (λ j. child_at (append_cancel_right d.name n (47 ∷ []) m j) Directory)) i
+        by Directory f m = subst (λ d. IsIn d ds) ((λ j. child_at d.name (f j)) ∙
+            (λ j. child_at (append_cancel_right d.name n (47 ∷ []) m j) Directory)) i
         by (File l) f m = absurd (slashed n d.name (are d i).plain m)
 
     pub dir_listed : (n w : List ℕ) (o : Object) → fin.get z (q ++ (n ++ 47 ∷ w)) ≡ Some o → NoSlash n → IsIn (child_at n Directory) ds
     dir_listed n w o g s =
-        let t : text_in (entry_of q true (q ++ (n ++ 47 ∷ w), o)) ≡ (q ++ n) ++ 47 ∷ [] = ap (λ s. text_in (entry_by s (q ++ (n ++ 47 ∷ w)) (length o.bytes))) (stem_one q n w s) in
+        let t : text_in (entry_of q true (q ++ (n ++ 47 ∷ w), o)) ≡ (q ++ n) ++ 47 ∷ [] = ap
+        (λ s. text_in (entry_by s (q ++ (n ++ 47 ∷ w)) (length o.bytes))) (stem_one q n w s) in
         let h = has_text (q ++ (n ++ 47 ∷ w)) o g (begins_more q (n ++ 47 ∷ w)) (ap (lt text_cmp []) t ∙ some_behind (q ++ n) []) in
         let v = entry_in (text_in (entry_of q true (q ++ (n ++ 47 ∷ w), o))) h in
         dir_is n v.0 s v.1 (v.2 ∙ t)

@@ -1,11 +1,15 @@
 -- What a climb over the directories above a path has seen.
-use Rattle.std.specs.Prelude.{◌≡◌, ℕ, ◌<◌, List, None, length}
-use Rattle.fs_ops.proofs.Common.{Climbed, IsClimb, IsFirstFile, Look, NoFiles, Objects, Stands, arith, climbed, climbing}
-use Rattle.std.specs.FinMap as fin
+use Rattle.bucket_ops.specs.declared.look.Look.{Look}
 use Rattle.fs_ops.proofs.Looks.{IsSeen}
+use Rattle.fs_ops.specs.code.Climbs.{IsClimb, Passed, climbed, climbing}
 use Rattle.fs_ops.specs.declared.climb.Climb.{Climb}
-use Rattle.fs_ops.specs.declared.climb.Climbed.TheVariants.{File, On, Free}
-use Rattle.fs_ops.specs.code.Climbs.{Passed}
+use Rattle.fs_ops.specs.declared.climb.Climbed.{Climbed}
+use Rattle.fs_ops.specs.declared.climb.Climbed.TheVariants.{File, Free, On}
+use Rattle.fs_tree.specs.Tree.{IsFirstFile, NoFiles, Stands}
+use Rattle.s3_types.specs.Store.{Objects}
+use Rattle.std.proofs.Common.{arith}
+use Rattle.std.specs.Prelude.{List, None, length, ℕ, ◌<◌, ◌≡◌}
+use Rattle.std.specs.FinMap as fin
 
 module _ (z : Objects) (all : List (List ℕ)) where
   -- what it leads to is so of all

@@ -1,35 +1,58 @@
 -- Deleting a path, stage by stage.
-use Rattle.std.specs.Prelude.{◌≡◌, ◌⊎◌, ℕ, ◌+◌, ◌<◌, Bool, true, false, List, [], ◌∷◌, Option, Some, None, Ok, Err, take, drop, map}
-use Rattle.std.specs.Prelude.{if◌then◌else◌}
-use Rattle.fs_ops.proofs.Common.{Answer, Deletion, End, Falls, Goes, HasChildren, IsEmpty, IsIn, IsMarked, IsPhases, IsStages}
-use Rattle.fs_ops.proofs.Common.{IsWithoutBelow, LessLeft, Look, MayAsk, Next, NoFileAt, NoSuchBucket, NoneBelow, NotEmpty, Nothing}
-use Rattle.fs_ops.proofs.Common.{Object, Objects, PageEntry, Removed, RisesFrom, SomeBelow, Step, There, all_go, ap, arith, begins}
-use Rattle.fs_ops.proofs.Common.{begins_all, edited, ends, false≢true, fits, gives, goes_by, head, if_marker, in_back, in_front, inl, inr}
-use Rattle.fs_ops.proofs.Common.{irrefl, is_key, is_lt, key_no_marker, keys_below, listed, listed_rises, look_of, marker, marker_if}
-use Rattle.fs_ops.proofs.Common.{marker_of, page, parent, prefix_of, refl, reply_in, same_or_other, subst, sweep_asks, sweep_falls}
-use Rattle.fs_ops.proofs.Common.{sweep_fits, sweep_goes, sweep_hears, sweep_left, sweep_start, sym, text_cmp, text_eq, text_gone}
-use Rattle.fs_ops.proofs.Common.{text_here, text_in, text_is, text_left, text_other, text_total, text_true, true_or_false, without, ◌∙◌}
-use Rattle.fs_ops.proofs.Common.{IsRoot, NotFound}
-use Rattle.bucket_ops.specs.Prelude.{Drop, IsDeleting, IsSweeping, IsSwept}
-use Rattle.list_walk.specs.Walks.{Listing, Deleting as Batch}
-use Rattle.fs_tree.specs.Prelude.{HasFile, is_marker}
-use Rattle.fs_tree.proofs.Dropping.{marker_key, marker_not_below}
-use Rattle.basics.proofs.Common.{length-take, take-append-drop}
-use Rattle.fs_ops.specs.Places.{drop_asks, drop_marker_asks}
-use Rattle.std.specs.FinMap as fin
+use Rattle.basics.proofs.Less.{irrefl}
+use Rattle.basics.proofs.Members.{in_back, in_front, same_or_other, text_gone, text_here, text_is, text_left, text_other, text_true}
+use Rattle.basics.proofs.Members.{true_or_false}
+use Rattle.basics.specs.Members.{IsIn, RisesFrom}
+use Rattle.basics.specs.Order.{text_cmp, text_eq, text_total}
 use Rattle.bucket_ops.proofs.AskLaws.{gone_still}
-use Rattle.list_walk.specs.Walks as walks
-use Rattle.fs_ops.specs.declared.delete.Inside.{Inside}
-use Rattle.fs_ops.specs.declared.delete.Inside.TheVariants.{Empty, MarkerAlone, Children}
-use Rattle.fs_ops.specs.declared.delete.DeleteStage.{DeleteStage}
-use Rattle.fs_ops.specs.declared.delete.DeleteStage.TheVariants.{Here, DropFile, Below, DropMarker, Sweep, Parent, PutMarker}
-use Rattle.fs_ops.proofs.StepLaws.{phases_of}
+use Rattle.bucket_ops.proofs.Below.{below_stands, gone_in, is_in, kept_out, stands_below}
+use Rattle.bucket_ops.proofs.Sweeps.{sweep_falls, sweep_fits, sweep_goes}
+use Rattle.bucket_ops.specs.Asks.{Drop, edited, reply_in}
+use Rattle.bucket_ops.specs.Looks.{look_of}
+use Rattle.bucket_ops.specs.Phases.{IsPhases, MayAsk}
+use Rattle.bucket_ops.specs.Sweeping.{IsDeleting, IsSweeping, IsSwept, LessLeft, sweep_asks, sweep_left}
+use Rattle.bucket_ops.specs.Walking.{fits, keys_below}
+use Rattle.bucket_ops.specs.declared.look.Look.{Look}
+use Rattle.bucket_ops.specs.declared.look.Look.TheVariants.{Nothing, There}
+use Rattle.dir_markers.specs.Markers.{marker_of}
 use Rattle.fs_ops.proofs.AtPathLaws.{looks_there, still_look}
-use Rattle.fs_ops.proofs.Looks.{at_key, below_key, none_listed}
 use Rattle.fs_ops.proofs.Deleting.{deletes}
-use Rattle.fs_ops.specs.code.Delete.{first, asks, up_to, up, here as here_at, on_here, inside, on_inside, swept, on_sweep, on_parent, on}
-use Rattle.fs_ops.specs.code.Delete.{holds, IsDue, IsBatch, Asks, sends, GoesWith, IsKept, InPart, always, left}
-use Rattle.bucket_ops.proofs.Below.{is_in, below_stands, stands_below, gone_in, kept_out}
+use Rattle.fs_ops.proofs.Looks.{at_key, below_key, none_listed}
+use Rattle.fs_ops.proofs.StepLaws.{phases_of}
+use Rattle.fs_ops.specs.Places.{NoFileAt, drop_asks, drop_marker_asks, prefix_of}
+use Rattle.fs_ops.specs.code.Delete.{Answer, Asks, Deletion, GoesWith, InPart, IsBatch, IsDue, IsKept, Removed, always, asks, ends, first}
+use Rattle.fs_ops.specs.code.Delete.{gives, here as here_at, holds, inside, left, on, on_here, on_inside, on_parent, on_sweep, sends, swept}
+use Rattle.fs_ops.specs.code.Delete.{up, up_to}
+use Rattle.fs_ops.specs.code.Steps.{IsStages, goes_by}
+use Rattle.fs_ops.specs.declared.delete.DeleteStage.{DeleteStage}
+use Rattle.fs_ops.specs.declared.delete.DeleteStage.TheVariants.{Below, DropFile, DropMarker, Here, Parent, PutMarker, Sweep}
+use Rattle.fs_ops.specs.declared.delete.Inside.{Inside}
+use Rattle.fs_ops.specs.declared.delete.Inside.TheVariants.{Children, Empty, MarkerAlone}
+use Rattle.fs_tree.proofs.Above.{key_no_marker}
+use Rattle.fs_tree.proofs.Begins.{begins_all}
+use Rattle.fs_tree.proofs.Dropping.{if_marker, marker_key, marker_not_below}
+use Rattle.fs_tree.specs.Changes.{IsMarked, IsWithoutBelow, marker_if, parent}
+use Rattle.fs_tree.specs.Tree.{HasChildren, HasFile, IsEmpty, NoneBelow, SomeBelow, is_marker, marker}
+use Rattle.fs_tree.specs.declared.answers.FsRefusal.TheVariants.{IsRoot, NoSuchBucket, NotEmpty, NotFound}
+use Rattle.list_walk.specs.Walks.{Deleting as Batch, Listing, all_go, sweep_hears, sweep_start}
+use Rattle.operations.specs.Plans.{Falls, Goes}
+use Rattle.operations.specs.declared.plan.Step.{Step}
+use Rattle.operations.specs.declared.plan.Step.TheVariants.{End, Next}
+use Rattle.path_keys.specs.Paths.{is_key}
+use Rattle.s3_types.specs.Answer.{head, without}
+use Rattle.s3_types.specs.Pages.{begins, listed, page, text_in}
+use Rattle.s3_types.specs.Store.{Objects}
+use Rattle.s3_types.specs.declared.object.Object.{Object}
+use Rattle.s3_types.specs.declared.reply.PageEntry.{PageEntry}
+use Rattle.std.proofs.Common.{ap, arith, inl, inr, refl, subst, sym, ◌∙◌}
+use Rattle.std.proofs.lemmas.Bool.{false≢true}
+use Rattle.std.proofs.lemmas.List.{length-take, take-append-drop}
+use Rattle.std.specs.Ordering.{is_lt}
+use Rattle.std.specs.Prelude.{Bool, Err, List, None, Ok, Option, Some, drop, false, if◌then◌else◌, map, take, true, ℕ, [], ◌+◌, ◌<◌, ◌∷◌}
+use Rattle.std.specs.Prelude.{◌≡◌, ◌⊎◌}
+use Rattle.store_frame.proofs.Flat.{listed_rises}
+use Rattle.std.specs.FinMap as fin
+use Rattle.list_walk.specs.Walks as walks
 
 -- without all keys below a prefix none is left there, and the others are as they were
 without_below : (x : ℕ) (q : List ℕ) (z : Objects) → IsWithoutBelow (x ∷ q) z (without z (keys_below (x ∷ q) z))
@@ -61,9 +84,11 @@ module _ (z : Objects) (x : ℕ) (p : List ℕ) where
   child : (k : List ℕ) → IsIn k (keys_below Q z) → (k ≡ Q → ⊥) → HasChildren z (x ∷ p)
   child k i n = let w = below_stands Q z k i in (k, w.0, n, w.1.0, w.1.1)
 
-  one : (e : PageEntry) → listed Q false [] z ≡ e ∷ [] → (b : Bool) → text_eq (text_in e) Q ≡ b → Tells z (x ∷ p) (if b then MarkerAlone else Children)
+  one : (e : PageEntry) → listed Q false [] z ≡ e ∷ [] → (b : Bool) → text_eq (text_in e) Q ≡ b
+      → Tells z (x ∷ p) (if b then MarkerAlone else Children)
   one e h true f = alone e h (text_is (text_in e) Q f)
-  one e h false f = child (text_in e) (subst (λ l. IsIn (text_in e) (map text_in l)) (sym h) (inl refl)) (λ g. false≢true (sym f ∙ text_true (text_in e) Q g))
+  one e h false f = child (text_in e) (subst (λ l. IsIn (text_in e) (map text_in l)) (sym h) (inl refl))
+      (λ g. false≢true (sym f ∙ text_true (text_in e) Q g))
 
   two : (e f : PageEntry) (es : List PageEntry) → listed Q false [] z ≡ e ∷ f ∷ es → HasChildren z (x ∷ p)
   two e f es h = elim (same_or_other (text_in e) Q) [
@@ -75,7 +100,8 @@ module _ (z : Objects) (x : ℕ) (p : List ℕ) where
       rises = (subst (λ l. RisesFrom [] (map text_in l)) h (listed_rises Q [] z)).1.0
 
       later : text_in e ≡ Q → text_in f ≡ Q → ⊥
-      later g i = false≢true (sym (irrefl text_total Q) ∙ ap (λ v. is_lt (text_cmp v Q)) (sym g) ∙ ap (λ v. is_lt (text_cmp (text_in e) v)) (sym i) ∙ rises)
+      later g i = false≢true (sym (irrefl text_total Q) ∙ ap (λ v. is_lt (text_cmp v Q)) (sym g) ∙ ap (λ v. is_lt (text_cmp (text_in e) v))
+          (sym i) ∙ rises)
 
   inside_tells : Tells z (x ∷ p) (inside Q (take 2 (listed Q false [] z)))
   inside_tells = by (listed Q false [] z) refl
@@ -87,11 +113,13 @@ module _ (z : Objects) (x : ℕ) (p : List ℕ) where
 
 -- ---- stages
 
-pub parent_key : (P : Look → Type 0) (u k : List ℕ) (m : Objects) → marker_if u ≡ Some k → (SomeBelow m k → P There) → (NoneBelow m k → P Nothing)
+pub parent_key : (P : Look → Type 0) (u k : List ℕ) (m : Objects) → marker_if u ≡ Some k → (SomeBelow m k → P There)
+    → (NoneBelow m k → P Nothing)
     → P (look_of (page 1 (listed k false [] m)))
 parent_key P [] k m h f g = absurd (cc)
 parent_key P (x ∷ u) k m h f g =
-    subst (λ k. (SomeBelow m k → P There) → (NoneBelow m k → P Nothing) → P (look_of (page 1 (listed k false [] m)))) (if_marker (x ∷ u) k h) (below_key P x (marker_of u) m) f g
+    subst (λ k. (SomeBelow m k → P There) → (NoneBelow m k → P Nothing) → P (look_of (page 1 (listed k false [] m))))
+    (if_marker (x ∷ u) k h) (below_key P x (marker_of u) m) f g
 
 module _ (recursive : Bool) (z : Objects) where
   abbrev D : List ℕ → Deletion
@@ -110,34 +138,50 @@ module _ (recursive : Bool) (z : Objects) where
   below : (x : ℕ) (p : List ℕ) (i : Inside) → fin.get z (x ∷ p) ≡ None → Tells z (x ∷ p) i → On (x ∷ p) (on_inside recursive i) z
   below x p i h g = grind arith
 
-  drop_marker : (x : ℕ) (p : List ℕ) → fin.get z (x ∷ p) ≡ None → IsEmpty z (x ∷ p) → Removed (D (x ∷ p)) z (fin.remove z (marker_of (x ∷ p)))
+  drop_marker : (x : ℕ) (p : List ℕ) → fin.get z (x ∷ p) ≡ None → IsEmpty z (x ∷ p)
+      → Removed (D (x ∷ p)) z (fin.remove z (marker_of (x ∷ p)))
   drop_marker x p h g = grind (arith, begins_all, same_or_other, text_gone, text_left)
 
   not_so : recursive ≡ true → recursive ≡ false → ⊥
   not_so e f = false≢true (sym f ∙ e)
 
-  after_sweep : (x : ℕ) (p : List ℕ) (m : Objects) (w : Option walks.Sweep) → fin.get z (x ∷ p) ≡ None → SomeBelow z (marker_of (x ∷ p)) → recursive ≡ true → IsSwept (marker_of (x ∷ p)) z w m → On (x ∷ p) (swept (D (x ∷ p)) w) m
+  after_sweep : (x : ℕ) (p : List ℕ) (m : Objects) (w : Option walks.Sweep) → fin.get z (x ∷ p) ≡ None → SomeBelow z (marker_of (x ∷ p))
+      → recursive ≡ true → IsSwept (marker_of (x ∷ p)) z w m → On (x ∷ p) (swept (D (x ∷ p)) w) m
   after_sweep x p m (Some w) f s e h = (f, s, e, h)
   after_sweep x p m None f s e h =
-      upward (x ∷ p) m (inr (f, s, λ g. absurd (not_so e g), subst (IsWithoutBelow (marker_of (x ∷ p)) z) (sym h) (without_below x (marker_of p) z)))
+      upward (x ∷ p) m (inr (
+        f,
+        s,
+        λ g. absurd (not_so e g),
+        subst (IsWithoutBelow (marker_of (x ∷ p)) z) (sym h)
+            (without_below x (marker_of p) z),
+      ))
 
-  sweeping : (x : ℕ) (p : List ℕ) (w : walks.Sweep) (m : Objects) → fin.get z (x ∷ p) ≡ None → SomeBelow z (marker_of (x ∷ p)) → recursive ≡ true → IsSweeping (marker_of (x ∷ p)) z w m
-      → On (x ∷ p) (on_sweep (D (x ∷ p)) w (reply_in m (sweep_asks (marker_of (x ∷ p)) w)) (fits (reply_in m (sweep_asks (marker_of (x ∷ p)) w)))) (edited (sweep_asks (marker_of (x ∷ p)) w) m)
+  sweeping : (x : ℕ) (p : List ℕ) (w : walks.Sweep) (m : Objects) → fin.get z (x ∷ p) ≡ None → SomeBelow z (marker_of (x ∷ p))
+      → recursive ≡ true → IsSweeping (marker_of (x ∷ p)) z w m
+      → On (x ∷ p) (on_sweep (D (x ∷ p)) w (reply_in m (sweep_asks (marker_of (x ∷ p)) w))
+      (fits (reply_in m (sweep_asks (marker_of (x ∷ p)) w)))) (edited (sweep_asks (marker_of (x ∷ p)) w) m)
   sweeping x p w m f s e h =
-      subst (λ b. On (x ∷ p) (on_sweep (D (x ∷ p)) w (reply_in m (sweep_asks (marker_of (x ∷ p)) w)) b) (edited (sweep_asks (marker_of (x ∷ p)) w) m)) (sym (sweep_fits (marker_of (x ∷ p)) w m))
-      (after_sweep x p (edited (sweep_asks (marker_of (x ∷ p)) w) m) (sweep_hears all_go w (reply_in m (sweep_asks (marker_of (x ∷ p)) w))) f s e (sweep_goes (marker_of (x ∷ p)) z w m h))
+      subst (λ b. On (x ∷ p) (on_sweep (D (x ∷ p)) w (reply_in m (sweep_asks (marker_of (x ∷ p)) w)) b)
+      (edited (sweep_asks (marker_of (x ∷ p)) w) m)) (sym (sweep_fits (marker_of (x ∷ p)) w m))
+      (after_sweep x p (edited (sweep_asks (marker_of (x ∷ p)) w) m) (sweep_hears all_go w (reply_in m (sweep_asks (marker_of (x ∷ p)) w)))
+      f s e (sweep_goes (marker_of (x ∷ p)) z w m h))
 
   -- the reply that is due leads on
-  step : (p : List ℕ) (x : DeleteStage) (m : Objects) → holds (D p) z x m → On p (on (D p) x (reply_in m (asks (D p) x))) (edited (asks (D p) x) m)
-  step p (Parent k) m h = parent_key (λ l. On p (on_parent k l) m) (parent p) k m h.0 (λ s. (m, h.1, subst (λ u. IsMarked u m m) (sym h.0) (inl (s, refl)))) (λ n. (h.0, h.1, n))
+  step : (p : List ℕ) (x : DeleteStage) (m : Objects) → holds (D p) z x m
+      → On p (on (D p) x (reply_in m (asks (D p) x))) (edited (asks (D p) x) m)
+  step p (Parent k) m h = parent_key (λ l. On p (on_parent k l) m) (parent p) k m h.0
+      (λ s. (m, h.1, subst (λ u. IsMarked u m m) (sym h.0) (inl (s, refl)))) (λ n. (h.0, h.1, n))
   step p (PutMarker k) m h = (m, h.1, subst (λ u. IsMarked u m (fin.insert m k marker)) (sym h.0) (inr (h.2, refl)))
   step [] Here m h = (refl, h)
   step (x ∷ p) Here m h =
-      subst (λ m. On (x ∷ p) (here_at (look_of (head (fin.get m (x ∷ p))))) m) (sym h) (at_key (λ l. On (x ∷ p) (here_at l) z) z (x ∷ p) (λ s. (s, refl)) (λ n. (n, refl)))
+      subst (λ m. On (x ∷ p) (here_at (look_of (head (fin.get m (x ∷ p))))) m) (sym h)
+      (at_key (λ l. On (x ∷ p) (here_at l) z) z (x ∷ p) (λ s. (s, refl)) (λ n. (n, refl)))
   step [] DropFile m h = absurd h.0.1
   step (x ∷ p) DropFile m h = upward (x ∷ p) (fin.remove m (x ∷ p)) (inl (h.0, ap (λ m. fin.remove m (x ∷ p)) h.1))
   step (x ∷ p) Below m h =
-      subst (λ m. On (x ∷ p) (on_inside recursive (inside (marker_of (x ∷ p)) (take 2 (listed (marker_of (x ∷ p)) false [] m)))) m) (sym h.1)
+      subst (λ m. On (x ∷ p) (on_inside recursive (inside (marker_of (x ∷ p)) (take 2 (listed (marker_of (x ∷ p)) false [] m)))) m)
+      (sym h.1)
       (below x p (inside (marker_of (x ∷ p)) (take 2 (listed (marker_of (x ∷ p)) false [] z))) h.0 (inside_tells z x p))
   step (x ∷ p) DropMarker m h =
       subst (λ m. On (x ∷ p) (up (D (x ∷ p))) (fin.remove m (marker_of (x ∷ p)))) (sym h.2)
@@ -147,7 +191,8 @@ module _ (recursive : Bool) (z : Objects) where
 
 -- ---- there is something to delete
 
-due_empty : (recursive : Bool) (p : List ℕ) (z : Objects) → NoFileAt z p → IsEmpty z p → IsDue (record { path = p; recursive = recursive }) z
+due_empty : (recursive : Bool) (p : List ℕ) (z : Objects) → NoFileAt z p → IsEmpty z p
+    → IsDue (record { path = p; recursive = recursive }) z
 due_empty recursive [] z f h = absurd f
 due_empty recursive (x ∷ p) z f h = inr (f, (marker_of (x ∷ p), begins_all (marker_of (x ∷ p)), h.0.0, h.0.1), λ _. h)
 
@@ -172,7 +217,8 @@ module _ (o : Deletion) (z : Objects) where
   as_kept : (m : Objects) (k : List ℕ) → Gone m k → IsKept o z m k
   as_kept m k h = grind arith
 
-  gone_below : (ks : List (List ℕ)) → NoFileAt z o.path → ((k : List ℕ) → IsIn k ks → begins (prefix_of o.path) k ≡ true) → (k : List ℕ) → Gone (without z ks) k
+  gone_below : (ks : List (List ℕ)) → NoFileAt z o.path → ((k : List ℕ) → IsIn k ks → begins (prefix_of o.path) k ≡ true) → (k : List ℕ)
+      → Gone (without z ks) k
   gone_below ks free b k = elim (is_in k ks) [ inl h ↦ inr (gone_in z ks k h, inr (free, b k h)) | inr g ↦ inl (kept_out z ks k g) ]
 
   gone_swept : (w : walks.Sweep) (m : Objects) → NoFileAt z o.path → IsSweeping (prefix_of o.path) z w m → (k : List ℕ) → Gone m k
@@ -184,7 +230,8 @@ module _ (o : Deletion) (z : Objects) where
       by : (k ≡ o.path) ⊎ (k ≡ o.path → ⊥) → Gone (fin.remove z o.path) k
       by (inl e) = inr (text_gone z o.path k e, inl (h.0, e))
       by (inr g) = inl (text_left z o.path k g)
-  gone_removed n (inr h) k = elim (true_or_false (begins (prefix_of o.path) k)) [ inl t ↦ inr (h.3.gone k t, inr (h.0, t)) | inr f ↦ inl (h.3.others k f) ]
+  gone_removed n (inr h) k = elim (true_or_false (begins (prefix_of o.path) k))
+      [ inl t ↦ inr (h.3.gone k t, inr (h.0, t)) | inr f ↦ inl (h.3.others k f) ]
 
   -- where the marker above is put, nothing stood
   pub was_free : is_key o.path ≡ true → (q : List ℕ) (n : Objects) → marker_if (parent o.path) ≡ Some q → Removed o z n → NoneBelow n q
@@ -238,18 +285,24 @@ module _ (o : Deletion) (z : Objects) where
   fall_swept (Some w) m n h = omega (arith, h)
   fall_swept None m n h = fall_up (marker_if (parent o.path)) m (n + 2) (omega (arith, h))
 
-falls_sweep : (o : Deletion) (w : walks.Sweep) (m : Objects) → Falls (left o) (on_sweep o w (reply_in m (sweep_asks (prefix_of o.path) w)) (fits (reply_in m (sweep_asks (prefix_of o.path) w)))) (edited (sweep_asks (prefix_of o.path) w) m) (sweep_left (prefix_of o.path) w m + 2)
+falls_sweep : (o : Deletion) (w : walks.Sweep) (m : Objects)
+    → Falls (left o) (on_sweep o w (reply_in m (sweep_asks (prefix_of o.path) w)) (fits (reply_in m (sweep_asks (prefix_of o.path) w))))
+    (edited (sweep_asks (prefix_of o.path) w) m) (sweep_left (prefix_of o.path) w m + 2)
 falls_sweep o w m =
-    subst (λ b. Falls (left o) (on_sweep o w (reply_in m (sweep_asks (prefix_of o.path) w)) b) (edited (sweep_asks (prefix_of o.path) w) m) (sweep_left (prefix_of o.path) w m + 2)) (sym (sweep_fits (prefix_of o.path) w m))
-    (fall_swept o m (sweep_hears all_go w (reply_in m (sweep_asks (prefix_of o.path) w))) (edited (sweep_asks (prefix_of o.path) w) m) (sweep_left (prefix_of o.path) w m) (sweep_falls (prefix_of o.path) w m))
+    subst (λ b. Falls (left o) (on_sweep o w (reply_in m (sweep_asks (prefix_of o.path) w)) b) (edited (sweep_asks (prefix_of o.path) w) m)
+    (sweep_left (prefix_of o.path) w m + 2)) (sym (sweep_fits (prefix_of o.path) w m))
+    (fall_swept o m (sweep_hears all_go w (reply_in m (sweep_asks (prefix_of o.path) w))) (edited (sweep_asks (prefix_of o.path) w) m)
+    (sweep_left (prefix_of o.path) w m) (sweep_falls (prefix_of o.path) w m))
 
-falls : (o : Deletion) (z : Objects) (x : DeleteStage) (m : Objects) → Falls (left o) (on o x (reply_in m (asks o x))) (edited (asks o x) m) (left o x m)
+falls : (o : Deletion) (z : Objects) (x : DeleteStage) (m : Objects)
+    → Falls (left o) (on o x (reply_in m (asks o x))) (edited (asks o x) m) (left o x m)
 falls o z x m = grind (arith, still_look, fall_root, fall_up, fall_inside, falls_sweep)
 
 stays : (o : Deletion) (x : DeleteStage) (m : Objects) → left o x (edited (asks o x) m) ≡ left o x m
 stays o x m = grind arith
 
-goes : (o : Deletion) (z : Objects) (y : Step DeleteStage Answer) (m : Objects) → Goes (holds o z) (ends o z) y m → Goes (holds o z) (gives o z) y m
+goes : (o : Deletion) (z : Objects) (y : Step DeleteStage Answer) (m : Objects) → Goes (holds o z) (ends o z) y m
+    → Goes (holds o z) (gives o z) y m
 goes o z (Next x) m h = h
 goes o z (End a) m h = (λ k. deletes o.recursive o.path z a m k h, at_end o z a m h)
 

@@ -13,4 +13,3 @@ pub mod ReadLaws
 pub mod Showing
 pub mod StatLaws
 pub mod StepLaws
-mod Common

@@ -1,24 +1,49 @@
 -- What a directory holds, stage by stage.
-use Rattle.std.specs.Prelude.{◌≡◌, ◌⊎◌, ℕ, suc, ◌+◌, ◌<◌, nat_lt, Bool, true, false, List, [], ◌∷◌, map, take, drop, length, Ok, Err, Option, Some, None}
-use Rattle.fs_ops.proofs.Common.{DirEntry, Falls, Goes, HasDir, IsPhases, IsStages, IsStill, Lists, MayAsk, NoFile, NoSuchBucket, Object, Objects, OnlyLooks, PageEntry, RisesFrom, SomeBelow, Step, added, all_added, ap, arith, children, edited, false≢true, goes_by, head, inl, inr, is_look, last_text, length-drop, length_in, listed, listed_behind, lt, ltb-false, ltb-true, prefix_of, refl, reply_in, shown, subst, sym, take_all, text_cmp, text_in, ◌∙◌}
-use Rattle.std.specs.FinMap as fin
+use Rattle.basics.proofs.Less.{lt}
+use Rattle.basics.specs.Members.{RisesFrom}
+use Rattle.basics.specs.Order.{text_cmp}
+use Rattle.bucket_ops.specs.Asks.{edited, is_look, reply_in}
+use Rattle.bucket_ops.specs.Phases.{IsPhases, MayAsk}
+use Rattle.fs_ops.proofs.AtPathLaws.{looks_there, still_look}
+use Rattle.fs_ops.proofs.Children.{listed_rises, none_listed, some_listed}
+use Rattle.fs_ops.proofs.Deleting.{no_cons}
+use Rattle.fs_ops.proofs.Showing.{shows_children}
+use Rattle.fs_ops.proofs.StepLaws.{phases_of}
+use Rattle.fs_ops.specs.Places.{prefix_of}
+use Rattle.fs_ops.specs.code.List.{Answer, added, all_added, asks, children, first, holds, last_text, left, on, paged, shown, told, whole}
+use Rattle.fs_ops.specs.code.Stat.{length_in}
+use Rattle.fs_ops.specs.code.Steps.{IsStages, IsStill, OnlyLooks, goes_by}
 use Rattle.fs_ops.specs.declared.list.ListStage.{ListStage}
 use Rattle.fs_ops.specs.declared.list.ListStage.TheVariants.{Here, Pages}
-use Rattle.fs_ops.proofs.StepLaws.{phases_of}
-use Rattle.fs_ops.proofs.AtPathLaws.{looks_there, still_look}
-use Rattle.fs_ops.proofs.Children.{some_listed, none_listed, listed_rises}
-use Rattle.fs_ops.proofs.Showing.{shows_children}
-use Rattle.fs_ops.proofs.Deleting.{no_cons}
-use Rattle.fs_ops.specs.code.List.{Answer, first, asks, told, whole, paged, on, holds, left}
+use Rattle.fs_tree.specs.Answers.{Lists}
+use Rattle.fs_tree.specs.Tree.{HasDir, NoFile, SomeBelow}
+use Rattle.fs_tree.specs.declared.answers.DirEntry.{DirEntry}
+use Rattle.fs_tree.specs.declared.answers.FsRefusal.TheVariants.{NoSuchBucket}
+use Rattle.operations.specs.Plans.{Falls, Goes}
+use Rattle.operations.specs.declared.plan.Step.{Step}
+use Rattle.s3_types.specs.Answer.{head}
+use Rattle.s3_types.specs.Pages.{listed, text_in}
+use Rattle.s3_types.specs.Store.{Objects}
+use Rattle.s3_types.specs.declared.object.Object.{Object}
+use Rattle.s3_types.specs.declared.reply.PageEntry.{PageEntry}
+use Rattle.std.proofs.Common.{ap, arith, inl, inr, length-drop, refl, subst, sym, ◌∙◌}
+use Rattle.std.proofs.lemmas.Bool.{false≢true, ltb-false, ltb-true}
+use Rattle.std.proofs.lemmas.List.{take_all}
+use Rattle.std.specs.Prelude.{Bool, Err, List, None, Ok, Option, Some, drop, false, length, map, nat_lt, suc, take, true, ℕ, [], ◌+◌, ◌<◌}
+use Rattle.std.specs.Prelude.{◌∷◌, ◌≡◌, ◌⊎◌}
+use Rattle.store_frame.proofs.Listed.{listed_behind}
+use Rattle.std.specs.FinMap as fin
 
 -- ---- pages
 
-added_more : (q : List ℕ) (n : ℕ) (es : List PageEntry) (found : List DirEntry) → all_added q (all_added q found (take n es)) (drop n es) ≡ all_added q found es
+added_more : (q : List ℕ) (n : ℕ) (es : List PageEntry) (found : List DirEntry)
+    → all_added q (all_added q found (take n es)) (drop n es) ≡ all_added q found es
 added_more q (suc n) (e ∷ es) found = added_more q n es (added found (shown q found e))
 added_more q _ _ found = refl
 
 -- what is listed behind a page are the others
-behind_page : (q mark : List ℕ) (z : Objects) (n : ℕ) (l : List PageEntry) → listed q true mark z ≡ l → listed q true (last_text mark (take n l)) z ≡ drop n l
+behind_page : (q mark : List ℕ) (z : Objects) (n : ℕ) (l : List PageEntry) → listed q true mark z ≡ l
+    → listed q true (last_text mark (take n l)) z ≡ drop n l
 behind_page q mark z (suc n) (x ∷ xs) h = behind_page q (text_in x) z n xs (listed_behind q true mark z x xs h)
 behind_page q mark z _ _ h = h
 
@@ -50,33 +75,43 @@ module _ (z : Objects) where
 
   dir_paged : (o mark : List ℕ) (l : List PageEntry) → listed (prefix_of o) true mark z ≡ l → 0 < length l → HasDir z o
   dir_paged o mark [] e h = absurd (omega (arith, h))
-  dir_paged o mark (x ∷ l) e h = (elim o as (λ o. SomeBelow z (prefix_of o) → HasDir z o) [ [] ↦ λ h. tt | x ∷ p ↦ λ h. h ]) (some_listed (prefix_of o) z mark x l e)
+  dir_paged o mark (x ∷ l) e h = (elim o as (λ o. SomeBelow z (prefix_of o) → HasDir z o) [ [] ↦ λ h. tt | x ∷ p ↦ λ h. h ])
+      (some_listed (prefix_of o) z mark x l e)
 
   full : (o : List ℕ) (found : List DirEntry) → NoFile z o → HasDir z o → found ≡ children (prefix_of o) z → Lists o z (Ok found) z
   full o found f d e = (inr ((f, d), subst (Rattle.fs_tree.specs.Changes.HasEntries o z) (sym e) (shows_children o z)), refl)
 
   -- ---- a page
 
-  module _ (o : List ℕ) (found : List DirEntry) (mark : List ℕ) (file : NoFile z o) (dir : (mark ≡ []) ⊎ HasDir z o) (l : List PageEntry) (e : listed (prefix_of o) true mark z ≡ l) (is : all_added (prefix_of o) found l ≡ children (prefix_of o) z) where
-    more : nat_lt 1000 (length l) ≡ true → On o (paged o true (all_added (prefix_of o) found (take 1000 l)) (last_text mark (take 1000 l))) z
+  module _ (o : List ℕ) (found : List DirEntry) (mark : List ℕ) (file : NoFile z o) (dir : (mark ≡ []) ⊎ HasDir z o) (l : List PageEntry)
+      (e : listed (prefix_of o) true mark z ≡ l) (is : all_added (prefix_of o) found l ≡ children (prefix_of o) z) where
+    more : nat_lt 1000 (length l) ≡ true → On o (paged o true (all_added (prefix_of o) found (take 1000 l)) (last_text mark (take 1000 l)))
+        z
     more t =
         let long : 0 < length l = let g = ltb-true 1000 (length l) t in omega (arith, g) in (
           refl,
           file,
           inr (dir_paged o mark l e long),
-          ap (all_added (prefix_of o) (all_added (prefix_of o) found (take 1000 l))) (behind_page (prefix_of o) mark z 1000 l e) ∙ added_more (prefix_of o) 1000 l found ∙ is,
+          ap (all_added (prefix_of o) (all_added (prefix_of o) found (take 1000 l))) (behind_page (prefix_of o) mark z 1000 l e) ∙
+              added_more (prefix_of o) 1000 l found ∙ is,
         )
 
     -- the first page of all, or a later one
-    ended : (o : List ℕ) → NoFile z o → (mark ≡ []) ⊎ HasDir z o → listed (prefix_of o) true mark z ≡ l → all_added (prefix_of o) found l ≡ children (prefix_of o) z → (k : List ℕ) → MarkOf mark k l → On o (whole o (all_added (prefix_of o) found l) k) z
+    ended : (o : List ℕ) → NoFile z o → (mark ≡ []) ⊎ HasDir z o → listed (prefix_of o) true mark z ≡ l
+        → all_added (prefix_of o) found l ≡ children (prefix_of o) z → (k : List ℕ) → MarkOf mark k l
+        → On o (whole o (all_added (prefix_of o) found l) k) z
     ended o h g e f k p = grind (arith, full, none_listed, no_length, no_cons, dir_paged)
 
-    last : nat_lt 1000 (length l) ≡ false → On o (paged o false (all_added (prefix_of o) found (take 1000 l)) (last_text mark (take 1000 l))) z
+    last : nat_lt 1000 (length l) ≡ false → On o (paged o false (all_added (prefix_of o) found (take 1000 l))
+        (last_text mark (take 1000 l))) z
     last t =
-        subst (λ k. On o (whole o (all_added (prefix_of o) found k) (last_text mark k)) z) (sym (take_all 1000 l (ltb-false 1000 (length l) t)))
-        (ended o file dir e is (last_text mark l) (mark_of mark l (subst (λ l. RisesFrom mark (map text_in l)) e (listed_rises (prefix_of o) z mark))))
+        subst (λ k. On o (whole o (all_added (prefix_of o) found k) (last_text mark k)) z)
+        (sym (take_all 1000 l (ltb-false 1000 (length l) t)))
+        (ended o file dir e is (last_text mark l) (mark_of mark l (subst (λ l. RisesFrom mark (map text_in l)) e
+        (listed_rises (prefix_of o) z mark))))
 
-    page_goes : (c : Bool) → nat_lt 1000 (length l) ≡ c → On o (paged o c (all_added (prefix_of o) found (take 1000 l)) (last_text mark (take 1000 l))) z
+    page_goes : (c : Bool) → nat_lt 1000 (length l) ≡ c
+        → On o (paged o c (all_added (prefix_of o) found (take 1000 l)) (last_text mark (take 1000 l))) z
     page_goes true t = more t
     page_goes false t = last t
 
@@ -96,7 +131,8 @@ module _ (z : Objects) where
 fall_whole : (o : List ℕ) (found : List DirEntry) (mark : List ℕ) (m : Objects) (n : ℕ) → Falls (left o) (whole o found mark) m n
 fall_whole o found mark m n = grind arith
 
-fall_page : (o mark : List ℕ) (found : List DirEntry) (m : Objects) (l : List PageEntry) → listed (prefix_of o) true mark m ≡ l → (c : Bool) → nat_lt 1000 (length l) ≡ c → Falls (left o) (paged o c found (last_text mark (take 1000 l))) m (length l)
+fall_page : (o mark : List ℕ) (found : List DirEntry) (m : Objects) (l : List PageEntry) → listed (prefix_of o) true mark m ≡ l → (c : Bool)
+    → nat_lt 1000 (length l) ≡ c → Falls (left o) (paged o c found (last_text mark (take 1000 l))) m (length l)
 fall_page o mark found m l e true t =
     omega (arith, ap length (behind_page (prefix_of o) mark m 1000 l e), length-drop 1000 l, ltb-true 1000 (length l) t)
 fall_page o mark found m l e false t = fall_whole o found (last_text mark (take 1000 l)) m (length l)

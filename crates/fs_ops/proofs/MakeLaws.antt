@@ -1,15 +1,32 @@
 -- Making a directory, stage by stage.
-use Rattle.std.specs.Prelude.{◌≡◌, ℕ, ◌+◌, List, [], ◌∷◌, Ok, Err, length}
-use Rattle.fs_ops.proofs.Common.{Climbed, Falls, Goes, IsAbsent, IsPhases, IsStages, Look, Makes, MayAsk, NoSuchBucket, Objects, PutsDir, Reply, Step, There, arith, climbed, climbing, edited, goes_by, head, inl, inr, keys_above, look_of, marker, marker_of, refl, reply_in, subst, sym}
-use Rattle.std.specs.FinMap as fin
-use Rattle.fs_tree.proofs.Making.{makes_dirs}
-use Rattle.fs_ops.specs.declared.make_dirs.MakeStage.{MakeStage}
-use Rattle.fs_ops.specs.declared.make_dirs.MakeStage.TheVariants.{Here, Below, Up, PutMarker}
-use Rattle.fs_ops.proofs.StepLaws.{phases_of}
+use Rattle.bucket_ops.specs.Asks.{edited, reply_in}
+use Rattle.bucket_ops.specs.Looks.{look_of}
+use Rattle.bucket_ops.specs.Phases.{IsPhases, MayAsk}
+use Rattle.bucket_ops.specs.declared.look.Look.{Look}
+use Rattle.bucket_ops.specs.declared.look.Look.TheVariants.{There}
+use Rattle.dir_markers.specs.Markers.{keys_above, marker_of}
 use Rattle.fs_ops.proofs.AtPathLaws.{looks_there}
-use Rattle.fs_ops.proofs.Looks.{head_tells, at_key, below_key}
-use Rattle.fs_ops.proofs.Climbing.{IsClimbed, seen_on, all_on, IsShorter, climbing_falls, climbed_falls}
-use Rattle.fs_ops.specs.code.Make.{Answer, first, asks, on_climb, here as here_at, on_here, on_below, on, holds, always, sends, left}
+use Rattle.fs_ops.proofs.Climbing.{IsClimbed, IsShorter, all_on, climbed_falls, climbing_falls, seen_on}
+use Rattle.fs_ops.proofs.Looks.{at_key, below_key, head_tells}
+use Rattle.fs_ops.proofs.StepLaws.{phases_of}
+use Rattle.fs_ops.specs.code.Climbs.{climbed, climbing}
+use Rattle.fs_ops.specs.code.Make.{Answer, always, asks, first, here as here_at, holds, left, on, on_below, on_climb, on_here, sends}
+use Rattle.fs_ops.specs.code.Steps.{IsStages, goes_by}
+use Rattle.fs_ops.specs.declared.climb.Climbed.{Climbed}
+use Rattle.fs_ops.specs.declared.make_dirs.MakeStage.{MakeStage}
+use Rattle.fs_ops.specs.declared.make_dirs.MakeStage.TheVariants.{Below, Here, PutMarker, Up}
+use Rattle.fs_tree.proofs.Making.{makes_dirs}
+use Rattle.fs_tree.specs.Answers.{Makes, PutsDir}
+use Rattle.fs_tree.specs.Tree.{IsAbsent, marker}
+use Rattle.fs_tree.specs.declared.answers.FsRefusal.TheVariants.{NoSuchBucket}
+use Rattle.operations.specs.Plans.{Falls, Goes}
+use Rattle.operations.specs.declared.plan.Step.{Step}
+use Rattle.s3_types.specs.Answer.{head}
+use Rattle.s3_types.specs.Store.{Objects}
+use Rattle.s3_types.specs.declared.reply.Reply.{Reply}
+use Rattle.std.proofs.Common.{arith, inl, inr, refl, subst, sym}
+use Rattle.std.specs.Prelude.{Err, List, Ok, length, ℕ, [], ◌+◌, ◌∷◌, ◌≡◌}
+use Rattle.std.specs.FinMap as fin
 
 module _ (z : Objects) where
   abbrev On : List ℕ → Step MakeStage Answer → Objects → Type 0
@@ -28,7 +45,8 @@ module _ (z : Objects) where
   step (x ∷ p) Below h =
       below_key (λ l. On (x ∷ p) (on_below (x ∷ p) l) z) x (marker_of p) z (λ s. made (x ∷ p) z (inl ((h.1, s), refl)))
       (λ n. climb (x ∷ p) (climbing (keys_above (x ∷ p))) (h.1, n) (all_on z (keys_above (x ∷ p))))
-  step o (Up c) h = climb o (climbed c (look_of (head (fin.get z c.first)))) h.1 (seen_on z (keys_above o) c (look_of (head (fin.get z c.first))) h.2 (head_tells z c.first))
+  step o (Up c) h = climb o (climbed c (look_of (head (fin.get z c.first)))) h.1
+      (seen_on z (keys_above o) c (look_of (head (fin.get z c.first))) h.2 (head_tells z c.first))
   step [] PutMarker h = absurd h.1
   step (x ∷ p) PutMarker h = made (x ∷ p) (fin.insert z (marker_of (x ∷ p)) marker) (inr (h.1, h.2, refl))
 
@@ -56,7 +74,8 @@ ended o z a m h = grind arith
 stages : IsStages {O = List ℕ} first asks on holds Makes always left
 stages = record {
   begin = λ o z. refl;
-  goes_on = λ o z x m h. subst (λ m. Goes (holds o z) (Makes o z) (on o x (reply_in m (asks o x))) (edited (asks o x) m)) (sym (same o z x m h)) (step z o x (subst (holds o z x) (same o z x m h) h));
+  goes_on = λ o z x m h. subst (λ m. Goes (holds o z) (Makes o z) (on o x (reply_in m (asks o x))) (edited (asks o x) m))
+      (sym (same o z x m h)) (step z o x (subst (holds o z x) (same o z x m h) h));
   falls = λ o z x m h. falls o x (reply_in m (asks o x)) (edited (asks o x) m) m;
   stays = λ o z x m h. elim x as (λ x. left o x (edited (asks o x) m) ≡ left o x m) [ Here ↦ refl | _ ↦ refl ];
   during = λ o z x m h. inl (same o z x m h);

@@ -1,6 +1,11 @@
 -- The marker above a path.
-use Rattle.fs_ops.proofs.Common.{Bool, List, None, Option, Path, Some, [], ap, arith, before_none, deleted, false, length, marker_if, marker_of, parent, parent_of, refl, suc, sym, ℕ, ◌==◌, ◌∙◌, ◌∷◌, ◌≡◌, if◌then◌else◌}
 use Rattle.basics.proofs.Options.{none_some}
+use Rattle.dir_markers.specs.Markers.{deleted, marker_of}
+use Rattle.fs_tree.specs.Changes.{marker_if, parent}
+use Rattle.path_keys.proofs.Last.{before_none}
+use Rattle.path_keys.specs.Paths.{Path, parent_of}
+use Rattle.std.proofs.Common.{Bool, List, None, Option, Some, ap, arith, false, if◌then◌else◌, length, refl, suc, sym, ℕ, [], ◌==◌, ◌∙◌}
+use Rattle.std.proofs.Common.{◌∷◌, ◌≡◌}
 
 pub not_zero : (n : ℕ) → (suc n == 0) ≡ false
 not_zero n = grind arith

@@ -1,9 +1,25 @@
 -- The keys of paths and of the directories above them, and what texts have behind a prefix.
-use Rattle.fs_ops.proofs.Common.{Bool, Bor, Decides-eqb, IfOk, List, None, Option, Result, Some, [], ap, append-nil, append_assoc, arith, drop, false, front_is_key, is_key, is_key_path, is_other, key_if, keys_above, last_of, length, list_all, marker_if, marker_of, more_above, nat_eq, none_above, one_part, option_map, own_name, parts_of, parts_round, prefix_of, refl, rest_of, starts_is, starts_with, subst, sym, true, ℕ, ◌++◌, ◌<◌, ◌==◌, ◌∙◌, ◌∷◌, ◌≡◌, if◌then◌else◌}
-use Rattle.s3_types.specs.Prelude.{MatchOption, FindsTextPrefix, StripsPrefix}
-use Rattle.path_keys.proofs.Keys.{some_key}
-use Rattle.path_keys.proofs.Beneath.{key_path_from}
+use Rattle.basics.proofs.Pieces.{one_part}
+use Rattle.basics.specs.Parts.{is_other, parts_of}
 use Rattle.dir_markers.proofs.Above.{front_some}
+use Rattle.dir_markers.specs.Markers.{keys_above, marker_of}
+use Rattle.fs_ops.specs.Places.{key_if, prefix_of}
+use Rattle.fs_ops.specs.code.List.{rest_of}
+use Rattle.fs_tree.proofs.Above.{more_above, none_above}
+use Rattle.fs_tree.specs.Changes.{last_of, marker_if, own_name}
+use Rattle.path_keys.proofs.Beneath.{key_path_from}
+use Rattle.path_keys.proofs.Keys.{some_key}
+use Rattle.path_keys.proofs.Last.{front_is_key, parts_round}
+use Rattle.path_keys.specs.Paths.{is_key}
+use Rattle.s3_types.specs.Names.{is_key_path}
+use Rattle.std.proofs.Common.{Bool, Bor, IfOk, List, None, Option, Result, Some, ap, append_assoc, arith, drop, false, if◌then◌else◌}
+use Rattle.std.proofs.Common.{length, nat_eq, option_map, refl, subst, sym, true, ℕ, [], ◌++◌, ◌<◌, ◌==◌, ◌∙◌, ◌∷◌, ◌≡◌}
+use Rattle.std.proofs.lemmas.Bool.Decides.{Decides-eqb}
+use Rattle.std.proofs.lemmas.List.{append-nil}
+use Rattle.std.proofs.lemmas.Slice.Eq.{starts_is}
+use Rattle.std.specs.List.{list_all, starts_with}
+use Rattle.std.specs.Option.{MatchOption}
+use Rattle.std.specs.Str.Pattern.{FindsTextPrefix, StripsPrefix}
 
 -- a path that is not the root
 pub record IsPlace (key : List ℕ) : Type 0 where
@@ -23,7 +39,8 @@ path_key key some k = let is = some_key key some k in key_path_from key is.0 (om
 pub none_more : (key : List ℕ) (found : List (List ℕ)) → list_all (is_other 47) key ≡ true → found ≡ found ++ keys_above key
 none_more key found h = sym (ap (λ (l : List (List ℕ)). found ++ l) (none_above key h) ∙ append-nil found)
 
-pub one_more : (key front back m : List ℕ) (found first : List (List ℕ)) → key ≡ front ++ 47 ∷ back → list_all (is_other 47) back ≡ true → first ≡ found ++ keys_above front → m ≡ front
+pub one_more : (key front back m : List ℕ) (found first : List (List ℕ)) → key ≡ front ++ 47 ∷ back → list_all (is_other 47) back ≡ true
+    → first ≡ found ++ keys_above front → m ≡ front
     → first ++ m ∷ [] ≡ found ++ keys_above key
 one_more key front back m found first e h f k =
     ap (λ (l : List (List ℕ)). l ++ m ∷ []) f
@@ -32,13 +49,19 @@ one_more key front back m found first e h f k =
     ∙ ap (λ (l : List (List ℕ)). found ++ l) (sym (more_above key front back e h))))
 
 -- the key of one of them is an object's
-pub front_key : (key front back : List ℕ) → is_key key ≡ true → key ≡ front ++ 47 ∷ back → list_all (is_other 47) back ≡ true → is_key_path front ≡ true
+pub front_key : (key front back : List ℕ) → is_key key ≡ true → key ≡ front ++ 47 ∷ back → list_all (is_other 47) back ≡ true
+    → is_key_path front ≡ true
 front_key key front back k e h = path_key front (front_some key front back k e) (front_is_key key front back k e h)
 
 -- what a path that is not the root is kept as
 pub kept_as : (path text key marker : List ℕ) → IsPlace path → is_key path ≡ true → text ≡ path → key ≡ text → marker ≡ marker_of path
     → (Some key ≡ key_if text) × (Some marker ≡ marker_if text) × (is_key text ≡ true)
-kept_as path text key marker h k e f g = (ap Some (f ∙ e) ∙ sym (ap key_if e ∙ h.own), ap Some g ∙ sym (ap marker_if e ∙ h.marked), ap is_key e ∙ k)
+kept_as path text key marker h k e f g = (
+  ap Some (f ∙ e) ∙ sym (ap key_if e ∙ h.own),
+  ap Some g ∙ sym (ap marker_if e ∙ h.marked),
+  ap
+      is_key e ∙ k,
+)
 
 -- what the keys below a path begin with, by its marker
 pub prefix_marked : (p m : List ℕ) → Some m ≡ marker_if p → m ≡ prefix_of p
@@ -56,15 +79,19 @@ last_end _ p = refl
 pub at_end : {E X : Type 0} (r : Result X E) (a b : X) → IfOk r (λ n. n ≡ a) → a ≡ b → IfOk r (λ n. n ≡ b)
 at_end r a b h e = subst (λ a. IfOk r (λ n. n ≡ a)) e h
 
-pub last_of_cut : {E : Type 0} (r : Result (List ℕ) E) (key front back : List ℕ) → key ≡ front ++ 47 ∷ back → list_all (is_other 47) back ≡ true → IfOk r (λ n. n ≡ back) → IfOk r (λ n. n ≡ own_name key)
-last_of_cut r key front back e h k = at_end r back (own_name key) k (sym (ap last_of (parts_round key front back e h) ∙ last_end (parts_of 47 front) back))
+pub last_of_cut : {E : Type 0} (r : Result (List ℕ) E) (key front back : List ℕ) → key ≡ front ++ 47 ∷ back
+    → list_all (is_other 47) back ≡ true → IfOk r (λ n. n ≡ back) → IfOk r (λ n. n ≡ own_name key)
+last_of_cut r key front back e h k = at_end r back (own_name key) k (sym
+    (ap last_of (parts_round key front back e h) ∙ last_end (parts_of 47 front) back))
 
-pub last_of_none : {E : Type 0} (r : Result (List ℕ) E) (key : List ℕ) → list_all (is_other 47) key ≡ true → IfOk r (λ n. n ≡ key) → IfOk r (λ n. n ≡ own_name key)
+pub last_of_none : {E : Type 0} (r : Result (List ℕ) E) (key : List ℕ) → list_all (is_other 47) key ≡ true → IfOk r (λ n. n ≡ key)
+    → IfOk r (λ n. n ≡ own_name key)
 last_of_none r key h k = at_end r key (own_name key) k (sym (ap last_of (one_part 47 key h)))
 
 -- ---- what a text has behind a prefix
 
-pub rest_found : (q t : List ℕ) (r : Option (Bor (List ℕ))) → MatchOption r (FindsTextPrefix q t None) (λ x. StripsPrefix (FindsTextPrefix q) t x.now) → option_map (λ r. r.now) r ≡ rest_of q t
+pub rest_found : (q t : List ℕ) (r : Option (Bor (List ℕ)))
+    → MatchOption r (FindsTextPrefix q t None) (λ x. StripsPrefix (FindsTextPrefix q) t x.now) → option_map (λ r. r.now) r ≡ rest_of q t
 rest_found q t None h = by (starts_with nat_eq t q) refl
   where
     by : (b : Bool) → starts_with nat_eq t q ≡ b → None ≡ (if starts_with nat_eq t q then Some (drop (length q) t) else None)

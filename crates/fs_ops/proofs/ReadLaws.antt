@@ -1,9 +1,14 @@
 -- The bytes of a file are a question at its path.
-use Rattle.std.specs.Prelude.{ℕ, List, Err}
-use Rattle.fs_ops.proofs.Common.{IsPhases, IsStill, MayAsk, NoSuchBucket, OnlyLooks, Reads, arith, first, get_asks, goes_by, holds, left}
-use Rattle.fs_tree.specs.declared.answers.FsRefusal.TheVariants.{IsDirectory}
-use Rattle.fs_ops.proofs.AtPathLaws.{IsQuestion, question_laws, question_asked, gets_there}
+use Rattle.bucket_ops.specs.Phases.{IsPhases, MayAsk}
+use Rattle.fs_ops.proofs.AtPathLaws.{IsQuestion, gets_there, question_asked, question_laws}
+use Rattle.fs_ops.specs.Places.{get_asks}
+use Rattle.fs_ops.specs.code.AtPath.{first, holds, left}
 use Rattle.fs_ops.specs.code.Read.{asks, bytes_in, on}
+use Rattle.fs_ops.specs.code.Steps.{IsStill, OnlyLooks, goes_by}
+use Rattle.fs_tree.specs.Answers.{Reads}
+use Rattle.fs_tree.specs.declared.answers.FsRefusal.TheVariants.{IsDirectory, NoSuchBucket}
+use Rattle.std.proofs.Common.{arith}
+use Rattle.std.specs.Prelude.{Err, List, ℕ}
 
 question : IsQuestion get_asks bytes_in (Err IsDirectory) Reads
 question = grind arith

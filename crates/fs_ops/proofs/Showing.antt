@@ -1,13 +1,42 @@
 -- The children that a listing shows are those of the directory. Contracts cite none of these laws.
-use Rattle.std.specs.Prelude.{◌≡◌, ◌⊎◌, ℕ, suc, ◌+◌, ◌<◌, ◌&&◌, ◌||◌, nat_eq, Bool, true, false, cond, List, [], ◌∷◌, ◌++◌, map, take, take_while, reverse, length, Option, Some, None}
-use Rattle.fs_ops.proofs.Common.{AllByRecursion, DirEntry, Directory, File, HasDir, HasEntries, HasOddKey, IsIn, IsName, IsStatus, Less, NoFile, Object, Objects, RisesFrom, SomeBelow, Status, added, all_added, and_parts, ap, append-nil, append_assoc, arith, begins, begins_all, begins_is, begins_marker, begins_more, below, between, children, dir_by, dir_element, dir_named, drop-append_seam, eq_nat, false_true, false≢true, file_by, file_element, first_of, has_file, in_append, in_back, in_front, inl, inr, irrefl, is_element, is_file, is_file_named, is_key_path, is_lt, is_other, list_all, list_any, listed, lt, lt_not, lt_trans, marker_of, nat_cmp, one_part, parts_append, parts_of, prefix_of, refl, rest_after, rest_of, reverse-append, shown, subst, sym, text_by, text_cmp, text_eq, text_in, text_is, text_of, text_total, text_true, ◌∙◌}
-use Rattle.store_frame.specs.Prelude.{is_utf8, ordering_then, is_key}
-use Rattle.std.specs.List.{prefix_len}
+use Rattle.basics.proofs.Less.{irrefl, less_of, lt, lt_not, lt_trans}
+use Rattle.basics.proofs.Members.{eq_nat, false_true, in_append, in_back, in_front, text_is, text_true}
+use Rattle.basics.proofs.Pieces.{one_part, parts_append}
+use Rattle.basics.specs.Members.{IsIn, RisesFrom}
+use Rattle.basics.specs.Order.{text_cmp, text_eq, text_total}
+use Rattle.basics.specs.Parts.{is_other, parts_of}
+use Rattle.dir_markers.specs.Markers.{marker_of}
+use Rattle.dir_markers.specs.declared.status.Status.{Status}
+use Rattle.dir_markers.specs.declared.status.Status.TheVariants.{Directory, File}
+use Rattle.fs_ops.proofs.Children.{IsChild, NoSlash, Standing, are_shown, dir_listed, entry_at, entry_from, file_listed, listed_rises}
+use Rattle.fs_ops.proofs.Children.{shown_in, text_at}
+use Rattle.fs_ops.specs.Places.{prefix_of}
+use Rattle.fs_ops.specs.code.List.{added, all_added, children, dir_by, dir_named, file_by, first_of, has_file, is_file, is_file_named}
+use Rattle.fs_ops.specs.code.List.{rest_of, shown}
+use Rattle.fs_tree.proofs.Above.{dir_element, file_element}
+use Rattle.fs_tree.proofs.Begins.{begins_all, begins_marker, begins_more}
+use Rattle.fs_tree.proofs.Moving.{rest_after}
+use Rattle.fs_tree.specs.Changes.{HasEntries, HasOddKey, IsName, text_by, text_of}
+use Rattle.fs_tree.specs.Tree.{HasDir, IsFile, IsStatus, NoFile, SomeBelow}
+use Rattle.fs_tree.specs.declared.answers.DirEntry.{DirEntry}
+use Rattle.path_keys.specs.Paths.{below}
+use Rattle.s3_types.proofs.Begins.{begins_is, between}
+use Rattle.s3_types.specs.Names.{is_element, is_key, is_key_path}
+use Rattle.s3_types.specs.Pages.{begins, listed, text_in}
+use Rattle.s3_types.specs.Store.{Objects}
+use Rattle.s3_types.specs.declared.object.Object.{Object}
+use Rattle.std.proofs.Common.{ap, append_assoc, arith, inl, inr, refl, subst, sym, ◌∙◌}
+use Rattle.std.proofs.Math.Seq.{drop-append_seam}
+use Rattle.std.proofs.lemmas.Bool.{and_parts, false≢true}
+use Rattle.std.proofs.lemmas.List.{append-nil, reverse-append}
+use Rattle.std.specs.List.{AllByRecursion, list_all, list_any, prefix_len}
 use Rattle.std.specs.List.Sorted.{IsStrictlySortedBy}
+use Rattle.std.specs.Ordering.{is_lt, nat_cmp, ordering_then}
+use Rattle.std.specs.Prelude.{Bool, List, None, Option, Some, cond, false, length, map, nat_eq, reverse, suc, take, take_while, true, ℕ, []}
+use Rattle.std.specs.Prelude.{◌&&◌, ◌++◌, ◌+◌, ◌<◌, ◌||◌, ◌∷◌, ◌≡◌, ◌⊎◌}
+use Rattle.std.specs.Str.{is_utf8}
+use Rattle.std.specs.declared.cmp.Ordering.TheVariants.{Less}
 use Rattle.std.specs.FinMap as fin
-use Rattle.basics.proofs.Less.{less_of}
-use Rattle.fs_tree.specs.Tree.{IsFile}
-use Rattle.fs_ops.proofs.Children.{NoSlash, Standing, entry_at, entry_from, text_at, IsChild, shown_in, listed_rises, are_shown, file_listed, dir_listed}
 
 abbrev child_at : List ℕ → Status → DirEntry
 child_at n s = record { name = n; status = s }
@@ -44,7 +73,11 @@ begins_front (x ∷ n) (y ∷ m) h = let w = and_parts (nat_eq x y) (begins n (m
 begins_name : (n m : List ℕ) (s : Status) → lt text_cmp n (text_by m s) ≡ true → begins n (text_by m s) ≡ true → begins n m ≡ true
 begins_name n m (File l) h b = b
 begins_name n m Directory h b =
-    elim (begins_front n m b) [ inl e ↦ absurd (false_true (irrefl text_total (marker_of m)) (ap (λ n. lt text_cmp n (marker_of m)) (sym e) ∙ h)) | inr g ↦ g ]
+    elim (begins_front n m b) [
+      | inl e ↦ absurd (false_true (irrefl text_total (marker_of m))
+          (ap (λ n. lt text_cmp n (marker_of m)) (sym e) ∙ h))
+      | inr g ↦ g
+    ]
 
 -- ---- what was found, the last first
 
@@ -60,7 +93,8 @@ abbrev test : List ℕ → DirEntry → Bool
 test n e = begins n e.name
 
 while_more : (p : DirEntry → Bool) (e : DirEntry) (es : List DirEntry) → p e ≡ true → take_while p (e ∷ es) ≡ e ∷ take_while p es
-while_more p e es h = ap (λ b. take (cond b (1 + prefix_len p es) 0) (e ∷ es)) h ∙ ap (λ k. take k (e ∷ es)) (let o : 1 + prefix_len p es ≡ suc (prefix_len p es) = omega arith in o)
+while_more p e es h = ap (λ b. take (cond b (1 + prefix_len p es) 0) (e ∷ es)) h ∙ ap (λ k. take k (e ∷ es))
+    (let o : 1 + prefix_len p es ≡ suc (prefix_len p es) = omega arith in o)
 
 while_none : (p : DirEntry → Bool) (e : DirEntry) (es : List DirEntry) → p e ≡ false → take_while p (e ∷ es) ≡ []
 while_none p e es h = ap (λ b. take (cond b (1 + prefix_len p es) 0) (e ∷ es)) h
@@ -72,19 +106,22 @@ among_more : (n : List ℕ) (e : DirEntry) (es : List DirEntry) → test n e ≡
 among_more n e es h = ap (list_any (is_file_named n)) (while_more (test n) e es h)
 
 -- a file of this name is found
-file_among : (n : List ℕ) (l : ℕ) (es : List DirEntry) → Falls es → Below es (marker_of n) → IsIn (child_at n (File l)) es → among n es ≡ true
+file_among : (n : List ℕ) (l : ℕ) (es : List DirEntry) → Falls es → Below es (marker_of n) → IsIn (child_at n (File l)) es
+    → among n es ≡ true
 file_among n l [] f b i = absurd i
 file_among n l (e ∷ es) f b i = by i (file_among n l es f.1 (λ d j. b d (inr j)))
   where
     own : among n (child_at n (File l) ∷ es) ≡ true
     own = among_more n (child_at n (File l)) es (begins_all n) ∙ ap (λ b. b || among n es) (text_true n n refl)
 
-    by : (child_at n (File l) ≡ e) ⊎ IsIn (child_at n (File l)) es → (IsIn (child_at n (File l)) es → among n es ≡ true) → among n (e ∷ es) ≡ true
+    by : (child_at n (File l) ≡ e) ⊎ IsIn (child_at n (File l)) es → (IsIn (child_at n (File l)) es → among n es ≡ true)
+        → among n (e ∷ es) ≡ true
     by (inl h) ih = subst (λ d. among n (d ∷ es) ≡ true) h own
     by (inr j) ih =
         let low : lt text_cmp n (text_of e) ≡ true = f.0 (child_at n (File l)) j in
         let high : lt text_cmp (text_of e) (marker_of n) ≡ true = b e (inl refl) in
-        let t = begins_name n e.name e.status low (between n (text_of e) (marker_of n) (lt_not text_total n (text_of e) low) (lt_not text_total (text_of e) (marker_of n) high) (begins_marker n)) in
+        let t = begins_name n e.name e.status low (between n (text_of e) (marker_of n) (lt_not text_total n (text_of e) low)
+        (lt_not text_total (text_of e) (marker_of n) high) (begins_marker n)) in
         among_more n e es t ∙ (elim (is_file_named n e) as (λ a. (a || (among n es)) ≡ true) [ true ↦ refl | false ↦ (ih j) ])
 
 -- what is found is a file of this name
@@ -134,11 +171,13 @@ reverse_in x (y ∷ ys) i = elim (in_append x (reverse ys) (y ∷ []) (subst (Is
 in_one : {X : Type 0} {x y : X} → IsIn x (y ∷ []) → x ≡ y
 in_one h = elim h [ inl e ↦ e | inr i ↦ absurd i ]
 
-above_end : (x : List ℕ) (es : List DirEntry) (d : DirEntry) → AllByRecursion (λ k. text_cmp x k ≡ Less) (map text_of es) → lt text_cmp x (text_of d) ≡ true → AllByRecursion (λ k. text_cmp x k ≡ Less) (map text_of (es ++ d ∷ []))
+above_end : (x : List ℕ) (es : List DirEntry) (d : DirEntry) → AllByRecursion (λ k. text_cmp x k ≡ Less) (map text_of es)
+    → lt text_cmp x (text_of d) ≡ true → AllByRecursion (λ k. text_cmp x k ≡ Less) (map text_of (es ++ d ∷ []))
 above_end x [] d a h = (less_of (text_cmp x (text_of d)) h, tt)
 above_end x (e ∷ es) d a h = (a.0, above_end x es d a.1 h)
 
-sorted_end : (es : List DirEntry) (d : DirEntry) → IsStrictlySortedBy text_cmp (map text_of es) → Below es (text_of d) → IsStrictlySortedBy text_cmp (map text_of (es ++ d ∷ []))
+sorted_end : (es : List DirEntry) (d : DirEntry) → IsStrictlySortedBy text_cmp (map text_of es) → Below es (text_of d)
+    → IsStrictlySortedBy text_cmp (map text_of (es ++ d ∷ []))
 unfolding IsStrictlySortedBy
 sorted_end [] d s b = (tt, tt)
 sorted_end (e ∷ es) d s b = (above_end (text_of e) es d s.0 (b e (inl refl)), sorted_end es d s.1 (λ x i. b x (inr i)))
@@ -162,7 +201,8 @@ seen_entry q n Directory found h =
     ∙ ap (λ m. dir_named (has_file found m) m) (first_part n h)
 seen_entry q n (File l) found h = ap (λ r. file_by r l) (rest_is q n)
 
-all_entries : (q : List ℕ) (ds found : List DirEntry) → ((d : DirEntry) → IsIn d ds → NoSlash d.name) → all_added q found (map (entry_from q) ds) ≡ all_seen found ds
+all_entries : (q : List ℕ) (ds found : List DirEntry) → ((d : DirEntry) → IsIn d ds → NoSlash d.name)
+    → all_added q found (map (entry_from q) ds) ≡ all_seen found ds
 all_entries q [] found h = refl
 all_entries q (d ∷ ds) found h =
     ap (λ o. all_added q (added found o) (map (entry_from q) ds)) (seen_entry q d.name d.status found (h d (inl refl)))
@@ -180,7 +220,15 @@ record Found (ds firsts found : List DirEntry) : Type 0 where
 
 nothing_found : (ds : List DirEntry) → Found ds [] []
 unfolding IsStrictlySortedBy
-nothing_found ds = record { sub = λ e i. i; files = λ x r l i. i; dirs = λ n i. inl i; once = λ x r l i j. i; named = λ l i. i; falls = tt; sorted = tt }
+nothing_found ds = record {
+  sub = λ e i. i;
+  files = λ x r l i. i;
+  dirs = λ n i. inl i;
+  once = λ x r l i j. i;
+  named = λ l i. i;
+  falls = tt;
+  sorted = tt;
+}
 
 module _ (ds firsts found : List DirEntry) (f : Found ds firsts found) (d : DirEntry) (later : Below firsts (text_of d)) where
   before : Below found (text_of d)
@@ -190,26 +238,42 @@ module _ (ds firsts found : List DirEntry) (f : Found ds firsts found) (d : DirE
   before_back e i = before e (reverse_in e found i)
 
   -- it is found
-  adds : IsIn d ds → ((l : ℕ) → child_at [] (File l) ≡ d → ⊥) → ((x : ℕ) (r : List ℕ) (l : ℕ) → d ≡ child_at (x ∷ r) Directory → IsIn (child_at (x ∷ r) (File l)) ds → ⊥) → Found ds (firsts ++ d ∷ []) (found ++ d ∷ [])
+  adds : IsIn d ds → ((l : ℕ) → child_at [] (File l) ≡ d → ⊥)
+      → ((x : ℕ) (r : List ℕ) (l : ℕ) → d ≡ child_at (x ∷ r) Directory → IsIn (child_at (x ∷ r) (File l)) ds → ⊥)
+      → Found ds (firsts ++ d ∷ []) (found ++ d ∷ [])
   adds i none other = record {
-    sub = λ e j. elim (in_append e found (d ∷ []) j) [ inl k ↦ in_front e firsts (d ∷ []) (f.sub e k) | inr k ↦ in_back e firsts (d ∷ []) k ];
-    files = λ x r l j. elim (in_append (child_at (x ∷ r) (File l)) firsts (d ∷ []) j) [ inl k ↦ in_front (child_at (x ∷ r) (File l)) found (d ∷ []) (f.files x r l k) | inr k ↦ in_back (child_at (x ∷ r) (File l)) found (d ∷ []) k ];
-    dirs = λ n j. elim (in_append (child_at n Directory) firsts (d ∷ []) j) [ inl k ↦ old n (f.dirs n k) | inr k ↦ inl (in_back (child_at n Directory) found (d ∷ []) k) ];
-    once = λ x r l j k. elim (in_append (child_at (x ∷ r) Directory) found (d ∷ []) j) [ inl m ↦ f.once x r l m k | inr m ↦ other x r l (sym (in_one m)) k ];
+    sub = λ e j. elim (in_append e found (d ∷ []) j) [
+      | inl k ↦ in_front e firsts (d ∷ []) (f.sub e k)
+      | inr k ↦ in_back e firsts (d ∷ []) k
+    ];
+    files = λ x r l j. elim (in_append (child_at (x ∷ r) (File l)) firsts (d ∷ []) j) [
+      | inl k ↦ in_front (child_at (x ∷ r) (File l)) found (d ∷ []) (f.files x r l k)
+      | inr k ↦ in_back (child_at (x ∷ r) (File l)) found (d ∷ []) k
+    ];
+    dirs = λ n j. elim (in_append (child_at n Directory) firsts (d ∷ []) j) [
+      | inl k ↦ old n (f.dirs n k)
+      | inr k ↦ inl
+          (in_back (child_at n Directory) found (d ∷ []) k)
+    ];
+    once = λ x r l j k. elim (in_append (child_at (x ∷ r) Directory) found (d ∷ []) j)
+        [ inl m ↦ f.once x r l m k | inr m ↦ other x r l (sym (in_one m)) k ];
     named = λ l j. elim (in_append (child_at [] (File l)) found (d ∷ []) j) [ inl k ↦ f.named l k | inr k ↦ none l (in_one k) ];
     falls = subst Falls (sym (reverse-append found (d ∷ []))) (before_back, f.falls);
     sorted = sorted_end found d f.sorted before;
   }
     where
-      old : (n : List ℕ) → IsIn (child_at n Directory) found ⊎ HasNamed n found → IsIn (child_at n Directory) (found ++ d ∷ []) ⊎ HasNamed n (found ++ d ∷ [])
+      old : (n : List ℕ) → IsIn (child_at n Directory) found ⊎ HasNamed n found → IsIn (child_at n Directory) (found ++ d ∷ [])
+          ⊎ HasNamed n (found ++ d ∷ [])
       old n (inl k) = inl (in_front (child_at n Directory) found (d ∷ []) k)
       old n (inr k) = inr (k.0, in_front (child_at n (File k.0)) found (d ∷ []) k.1)
 
   -- it is passed over
-  skips : ((x : ℕ) (r : List ℕ) (l : ℕ) → child_at (x ∷ r) (File l) ≡ d → ⊥) → ((n : List ℕ) → child_at n Directory ≡ d → HasNamed n found) → Found ds (firsts ++ d ∷ []) found
+  skips : ((x : ℕ) (r : List ℕ) (l : ℕ) → child_at (x ∷ r) (File l) ≡ d → ⊥) → ((n : List ℕ) → child_at n Directory ≡ d → HasNamed n found)
+      → Found ds (firsts ++ d ∷ []) found
   skips other has = record {
     sub = λ e j. in_front e firsts (d ∷ []) (f.sub e j);
-    files = λ x r l j. elim (in_append (child_at (x ∷ r) (File l)) firsts (d ∷ []) j) [ inl k ↦ f.files x r l k | inr k ↦ absurd (other x r l (in_one k)) ];
+    files = λ x r l j. elim (in_append (child_at (x ∷ r) (File l)) firsts (d ∷ []) j)
+        [ inl k ↦ f.files x r l k | inr k ↦ absurd (other x r l (in_one k)) ];
     dirs = λ n j. elim (in_append (child_at n Directory) firsts (d ∷ []) j) [ inl k ↦ f.dirs n k | inr k ↦ inr (has n (in_one k)) ];
     once = f.once;
     named = f.named;
@@ -236,10 +300,15 @@ same_name : {n m : List ℕ} → child_at n Directory ≡ child_at m Directory �
 same_name e = ap (λ (d : DirEntry). d.name) e
 
 -- one child more
-seen_one : (ds firsts rest found : List DirEntry) (n : List ℕ) (s : Status) → ds ≡ firsts ++ child_at n s ∷ rest → Below firsts (text_by n s) → Later (text_by n s) rest → Found ds firsts found → Found ds (firsts ++ child_at n s ∷ []) (added found (seen_by found n s))
-seen_one ds firsts rest found [] (File l) e b a f = skips ds firsts found f (child_at [] (File l)) b (λ x r k g. no_name g) (λ m g. absurd (no_file (sym g)))
+seen_one : (ds firsts rest found : List DirEntry) (n : List ℕ) (s : Status) → ds ≡ firsts ++ child_at n s ∷ rest
+    → Below firsts (text_by n s) → Later (text_by n s) rest → Found ds firsts found
+    → Found ds (firsts ++ child_at n s ∷ []) (added found (seen_by found n s))
+seen_one ds firsts rest found [] (File l) e b a f = skips ds firsts found f (child_at [] (File l)) b (λ x r k g. no_name g)
+    (λ m g. absurd (no_file (sym g)))
 seen_one ds firsts rest found (y ∷ n) (File l) e b a f =
-    adds ds firsts found f (child_at (y ∷ n) (File l)) b (subst (IsIn (child_at (y ∷ n) (File l))) (sym e) (in_back (child_at (y ∷ n) (File l)) firsts (child_at (y ∷ n) (File l) ∷ rest) (inl refl))) (λ k g. no_name (sym g)) (λ x r k g j. no_file g)
+    adds ds firsts found f (child_at (y ∷ n) (File l)) b (subst (IsIn (child_at (y ∷ n) (File l))) (sym e)
+    (in_back (child_at (y ∷ n) (File l)) firsts (child_at (y ∷ n) (File l) ∷ rest) (inl refl))) (λ k g. no_name (sym g))
+    (λ x r k g j. no_file g)
 seen_one ds firsts rest found n Directory e b a f = by (has_file found n) refl
   where
     d : DirEntry
@@ -249,17 +318,22 @@ seen_one ds firsts rest found n Directory e b a f = by (has_file found n) refl
     at = subst (IsIn d) (sym e) (in_back d firsts (d ∷ rest) (inl refl))
 
     -- a file of its name comes before it
-    earlier : (x : ℕ) (r : List ℕ) (l : ℕ) → n ≡ x ∷ r → IsIn (child_at (x ∷ r) (File l)) firsts ⊎ IsIn (child_at (x ∷ r) (File l)) (d ∷ rest) → IsIn (child_at (x ∷ r) (File l)) firsts
+    earlier : (x : ℕ) (r : List ℕ) (l : ℕ) → n ≡ x ∷ r → IsIn (child_at (x ∷ r) (File l)) firsts
+        ⊎ IsIn (child_at (x ∷ r) (File l)) (d ∷ rest) → IsIn (child_at (x ∷ r) (File l)) firsts
     earlier x r l g (inl i) = i
     earlier x r l g (inr (inl h)) = absurd (no_file h)
     earlier x r l g (inr (inr i)) =
-        absurd (false_true (lt_not text_total n (marker_of n) (before_marker n)) (ap (lt text_cmp (marker_of n)) g ∙ later_in (marker_of n) rest (child_at (x ∷ r) (File l)) a i))
+        absurd (false_true (lt_not text_total n (marker_of n) (before_marker n))
+        (ap (lt text_cmp (marker_of n)) g ∙ later_in (marker_of n) rest (child_at (x ∷ r) (File l)) a i))
 
-    never : has_file found n ≡ false → (x : ℕ) (r : List ℕ) (l : ℕ) → d ≡ child_at (x ∷ r) Directory → IsIn (child_at (x ∷ r) (File l)) ds → ⊥
+    never : has_file found n ≡ false → (x : ℕ) (r : List ℕ) (l : ℕ) → d ≡ child_at (x ∷ r) Directory → IsIn (child_at (x ∷ r) (File l)) ds
+        → ⊥
     never h x r l g i =
         let m : n ≡ x ∷ r = same_name g in
-        let j = f.files x r l (earlier x r l m (in_append (child_at (x ∷ r) (File l)) firsts (d ∷ rest) (subst (IsIn (child_at (x ∷ r) (File l))) e i))) in
-        let k : IsIn (child_at n (File l)) (reverse found) = subst (λ v. IsIn (child_at v (File l)) (reverse found)) (sym m) (in_reverse (child_at (x ∷ r) (File l)) found j) in
+        let j = f.files x r l (earlier x r l m (in_append (child_at (x ∷ r) (File l)) firsts (d ∷ rest)
+        (subst (IsIn (child_at (x ∷ r) (File l))) e i))) in
+        let k : IsIn (child_at n (File l)) (reverse found) = subst (λ v. IsIn (child_at v (File l)) (reverse found)) (sym m)
+        (in_reverse (child_at (x ∷ r) (File l)) found j) in
         false_true h (file_among n l (reverse found) f.falls (λ c p. b c (f.sub c (reverse_in c found p))) k)
 
     named : has_file found n ≡ true → HasNamed n found
@@ -269,7 +343,8 @@ seen_one ds firsts rest found n Directory e b a f = by (has_file found n) refl
     by true h =
         subst (λ c. Found ds (firsts ++ d ∷ []) (added found (dir_named c n))) (sym h)
         (skips ds firsts found f d b (λ x r l g. no_file g) (λ m g. subst (λ v. HasNamed v found) (sym (same_name g)) (named h)))
-    by false h = subst (λ c. Found ds (firsts ++ d ∷ []) (added found (dir_named c n))) (sym h) (adds ds firsts found f d b at (λ k g. no_file g) (never h))
+    by false h = subst (λ c. Found ds (firsts ++ d ∷ []) (added found (dir_named c n))) (sym h)
+        (adds ds firsts found f d b at (λ k g. no_file g) (never h))
 
 -- children in order, of which the first is greater than those before it
 abbrev Ordered : List DirEntry → Type 0
@@ -283,7 +358,8 @@ Before firsts (d ∷ ds) = Below firsts (text_of d)
 ordered : (t : List ℕ) (ds : List DirEntry) → Later t ds → Ordered ds
 ordered t ds h = grind arith
 
-before_next : (firsts rest : List DirEntry) (d : DirEntry) → Below firsts (text_of d) → Later (text_of d) rest → Before (firsts ++ d ∷ []) rest
+before_next : (firsts rest : List DirEntry) (d : DirEntry) → Below firsts (text_of d) → Later (text_of d) rest
+    → Before (firsts ++ d ∷ []) rest
 before_next firsts [] d b a = tt
 before_next firsts (x ∷ rest) d b a = λ e i. elim (in_append e firsts (d ∷ []) i) [
   | inl i ↦ lt_trans text_total (text_of e) (text_of d) (text_of x) (b e i) a.0
@@ -291,10 +367,12 @@ before_next firsts (x ∷ rest) d b a = λ e i. elim (in_append e firsts (d ∷ 
 ]
 
 -- all of them
-all_found : (ds firsts rest found : List DirEntry) → ds ≡ firsts ++ rest → Before firsts rest → Ordered rest → Found ds firsts found → Found ds ds (all_seen found rest)
+all_found : (ds firsts rest found : List DirEntry) → ds ≡ firsts ++ rest → Before firsts rest → Ordered rest → Found ds firsts found
+    → Found ds ds (all_seen found rest)
 all_found ds firsts [] found e b a f = subst (λ l. Found ds l found) (sym (e ∙ append-nil firsts)) f
 all_found ds firsts (d ∷ rest) found e b a f =
-    all_found ds (firsts ++ d ∷ []) rest (added found (seen found d)) (e ∙ sym (append_assoc firsts (d ∷ []) rest)) (before_next firsts rest d b a) (ordered (text_of d) rest a)
+    all_found ds (firsts ++ d ∷ []) rest (added found (seen found d)) (e ∙ sym (append_assoc firsts (d ∷ []) rest))
+    (before_next firsts rest d b a) (ordered (text_of d) rest a)
     (seen_one ds firsts rest found d.name d.status e b a f)
 
 -- ---- the children of a directory
@@ -321,7 +399,8 @@ module _ (p : List ℕ) (z : Objects) where
   below_some : (n : List ℕ) → 0 < length n → 0 < length (below p n)
   below_some n l = elim p as (λ p. 0 < length (below p n)) [ [] ↦ l | x ∷ p ↦ omega arith ]
 
-  module _ (ds found : List DirEntry) (entries : listed Q true [] z ≡ map (entry_from Q) ds) (are : (d : DirEntry) → IsIn d ds → IsChild Q z d) (f : Found ds ds found) where
+  module _ (ds found : List DirEntry) (entries : listed Q true [] z ≡ map (entry_from Q) ds)
+      (are : (d : DirEntry) → IsIn d ds → IsChild Q z d) (f : Found ds ds found) where
     name_parts : (n : List ℕ) → IsName n → (is_element n ≡ true) × NoSlash n
     name_parts n h = and_parts (is_element n) (list_all (is_other 47) n) h
 
@@ -339,7 +418,8 @@ module _ (p : List ℕ) (z : Objects) where
     no_file_of : (n : List ℕ) → IsName n → IsIn (child_at n Directory) found → fin.get z (below p n) ≡ None
     no_file_of n h i = by n h i (fin.get z (below p n)) refl
       where
-        by : (n : List ℕ) → IsName n → IsIn (child_at n Directory) found → (o : Option Object) → fin.get z (below p n) ≡ o → fin.get z (below p n) ≡ None
+        by : (n : List ℕ) → IsName n → IsIn (child_at n Directory) found → (o : Option Object) → fin.get z (below p n) ≡ o
+            → fin.get z (below p n) ≡ None
         by n h i None e = e
         by [] h i (Some o) e = absurd (false≢true (name_parts [] h).0)
         by (x ∷ r) h i (Some o) e = absurd (f.once x r (length o.bytes) i (file_of (x ∷ r) o h e))
@@ -348,7 +428,8 @@ module _ (p : List ℕ) (z : Objects) where
     child_dir n h i =
         let long = named_some n h in
         let s = (are (child_at n Directory) (f.sub (child_at n Directory) i)).stands in
-        let at : Q ++ (n ++ 47 ∷ s.0) ≡ marker_of (below p n) ++ s.0 = sym (append_assoc Q n (47 ∷ s.0)) ∙ ap (λ k. k ++ 47 ∷ s.0) (below_is p n) ∙ sym (append_assoc (below p n) (47 ∷ []) s.0) in (
+        let at : Q ++ (n ++ 47 ∷ s.0) ≡ marker_of (below p n) ++ s.0 = sym (append_assoc Q n (47 ∷ s.0)) ∙ ap (λ k. k ++ 47 ∷ s.0)
+        (below_is p n) ∙ sym (append_assoc (below p n) (47 ∷ []) s.0) in (
           no_file_at (below p n) z (no_file_of n h i),
           at_some (λ k. SomeBelow z (marker_of k) → HasDir z k) (below p n) long (λ x r h. h)
               (Q ++ (n ++ 47 ∷ s.0), ap (begins (marker_of (below p n))) at ∙ begins_more (marker_of (below p n)) s.0, s.1, s.2),
@@ -366,7 +447,8 @@ module _ (p : List ℕ) (z : Objects) where
     file_entry : (n : List ℕ) (l : ℕ) → IsIn (child_at n (File l)) found → NoSlash n → Standing Q z n (File l) → Entry n (File l)
     file_entry [] l i s g = absurd (f.named l i)
     file_entry (x ∷ n) l i s g = (elim (is_key (below p (x ∷ n))) as (λ b. is_key (below p (x ∷ n)) ≡ b → Entry (x ∷ n) (File l)) [
-      | true ↦ λ e. let h = name_of (x ∷ n) s (file_element p x n s (path_of (below p (x ∷ n)) e)) in inl (h, child_file (x ∷ n) l h (f.sub (child_at (x ∷ n) (File l)) i))
+      | true ↦ λ e. let h = name_of (x ∷ n) s (file_element p x n s (path_of (below p (x ∷ n)) e)) in inl
+          (h, child_file (x ∷ n) l h (f.sub (child_at (x ∷ n) (File l)) i))
       | false ↦ λ e. inr ((g.0, ap (fin.get z) (sym (below_is p (x ∷ n))) ∙ g.1), e)
     ]) refl
 
@@ -377,7 +459,8 @@ module _ (p : List ℕ) (z : Objects) where
         at = sym (append_assoc Q n (47 ∷ g.0)) ∙ ap (λ k. k ++ 47 ∷ g.0) (below_is p n)
 
         behind_it : begins (marker_of (below p n)) (below p n ++ 47 ∷ g.0) ≡ true
-        behind_it = ap (begins (marker_of (below p n))) (sym (append_assoc (below p n) (47 ∷ []) g.0)) ∙ begins_more (marker_of (below p n)) g.0
+        behind_it = ap (begins (marker_of (below p n))) (sym (append_assoc (below p n) (47 ∷ []) g.0)) ∙ begins_more (marker_of (below p n))
+            g.0
 
         by : (b : Bool) → is_key (below p n ++ 47 ∷ g.0) ≡ b → Entry n Directory
         by true e = let h = name_of n s (dir_element p n g.0 s (path_of (below p n ++ 47 ∷ g.0) e)) in inl (h, child_dir n h i)
@@ -391,8 +474,10 @@ module _ (p : List ℕ) (z : Objects) where
         own s k = subst (λ d. IsIn d found) (λ j. child_at e.name (k j)) i
 
         by : (s : Status) → e.status ≡ s → Entry e.name s
-        by Directory k = let c = are (child_at e.name Directory) (f.sub (child_at e.name Directory) (own Directory k)) in dir_entry e.name (own Directory k) c.plain c.stands
-        by (File l) k = let c = are (child_at e.name (File l)) (f.sub (child_at e.name (File l)) (own (File l) k)) in file_entry e.name l (own (File l) k) c.plain c.stands
+        by Directory k = let c = are (child_at e.name Directory) (f.sub (child_at e.name Directory) (own Directory k)) in dir_entry e.name
+            (own Directory k) c.plain c.stands
+        by (File l) k = let c = are (child_at e.name (File l)) (f.sub (child_at e.name (File l)) (own (File l) k)) in file_entry e.name l
+            (own (File l) k) c.plain c.stands
 
     file_there : (n : List ℕ) (l : ℕ) → IsName n → IsStatus z (below p n) (File l) → IsIn (child_at n (File l)) found
     file_there n l h s =
@@ -416,7 +501,8 @@ module _ (p : List ℕ) (z : Objects) where
         rest = rest_after (marker_of (below p n)) key.0 key.1
 
         at : key.0 ≡ Q ++ (n ++ 47 ∷ rest.0)
-        at = rest.1 ∙ append_assoc (below p n) (47 ∷ []) rest.0 ∙ ap (λ k. k ++ 47 ∷ rest.0) (sym (below_is p n)) ∙ append_assoc Q n (47 ∷ rest.0)
+        at = rest.1 ∙ append_assoc (below p n) (47 ∷ []) rest.0 ∙ ap (λ k. k ++ 47 ∷ rest.0) (sym (below_is p n)) ∙ append_assoc Q n
+            (47 ∷ rest.0)
 
         by : IsIn (child_at n Directory) found ⊎ HasNamed n found → IsIn (child_at n Directory) found
         by h = grind (arith, at_some, long, below_is)
@@ -435,7 +521,8 @@ module _ (p : List ℕ) (z : Objects) where
       let plain = λ (d : DirEntry) (i : IsIn d a.children). (a.are d i).plain in
       let rises = ordered_of a.children (subst (λ xs. RisesFrom [] (map text_in xs)) a.entries (listed_rises Q z [])) in
       let f = all_found a.children [] a.children [] refl (first_before a.children) rises (nothing_found a.children) in
-      subst (HasEntries p z) (sym (ap (all_added Q []) a.entries ∙ all_entries Q a.children [] plain)) (has_entries a.children (all_seen [] a.children) a.entries a.are f)
+      subst (HasEntries p z) (sym (ap (all_added Q []) a.entries ∙ all_entries Q a.children [] plain))
+      (has_entries a.children (all_seen [] a.children) a.entries a.are f)
     where
       behind_more : (b t : List ℕ) (q : List ℕ) → lt text_cmp (q ++ b) (q ++ t) ≡ lt text_cmp b t
       behind_more b t q = ap is_lt (cmp_behind q b t)
@@ -443,12 +530,16 @@ module _ (p : List ℕ) (z : Objects) where
       later_from : (b : List ℕ) (ds : List DirEntry) → RisesFrom (Q ++ b) (map text_in (map (entry_from Q) ds)) → Later b ds
       later_from b [] h = tt
       later_from b (d ∷ ds) h =
-          let t = text_at Q d.name d.status in
-          (sym (behind_more b (text_of d) Q) ∙ ap (lt text_cmp (Q ++ b)) (sym t) ∙ h.0, later_from (text_of d) ds (subst (λ v. RisesFrom v (map text_in (map (entry_from Q) ds))) t h.1))
+          let t = text_at Q d.name d.status in (
+            sym (behind_more b (text_of d) Q) ∙ ap (lt text_cmp (Q ++ b)) (sym t) ∙ h.0,
+            later_from (text_of d) ds
+                (subst (λ v. RisesFrom v (map text_in (map (entry_from Q) ds))) t h.1),
+          )
 
       ordered_of : (ds : List DirEntry) → RisesFrom [] (map text_in (map (entry_from Q) ds)) → Ordered ds
       ordered_of [] h = tt
-      ordered_of (d ∷ ds) h = later_from (text_of d) ds (subst (λ v. RisesFrom v (map text_in (map (entry_from Q) ds))) (text_at Q d.name d.status) h.1)
+      ordered_of (d ∷ ds) h = later_from (text_of d) ds (subst (λ v. RisesFrom v (map text_in (map (entry_from Q) ds)))
+          (text_at Q d.name d.status) h.1)
 
       first_before : (ds : List DirEntry) → Before [] ds
       first_before [] = tt

@@ -1,11 +1,23 @@
 -- The status of a path is a question at it.
-use Rattle.std.specs.Prelude.{◌≡◌, ℕ, List, ◌∷◌, Ok, Err, Option}
-use Rattle.fs_ops.proofs.Common.{Directory, Goes, IsPhases, IsStill, MayAsk, NoSuchBucket, Object, Objects, OnlyLooks, Stats, arith, first, goes_by, head, holds, left, look_asks, told}
+use Rattle.bucket_ops.specs.Phases.{IsPhases, MayAsk}
+use Rattle.dir_markers.specs.declared.status.Status.TheVariants.{Directory}
+use Rattle.fs_ops.proofs.AtPathLaws.{IsQuestion, looks_there, question_asked, question_laws}
+use Rattle.fs_ops.specs.Places.{look_asks}
+use Rattle.fs_ops.specs.code.AtPath.{first, holds, left, told}
+use Rattle.fs_ops.specs.code.Stat.{Answer, asks, on, status_in}
+use Rattle.fs_ops.specs.code.Steps.{IsStill, OnlyLooks, goes_by}
+use Rattle.fs_tree.specs.Answers.{Stats}
+use Rattle.fs_tree.specs.declared.answers.FsRefusal.TheVariants.{NoSuchBucket}
+use Rattle.operations.specs.Plans.{Goes}
+use Rattle.s3_types.specs.Answer.{head}
+use Rattle.s3_types.specs.Store.{Objects}
+use Rattle.s3_types.specs.declared.object.Object.{Object}
+use Rattle.std.proofs.Common.{arith}
+use Rattle.std.specs.Prelude.{Err, List, Ok, Option, ℕ, ◌∷◌, ◌≡◌}
 use Rattle.std.specs.FinMap as fin
-use Rattle.fs_ops.proofs.AtPathLaws.{IsQuestion, question_laws, question_asked, looks_there}
-use Rattle.fs_ops.specs.code.Stat.{Answer, asks, status_in, on}
 
-here : (x : ℕ) (p : List ℕ) (z : Objects) (v : Option Object) → fin.get z (x ∷ p) ≡ v → Goes (holds (x ∷ p) z) (Stats (x ∷ p) z) (told (status_in (head v))) z
+here : (x : ℕ) (p : List ℕ) (z : Objects) (v : Option Object) → fin.get z (x ∷ p) ≡ v
+    → Goes (holds (x ∷ p) z) (Stats (x ∷ p) z) (told (status_in (head v))) z
 here x p z v h = grind arith
 
 same_end : (p : List ℕ) (z : Objects) (a : Answer) (m : Objects) → Stats p z a m → m ≡ z

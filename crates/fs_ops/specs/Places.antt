@@ -1,7 +1,9 @@
 -- What is asked of a path.
-use Rattle.std.specs.Prelude.{List, None, Option, Some, [], false, ℕ, ◌∷◌, ◌≡◌}
-use Rattle.bucket_ops.specs.Prelude.{Ask, Drop, Get, Head, Objects, Page, Put}
-use Rattle.fs_tree.specs.Prelude.{below, marker_of}
+use Rattle.bucket_ops.specs.Asks.{Ask, Drop, Get, Head, Page, Put}
+use Rattle.dir_markers.specs.Markers.{marker_of}
+use Rattle.path_keys.specs.Paths.{below}
+use Rattle.s3_types.specs.Store.{Objects}
+use Rattle.std.specs.Prelude.{List, None, Option, Some, false, ℕ, [], ◌∷◌, ◌≡◌}
 use Rattle.std.specs.FinMap as fin
 
 -- the key of a path; the root has none

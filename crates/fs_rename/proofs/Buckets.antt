@@ -1,14 +1,29 @@
 -- An operation in one bucket, or between two of them.
-use Rattle.fs_rename.proofs.Common.{Actor, AlwaysIn, GivesBetween, GivesIn, InScene, List, None, Objects, Ok, Option, Performed, Request, Scene, Seen, Some, [], after_all, ap, append-nil, arith, false, false≢true, length, length-append, none_some, not, objects_at, refl, slice_get, subst, suc, sym, take, text_eq, text_is, text_true, true, zero, ℕ, ◌++◌, ◌+◌, ◌<◌, ◌∙◌, ◌≡◌}
-use Rattle.machine.specs.Prelude.{HasUnanswered}
+use Rattle.basics.proofs.Members.{none_some, text_is, text_true}
+use Rattle.basics.specs.Order.{text_eq}
 use Rattle.bucket_ops.proofs.AskLaws.{with_same}
+use Rattle.bucket_ops.specs.Asks.{objects_at}
+use Rattle.bucket_ops.specs.Phases.{AlwaysIn, GivesIn, InScene}
+use Rattle.fs_rename.specs.Between.{GivesBetween}
+use Rattle.machine.specs.Tries.{HasUnanswered}
+use Rattle.operations.specs.Performed.{Performed, Seen}
+use Rattle.s3_types.specs.Moment.{after_all}
+use Rattle.s3_types.specs.Store.{Objects, Scene}
+use Rattle.s3_types.specs.declared.request.Actor.{Actor}
+use Rattle.s3_types.specs.declared.request.Request.{Request}
+use Rattle.std.proofs.Common.{List, None, Ok, Option, Some, ap, arith, false, length, length-append, not, refl, subst, suc, sym, take, true}
+use Rattle.std.proofs.Common.{zero, ℕ, [], ◌++◌, ◌+◌, ◌<◌, ◌∙◌, ◌≡◌}
+use Rattle.std.proofs.lemmas.Bool.{false≢true}
+use Rattle.std.proofs.lemmas.List.{append-nil}
+use Rattle.std.specs.List.{slice_get}
 
 -- ---- in one bucket
 
 same_bucket : (b c : List ℕ) → false ≡ not (text_eq b c) → b ≡ c
 same_bucket b c h = grind (arith, text_is)
 
-pub given_one : {A : Type 0} (b c : List ℕ) (gives : Objects → A → Objects → Type 0) (absent refused : A) (z : Scene) (a : A) (s : Scene) → false ≡ not (text_eq b c) → GivesIn b gives absent z a s → GivesBetween b c gives absent refused z a s
+pub given_one : {A : Type 0} (b c : List ℕ) (gives : Objects → A → Objects → Type 0) (absent refused : A) (z : Scene) (a : A) (s : Scene)
+    → false ≡ not (text_eq b c) → GivesIn b gives absent z a s → GivesBetween b c gives absent refused z a s
 given_one b c gives absent refused z a s e h = record { one = λ f. h; other = λ f. absurd (f (same_bucket b c e)) }
 
 -- ---- between two buckets
@@ -16,7 +31,8 @@ given_one b c gives absent refused z a s e h = record { one = λ f. h; other = �
 other_bucket : (b c : List ℕ) → true ≡ not (text_eq b c) → b ≡ c → ⊥
 other_bucket b c h e = false≢true (sym (h ∙ ap not (text_true b c e)))
 
-pub given_other : {A : Type 0} (b c : List ℕ) (gives : Objects → A → Objects → Type 0) (absent refused : A) (z : Scene) → true ≡ not (text_eq b c) → GivesBetween b c gives absent refused z refused z
+pub given_other : {A : Type 0} (b c : List ℕ) (gives : Objects → A → Objects → Type 0) (absent refused : A) (z : Scene)
+    → true ≡ not (text_eq b c) → GivesBetween b c gives absent refused z refused z
 given_other b c gives absent refused z e = record { one = λ f. absurd (other_bucket b c e f); other = λ f. (refl, refl) }
 
 -- where nothing was sent, all stands as it stood
@@ -45,8 +61,18 @@ performed_none {retries = retries} {old = old} b always sends same = record {
   scene = refl;
   moments = λ m. subst (AlwaysIn b always old.scene) (sym (none_taken old.scene m)) (still_in b always old.scene same);
   sent = tt;
-  tried = record { tries = []; rest = []; entries = refl; each = tt; broken_off = tt; told = (refl, refl); fault = λ e h. none_unanswered (retries + 1) (omega arith) h };
-  literal = λ r w. ((elim (w.0 + 0) as (λ n. slice_get [] n ≡ Some false → ⊥) [ zero ↦ λ h. none_some refl h | suc n ↦ λ h. none_some refl h ]) (w.1 0 (omega arith)));
+  tried = record {
+    tries = [];
+    rest = [];
+    entries = refl;
+    each = tt;
+    broken_off = tt;
+    told = (refl, refl);
+    fault = λ e h. none_unanswered
+        (retries + 1) (omega arith) h;
+  };
+  literal = λ r w. ((elim (w.0 + 0) as (λ n. slice_get [] n ≡ Some false → ⊥)
+      [ zero ↦ λ h. none_some refl h | suc n ↦ λ h. none_some refl h ]) (w.1 0 (omega arith)));
   foretold = tt;
   counts = record { made = refl; foretold = λ n. refl; losses = omega arith; kept = λ part e g. refl };
 }

@@ -1,6 +1,20 @@
 -- Copies of keys, one after another.
-use Rattle.fs_rename.proofs.Common.{AreFree, Bool, Copying, IsCopied, IsCopying, IsIn, IsOneOf, LessCopies, List, Move, None, Object, Objects, Option, Some, Stands, [], and_parts, ap, arith, copied, copied_all, copied_next, copies_left, copy_asks, copy_of, drop, drop-map, edited, false, has_more, inl, inr, is_in, length, length-map, ltb-true, nat_lt, nat_tests, none_some, refl, sources, subst, suc, sym, take, take_all, targets, text_here, text_other, true, zero, ℕ, ◌&&◌, ◌++◌, ◌+◌, ◌-◌, ◌<◌, ◌∙◌, ◌∷◌, ◌≡◌, ◌≤◌, ◌⊎◌}
-use Rattle.bucket_ops.specs.Asks.{Copy as CopyKey}
+use Rattle.basics.proofs.Members.{none_some, text_here, text_other}
+use Rattle.basics.specs.Members.{IsIn}
+use Rattle.bucket_ops.proofs.Below.{is_in}
+use Rattle.bucket_ops.specs.Asks.{Copy as CopyKey, edited}
+use Rattle.fs_rename.specs.Copies.{AreFree, IsCopied, IsCopying, IsOneOf, LessCopies, Move, copied_all, copied_next, copies_left, copy_asks}
+use Rattle.fs_rename.specs.Copies.{copy_of, has_more, sources, targets}
+use Rattle.fs_rename.specs.declared.copying.Copying.{Copying}
+use Rattle.fs_tree.specs.Tree.{Stands}
+use Rattle.s3_types.specs.Answer.{copied}
+use Rattle.s3_types.specs.Store.{Objects}
+use Rattle.s3_types.specs.declared.object.Object.{Object}
+use Rattle.std.proofs.Common.{Bool, List, None, Option, Some, ap, arith, drop, false, inl, inr, length, nat_lt, refl, subst, suc, sym, take}
+use Rattle.std.proofs.Common.{true, zero, ℕ, [], ◌&&◌, ◌++◌, ◌+◌, ◌-◌, ◌<◌, ◌∙◌, ◌∷◌, ◌≡◌, ◌≤◌, ◌⊎◌}
+use Rattle.std.proofs.lemmas.Bool.{and_parts, ltb-true}
+use Rattle.std.proofs.lemmas.Bool.Decides.{nat_tests}
+use Rattle.std.proofs.lemmas.List.{drop-map, length-map, take_all}
 use Rattle.std.specs.FinMap as fin
 
 -- ---- lists of moves
@@ -56,7 +70,8 @@ copy_puts m q l (Some w) v e h = text_here m q l w e ∙ h
 
 pub copies_keep : (m : Objects) (ps : List Move) (k : List ℕ) → (IsIn k (targets ps) → ⊥) → fin.get (copied_all m ps) k ≡ fin.get m k
 copies_keep m [] k h = refl
-copies_keep m (p ∷ ps) k h = copies_keep (copied m p.1 (fin.get m p.0)) ps k (λ g. h (inr g)) ∙ copy_keeps m p.1 (fin.get m p.0) k (λ e. h (inl e))
+copies_keep m (p ∷ ps) k h = copies_keep (copied m p.1 (fin.get m p.0)) ps k (λ g. h (inr g)) ∙ copy_keeps m p.1 (fin.get m p.0) k
+    (λ e. h (inl e))
 
 -- no key that is to be moved is a new key
 pub not_target : (z : Objects) (ps : List Move) → AreFree z ps → (k l : List ℕ) → IsOneOf k l ps → IsIn k (targets ps) → ⊥
@@ -64,7 +79,8 @@ not_target z ps h k l g e = grind (arith, is_target)
 
 -- what is copied stands at its new key, where m has the sources as z had them
 copies_put : (z : Objects) (ps : List Move) (m : Objects) → ((k l : List ℕ) → IsOneOf k l ps → fin.get m k ≡ fin.get z k)
-    → ((k l : List ℕ) → IsOneOf k l ps → IsIn k (targets ps) → ⊥) → ((k l : List ℕ) → IsOneOf k l ps → Stands z k) → ((k j l : List ℕ) → IsOneOf k l ps → IsOneOf j l ps → k ≡ j)
+    → ((k l : List ℕ) → IsOneOf k l ps → IsIn k (targets ps) → ⊥) → ((k l : List ℕ) → IsOneOf k l ps → Stands z k)
+    → ((k j l : List ℕ) → IsOneOf k l ps → IsOneOf j l ps → k ≡ j)
     → (k l : List ℕ) → IsOneOf k l ps → fin.get (copied_all m ps) l ≡ fin.get z k
 copies_put z [] m same apart stands one k l h = absurd h
 copies_put z (p ∷ ps) m same apart stands one k l h =
@@ -74,13 +90,15 @@ copies_put z (p ∷ ps) m same apart stands one k l h =
     h
   where
     here : ((k l : List ℕ) → IsOneOf k l ps → fin.get (copied_all (copied m p.1 (fin.get m p.0)) ps) l ≡ fin.get z k)
-        → k ≡ p.0 → l ≡ p.1 → IsIn l (targets ps) ⊎ (IsIn l (targets ps) → ⊥) → fin.get (copied_all (copied m p.1 (fin.get m p.0)) ps) l ≡ fin.get z k
+        → k ≡ p.0 → l ≡ p.1 → IsIn l (targets ps) ⊎ (IsIn l (targets ps) → ⊥)
+        → fin.get (copied_all (copied m p.1 (fin.get m p.0)) ps) l ≡ fin.get z k
     here ih e f (inl t) =
         let w = is_target ps l t in
         ih w.0 l w.1 ∙ ap (fin.get z) (one w.0 k l (inr w.1) (inl (e, f)))
     here ih e f (inr n) =
         let s = stands p.0 p.1 (inl (refl, refl)) in
-        copies_keep (copied m p.1 (fin.get m p.0)) ps l n ∙ copy_puts m p.1 l (fin.get m p.0) s.0 f (same p.0 p.1 (inl (refl, refl)) ∙ s.1) ∙ sym s.1 ∙ ap (fin.get z) (sym e)
+        copies_keep (copied m p.1 (fin.get m p.0)) ps l n ∙ copy_puts m p.1 l (fin.get m p.0) s.0 f (same p.0 p.1 (inl (refl, refl)) ∙ s.1)
+        ∙ sym s.1 ∙ ap (fin.get z) (sym e)
 
     by : ((k l : List ℕ) → IsOneOf k l ps → fin.get (copied_all (copied m p.1 (fin.get m p.0)) ps) l ≡ fin.get z k)
         → ((k ≡ p.0) × (l ≡ p.1)) ⊎ IsOneOf k l ps → fin.get (copied_all (copied m p.1 (fin.get m p.0)) ps) l ≡ fin.get z k
@@ -88,10 +106,12 @@ copies_put z (p ∷ ps) m same apart stands one k l h =
     by ih (inr g) = ih k l g
 
 -- so it is of the first moves, and of all
-pub copied_stand : (z : Objects) (ps : List Move) → AreFree z ps → (n : ℕ) (k l : List ℕ) → IsOneOf k l (take n ps) → fin.get (copied_all z (take n ps)) l ≡ fin.get z k
+pub copied_stand : (z : Objects) (ps : List Move) → AreFree z ps → (n : ℕ) (k l : List ℕ) → IsOneOf k l (take n ps)
+    → fin.get (copied_all z (take n ps)) l ≡ fin.get z k
 copied_stand z ps h n k l i =
     copies_put z (take n ps) z (λ k l i. refl)
-    (λ k l i t. let w = is_target (take n ps) k t in not_target z ps h k l (one_in_take n k l ps i) (in_targets ps w.0 k (one_in_take n w.0 k ps w.1)))
+    (λ k l i t. let w = is_target (take n ps) k t in not_target z ps h k l (one_in_take n k l ps i)
+    (in_targets ps w.0 k (one_in_take n w.0 k ps w.1)))
     (λ k l i. h.stands k l (one_in_take n k l ps i)) (λ k j l a b. h.one k j l (one_in_take n k l ps a) (one_in_take n j l ps b)) k l i
 
 pub all_stand : (z : Objects) (ps : List Move) → AreFree z ps → (k l : List ℕ) → IsOneOf k l ps → fin.get (copied_all z ps) l ≡ fin.get z k
@@ -136,13 +156,16 @@ module _ (z : Objects) (ps : List Move) where
   copied_one c m h =
       let some : c.from < length ps = subst (λ n. c.from < n) (ap length h.keys ∙ length-map ps (λ (p : Move). p.0)) h.some in
       let w = some_left c.from ps some in
-      ap (λ l. edited (copy_of l (drop c.from c.places)) m) (ap (drop c.from) h.keys ∙ drop-map (λ (p : Move). p.0) c.from ps ∙ ap sources w.2)
-      ∙ ap (λ l. edited (copy_of (w.0.0 ∷ sources w.1) l) m) (ap (drop c.from) h.places ∙ drop-map (λ (p : Move). p.1) c.from ps ∙ ap targets w.2)
+      ap (λ l. edited (copy_of l (drop c.from c.places)) m) (ap (drop c.from) h.keys ∙ drop-map (λ (p : Move). p.0) c.from ps ∙ ap sources
+      w.2)
+      ∙ ap (λ l. edited (copy_of (w.0.0 ∷ sources w.1) l) m) (ap (drop c.from) h.places ∙ drop-map (λ (p : Move). p.1) c.from ps ∙ ap
+      targets w.2)
       ∙ ap (λ m. copied m w.0.1 (fin.get m w.0.0)) h.copied
       ∙ sym (copied_append z (take c.from ps) (w.0 ∷ []))
       ∙ ap (copied_all z) (sym (take_one c.from ps w.0 w.1 w.2))
 
-  step : (b : Bool) (c : Copying) (m : Objects) → has_more c ≡ b → IsCopying z ps c m → IsCopied z ps (copied_next b c) (edited (copy_asks c) m)
+  step : (b : Bool) (c : Copying) (m : Objects) → has_more c ≡ b → IsCopying z ps c m
+      → IsCopied z ps (copied_next b c) (edited (copy_asks c) m)
   step b c m h g = grind (arith, more_true, copied_one, length-map, take_all, more_false)
 
   -- the honest reply leads on

@@ -1,23 +1,30 @@
 -- What the renaming of a path has done.
-use Rattle.fs_rename.proofs.Common.{Actor, AlwaysIn, Err, GivesBetween, IfOk, List, NoSuchBucket, None, Objects, Ok, Option, OtherBucket}
-use Rattle.fs_rename.proofs.Common.{Performed, Result, Route, Scene, Seen, SendsIn, Some, after_all, always, arith, gives, is_key, left}
-use Rattle.fs_rename.proofs.Common.{length, objects_at, prefix_of, sends, subst, take, true, ℕ, ◌+◌, ◌≡◌, ◌≤◌}
-use Rattle.std.specs.Prelude.{◌*◌}
-use Rattle.bucket_ops.specs.Prelude.{DriveStop}
-use Rattle.bucket_ops.specs.Phases.{left_at}
+use Rattle.bucket_ops.specs.Asks.{objects_at}
+use Rattle.bucket_ops.specs.Phases.{AlwaysIn, SendsIn, left_at}
 use Rattle.bucket_ops.specs.Walking.{all_below}
-use Rattle.fs_rename.specs.Between.{most_in}
-use Rattle.fs_rename.specs.code.Rename.{Renaming, Answer, first as first_stage, asks}
 use Rattle.fs_ops.proofs.Asking.{asked_in, each_asked}
-use Rattle.fs_rename.specs.code.Meaning.{Asks}
-use Rattle.fs_rename.specs.Public.{RenamesIn, StandsWhole, RenameSends, most_moves}
+use Rattle.fs_ops.specs.Places.{prefix_of}
 use Rattle.fs_rename.proofs.Told.{renames_in, whole_in}
+use Rattle.fs_rename.specs.Between.{GivesBetween, Route, most_in}
+use Rattle.fs_rename.specs.Public.{RenameSends, RenamesIn, StandsWhole, most_moves}
+use Rattle.fs_rename.specs.code.Meaning.{Asks, always, gives, left, sends}
+use Rattle.fs_rename.specs.code.Rename.{Answer, Renaming, asks, first as first_stage}
+use Rattle.fs_tree.specs.declared.rename.RenameRefusal.TheVariants.{NoSuchBucket, OtherBucket}
+use Rattle.machine.specs.declared.driving.DriveStop.{DriveStop}
+use Rattle.operations.specs.Performed.{Performed, Seen}
+use Rattle.path_keys.specs.Paths.{is_key}
+use Rattle.s3_types.specs.Moment.{after_all}
+use Rattle.s3_types.specs.Store.{Objects, Scene}
+use Rattle.s3_types.specs.declared.request.Actor.{Actor}
+use Rattle.std.proofs.Common.{Err, IfOk, List, None, Ok, Option, Result, Some, arith, length, subst, take, true, ℕ, ◌+◌, ◌≡◌, ◌≤◌}
+use Rattle.std.specs.Prelude.{◌*◌}
 
 -- what a renaming is kept as
 abbrev kept : List ℕ → Renaming → List ℕ → Route
 kept b o c = record { bucket = b; source = o.source; to_bucket = c; target = o.target }
 
-pub given_in : {E : Type 0} (b : List ℕ) (o : Renaming) (c : List ℕ) (r : Route) (z s : Scene) (result : Result Answer E) → kept b o c ≡ r → (is_key o.source ≡ true) × (is_key o.target ≡ true)
+pub given_in : {E : Type 0} (b : List ℕ) (o : Renaming) (c : List ℕ) (r : Route) (z s : Scene) (result : Result Answer E) → kept b o c ≡ r
+    → (is_key o.source ≡ true) × (is_key o.target ≡ true)
     → IfOk result (λ a. GivesBetween b c (gives o) (Err NoSuchBucket) (Err OtherBucket) z a s) → IfOk result (λ a. RenamesIn r z a s)
 given_in b o c r z s (Ok a) e k h =
     subst (λ (r : Route). RenamesIn r z a s) e
@@ -26,7 +33,8 @@ given_in b o c r z s (Err x) e k h = tt
 
 module _ {A : Type 0} {actor : Actor} {event retries : ℕ} {old new : Seen} {result : Result A DriveStop} where
   pub performed_in : (b : List ℕ) (o : Renaming) (c : List ℕ) (r : Route) → kept b o c ≡ r → is_key o.source ≡ true
-      → Performed actor event retries (AlwaysIn b (always o) old.scene) (SendsIn b (asks o (first_stage o)) (sends o) old.scene) old new result
+      → Performed actor event retries (AlwaysIn b (always o) old.scene) (SendsIn b (asks o (first_stage o)) (sends o) old.scene) old new
+      result
       → Performed actor event retries (StandsWhole r old.scene) (RenameSends r old.scene) old new result
   performed_in b o c r e k h =
       subst (λ (r : Route). Performed actor event retries (StandsWhole r old.scene) (RenameSends r old.scene) old new result) e

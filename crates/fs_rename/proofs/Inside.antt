@@ -1,8 +1,27 @@
 -- The new place inside a directory, and the paths above the target.
-use Rattle.fs_rename.proofs.Common.{Bool, Cut, List, None, Option, Path, Some, [], above_by, and_parts, ap, are_elements, arith, below_elements, cut, false, false≢true, inl, inr, inside, inside_of, is_element, is_key, is_marker, key_if, last_end, last_of, length, list_all, list_all-append, marker_ends, marker_is, none_some, not_zero, one_part, own_name, parent, parent_of, parts_append, place_by, prefix_of, refl, some_key, sym, true, true≢false, ℕ, ◌<◌, ◌==◌, ◌∙◌, ◌∷◌, ◌≡◌}
+use Rattle.basics.proofs.Members.{none_some}
+use Rattle.basics.proofs.Pieces.{one_part, parts_append}
 use Rattle.basics.specs.Parts.{parts_of}
-use Rattle.path_keys.proofs.Last.{parts_round, before_none}
+use Rattle.fs_ops.proofs.MarkerAbove.{above_by, not_zero}
+use Rattle.fs_ops.proofs.Names.{last_end}
+use Rattle.fs_ops.specs.Places.{key_if, prefix_of}
 use Rattle.fs_rename.proofs.Places.{some_long}
+use Rattle.fs_rename.specs.code.Rename.{inside_of, place_by}
+use Rattle.fs_tree.proofs.Above.{Cut, cut, marker_ends}
+use Rattle.fs_tree.proofs.Begins.{marker_is}
+use Rattle.fs_tree.specs.Changes.{last_of, own_name, parent}
+use Rattle.fs_tree.specs.Moves.{inside}
+use Rattle.fs_tree.specs.Tree.{is_marker}
+use Rattle.path_keys.proofs.Beneath.{below_elements}
+use Rattle.path_keys.proofs.Keys.{some_key}
+use Rattle.path_keys.proofs.Last.{before_none, parts_round}
+use Rattle.path_keys.specs.Paths.{Path, is_key, parent_of}
+use Rattle.s3_types.specs.Names.{are_elements, is_element}
+use Rattle.std.proofs.Common.{Bool, List, None, Option, Some, ap, arith, false, inl, inr, length, refl, sym, true, ℕ, [], ◌<◌, ◌==◌, ◌∙◌}
+use Rattle.std.proofs.Common.{◌∷◌, ◌≡◌}
+use Rattle.std.proofs.lemmas.Bool.{and_parts, false≢true, true≢false}
+use Rattle.std.proofs.lemmas.List.Folds.{list_all-append}
+use Rattle.std.specs.List.{list_all}
 
 -- ---- elements
 
@@ -26,13 +45,15 @@ own_elements p k = by (cut p)
         let e = parts_round p c.0 c.1 c.2 c.3 in
         let name : own_name p ≡ c.1 = ap last_of e ∙ last_end (parts_of 47 c.0) c.1 in
         let all = sym (ap (list_all is_element) e ∙ list_all-append is_element (parts_of 47 c.0) (c.1 ∷ [])) ∙ k in
-        ap are_elements name ∙ ap (list_all is_element) (one_part 47 c.1 c.3) ∙ (and_parts (list_all is_element (parts_of 47 c.0)) (list_all is_element (c.1 ∷ [])) all).1
+        ap are_elements name ∙ ap (list_all is_element) (one_part 47 c.1 c.3) ∙
+        (and_parts (list_all is_element (parts_of 47 c.0)) (list_all is_element (c.1 ∷ [])) all).1
 
 -- the path inside the target has elements alone
 pub inside_elements : (s t : List ℕ) → 0 < length s → is_key s ≡ true → is_key t ≡ true → are_elements (inside s t) ≡ true
 inside_elements s t some k h = below_elements t (own_name s) h (own_elements s (some_key s some k).0)
 
-pub inside_text : (s t text : List ℕ) → (length s == 0) ≡ false → is_key s ≡ true → is_key t ≡ true → text ≡ inside s t → are_elements text ≡ true
+pub inside_text : (s t text : List ℕ) → (length s == 0) ≡ false → is_key s ≡ true → is_key t ≡ true → text ≡ inside s t
+    → are_elements text ≡ true
 inside_text s t text f k h e = ap are_elements e ∙ inside_elements s t (some_long s f) k h
 
 -- ---- the new places

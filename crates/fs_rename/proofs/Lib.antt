@@ -10,4 +10,3 @@ pub mod Ended
 pub mod RenameLaws
 pub mod Seen
 pub mod Steps
-mod Common

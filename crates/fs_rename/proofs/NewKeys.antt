@@ -1,8 +1,22 @@
 -- New keys are keys.
-use Rattle.fs_rename.proofs.Common.{Bool, Decides-eqb, Err, List, Ok, Result, Some, [], ap, append_assoc, are_elements, arith, cond, cut_elements, elements_append, false, fitting, is_key_path, is_marker, is_too_long, key_elements, key_path_from, le-leb, length, length-append, marker_behind, marker_elements, marker_ends, marker_of, nat_eq, nat_lt, new_by, new_key, new_keys, other_end, refl, rest_of, slice_get, some_is, starts_is, suc, sym, trimmed, true, with_front, zero, ℕ, ◌++◌, ◌-◌, ◌∙◌, ◌∷◌, ◌≡◌, ◌≤◌}
 use Rattle.basics.proofs.Bools.{all_three}
 use Rattle.basics.proofs.Lists.{some_length}
+use Rattle.basics.proofs.Members.{some_is}
+use Rattle.dir_markers.specs.Markers.{marker_of}
 use Rattle.fs_ops.proofs.Showing.{rest_is as rest_follows}
+use Rattle.fs_ops.specs.code.List.{rest_of}
+use Rattle.fs_rename.specs.Keys.{fitting, new_by, new_key, new_keys, with_front}
+use Rattle.fs_tree.proofs.Above.{cut_elements, key_elements, marker_behind, marker_elements, marker_ends, other_end}
+use Rattle.fs_tree.specs.Moves.{is_too_long}
+use Rattle.fs_tree.specs.Tree.{is_marker}
+use Rattle.path_keys.proofs.Beneath.{elements_append, key_path_from}
+use Rattle.s3_types.specs.Names.{are_elements, is_key_path, trimmed}
+use Rattle.std.proofs.Common.{Bool, Err, List, Ok, Result, Some, ap, append_assoc, arith, cond, false, length, length-append, nat_eq}
+use Rattle.std.proofs.Common.{nat_lt, refl, suc, sym, true, zero, ℕ, [], ◌++◌, ◌-◌, ◌∙◌, ◌∷◌, ◌≡◌, ◌≤◌}
+use Rattle.std.proofs.lemmas.Bool.{le-leb}
+use Rattle.std.proofs.lemmas.Bool.Decides.{Decides-eqb}
+use Rattle.std.proofs.lemmas.Slice.Eq.{starts_is}
+use Rattle.std.specs.List.{slice_get}
 
 -- ---- markers and limits
 
@@ -39,7 +53,8 @@ module _ (q front : List ℕ) (e : are_elements q ≡ true) where
       let els = sym (marker_elements (front ++ 47 ∷ r) (front ++ 47 ∷ f) old) ∙ key_elements (front ++ 47 ∷ r) k in
       marker_elements (q ++ 47 ∷ r) (q ++ 47 ∷ f) new ∙ elements_append q f e (cut_elements front f els).1
 
-  by_end : (r : List ℕ) (b : Bool) → is_marker (47 ∷ r) ≡ b → is_key_path (front ++ 47 ∷ r) ≡ true → are_elements (trimmed (q ++ 47 ∷ r)) ≡ true
+  by_end : (r : List ℕ) (b : Bool) → is_marker (47 ∷ r) ≡ b → is_key_path (front ++ 47 ∷ r) ≡ true
+      → are_elements (trimmed (q ++ 47 ∷ r)) ≡ true
   by_end r true i k = let w = marker_ends (47 ∷ r) i in ended r w.0 w.1 k
   by_end r false i k =
       let els = ap are_elements (other_end (front ++ 47 ∷ r) (marker_behind front 47 r ∙ i)) ∙ key_elements (front ++ 47 ∷ r) k in
@@ -47,7 +62,8 @@ module _ (q front : List ℕ) (e : are_elements q ≡ true) where
 
   -- what a key has behind a `/` is so behind other elements, within the limit
   pub below_key : (r : List ℕ) → is_key_path (front ++ 47 ∷ r) ≡ true → is_too_long (q ++ 47 ∷ r) ≡ false → is_key_path (q ++ 47 ∷ r) ≡ true
-  below_key r k f = key_path (q ++ 47 ∷ r) (let l = length-append q (47 ∷ r) in omega (arith, l)) (short (q ++ 47 ∷ r) f) (by_end r (is_marker (47 ∷ r)) refl k)
+  below_key r k f = key_path (q ++ 47 ∷ r) (let l = length-append q (47 ∷ r) in omega (arith, l)) (short (q ++ 47 ∷ r) f)
+      (by_end r (is_marker (47 ∷ r)) refl k)
 
 -- what stands behind a text
 pub rest_is : (from k r : List ℕ) → rest_of from k ≡ Some r → k ≡ from ++ r
@@ -58,7 +74,8 @@ pub new_is : (from to r : List ℕ) → new_key from to (from ++ r) ≡ to ++ r
 new_is from to r = ap (λ o. new_by o to (from ++ r)) (rest_follows from r)
 
 -- what a key has behind a marker, behind another path's marker, is a key within the limit
-pub new_legal : (q from k rest prefix text : List ℕ) → are_elements q ≡ true → is_marker from ≡ true → is_key_path k ≡ true → rest_of from k ≡ Some rest → prefix ≡ marker_of q → text ≡ prefix ++ rest → is_too_long text ≡ false → is_key_path text ≡ true
+pub new_legal : (q from k rest prefix text : List ℕ) → are_elements q ≡ true → is_marker from ≡ true → is_key_path k ≡ true
+    → rest_of from k ≡ Some rest → prefix ≡ marker_of q → text ≡ prefix ++ rest → is_too_long text ≡ false → is_key_path text ≡ true
 new_legal q from k rest prefix text e m h r a b f =
     let w = marker_ends from m in
     let old : k ≡ w.0 ++ 47 ∷ rest = rest_is from k rest r ∙ ap (λ l. l ++ rest) w.1 ∙ append_assoc w.0 (47 ∷ []) rest in
@@ -67,7 +84,8 @@ new_legal q from k rest prefix text e m h r a b f =
 
 -- ---- one key after another
 
-front_again : (new : List (List ℕ)) (q : List ℕ) (m : Result (List (List ℕ)) (List ℕ)) → with_front new (with_front (q ∷ []) m) ≡ with_front (new ++ q ∷ []) m
+front_again : (new : List (List ℕ)) (q : List ℕ) (m : Result (List (List ℕ)) (List ℕ))
+    → with_front new (with_front (q ∷ []) m) ≡ with_front (new ++ q ∷ []) m
 front_again new q (Ok qs) = ap Ok (sym (append_assoc new (q ∷ []) qs))
 front_again new q (Err k) = refl
 

@@ -1,8 +1,32 @@
 -- The moves of a file, and of a directory with all that is below it.
-use Rattle.fs_rename.proofs.Common.{AllFit, AreFree, Bool, Err, HasFile, IsDirMoved, IsDirectory, IsFileMoved, IsFirstTooLong, IsIn, IsMove, IsOneOf, List, Move, None, NoneBelow, Object, Objects, Ok, Result, RisesFrom, Some, Stands, [], ap, append_cancel_left, arith, begins, begins_more, behind, below_stands, cond, copied_all, false, false≢true, inl, inr, irrefl, is_lt, is_marker, is_too_long, keys_below, listed_rises, lt_not, marker_if, marker_key, marker_not_below, marker_of, moves_of, moves_to, new_key, new_keys, none_or_some, none_some, one_begins, parent, refl, rest_after, sources, stands_below, subst, sym, targets, text_cmp, text_total, true, true_or_false, with_front, without, ℕ, ◌++◌, ◌∙◌, ◌∷◌, ◌≡◌, ◌⊎◌}
+use Rattle.basics.proofs.Less.{irrefl, lt_not}
+use Rattle.basics.proofs.Members.{none_or_some, none_some, true_or_false}
+use Rattle.basics.specs.Members.{IsIn, RisesFrom}
+use Rattle.basics.specs.Order.{text_cmp, text_total}
+use Rattle.bucket_ops.proofs.Below.{below_stands, stands_below}
+use Rattle.bucket_ops.specs.Walking.{keys_below}
+use Rattle.dir_markers.specs.Markers.{marker_of}
 use Rattle.fs_rename.proofs.CopyLaws.{is_source, is_target}
-use Rattle.fs_rename.proofs.Whole.{new_at_end, old_at_end, others_at_end}
 use Rattle.fs_rename.proofs.NewKeys.{new_is}
+use Rattle.fs_rename.proofs.Whole.{new_at_end, old_at_end, others_at_end}
+use Rattle.fs_rename.specs.Copies.{AreFree, IsOneOf, Move, copied_all, moves_of, moves_to, sources, targets}
+use Rattle.fs_rename.specs.Keys.{new_key, new_keys, with_front}
+use Rattle.fs_tree.proofs.Begins.{begins_more, one_begins}
+use Rattle.fs_tree.proofs.Dropping.{marker_key, marker_not_below}
+use Rattle.fs_tree.proofs.Moving.{rest_after}
+use Rattle.fs_tree.specs.Changes.{marker_if, parent}
+use Rattle.fs_tree.specs.Moves.{AllFit, IsDirMoved, IsFileMoved, IsFirstTooLong, IsMove, is_too_long}
+use Rattle.fs_tree.specs.Tree.{HasFile, IsDirectory, NoneBelow, Stands, is_marker}
+use Rattle.s3_types.specs.Answer.{without}
+use Rattle.s3_types.specs.Pages.{begins}
+use Rattle.s3_types.specs.Store.{Objects}
+use Rattle.s3_types.specs.declared.object.Object.{Object}
+use Rattle.std.proofs.Common.{Bool, Err, List, None, Ok, Result, Some, ap, arith, cond, false, inl, inr, refl, subst, sym, true, ℕ, []}
+use Rattle.std.proofs.Common.{◌++◌, ◌∙◌, ◌∷◌, ◌≡◌, ◌⊎◌}
+use Rattle.std.proofs.lemmas.Bool.{false≢true}
+use Rattle.std.proofs.lemmas.List.{append_cancel_left}
+use Rattle.std.specs.Ordering.{is_lt}
+use Rattle.store_frame.proofs.Flat.{behind, listed_rises}
 use Rattle.std.specs.FinMap as fin
 
 -- ---- keys that are moved from one text behind another
@@ -23,24 +47,33 @@ module _ (from to : List ℕ) where
   sources_to (k ∷ ks) = ap (λ l. k ∷ l) (sources_to ks)
 
   -- where all fit, these are they
-  found : (x : List ℕ) (ks ls : List (List ℕ)) → ((ls : List (List ℕ)) → new_keys from to ks ≡ Ok ls → (ls ≡ targets (moves_to from to ks)) × ((k : List ℕ) → IsIn k ks → is_too_long (new_key from to k) ≡ false))
-      → (b : Bool) → is_too_long (new_key from to x) ≡ b → (r : Result (List (List ℕ)) (List ℕ)) → new_keys from to ks ≡ r → cond b (Err x) (with_front (new_key from to x ∷ []) r) ≡ Ok ls
+  found : (x : List ℕ) (ks ls : List (List ℕ)) → ((ls : List (List ℕ)) → new_keys from to ks ≡ Ok ls → (ls ≡ targets (moves_to from to ks))
+      × ((k : List ℕ) → IsIn k ks → is_too_long (new_key from to k) ≡ false))
+      → (b : Bool) → is_too_long (new_key from to x) ≡ b → (r : Result (List (List ℕ)) (List ℕ)) → new_keys from to ks ≡ r
+      → cond b (Err x) (with_front (new_key from to x ∷ []) r) ≡ Ok ls
       → (ls ≡ targets (moves_to from to (x ∷ ks))) × ((k : List ℕ) → IsIn k (x ∷ ks) → is_too_long (new_key from to k) ≡ false)
   found x ks ls h b g r e f = grind arith
 
-  pub all_found : (ks ls : List (List ℕ)) → new_keys from to ks ≡ Ok ls → (ls ≡ targets (moves_to from to ks)) × ((k : List ℕ) → IsIn k ks → is_too_long (new_key from to k) ≡ false)
+  pub all_found : (ks ls : List (List ℕ)) → new_keys from to ks ≡ Ok ls → (ls ≡ targets (moves_to from to ks))
+      × ((k : List ℕ) → IsIn k ks → is_too_long (new_key from to k) ≡ false)
   all_found [] ls e = (cc, λ k i. absurd i)
   all_found (x ∷ ks) ls e = found x ks ls (λ ls g. all_found ks ls g) (is_too_long (new_key from to x)) refl (new_keys from to ks) refl e
 
   -- or this is the first that does not
   abbrev IsFirst : List (List ℕ) → List ℕ → Type 0
-  IsFirst ks k = IsIn k ks × (is_too_long (new_key from to k) ≡ true) × ((j : List ℕ) → IsIn j ks → is_lt (text_cmp j k) ≡ true → is_too_long (new_key from to j) ≡ false)
+  IsFirst ks k = IsIn k ks × (is_too_long (new_key from to k) ≡ true)
+      × ((j : List ℕ) → IsIn j ks → is_lt (text_cmp j k) ≡ true → is_too_long (new_key from to j) ≡ false)
 
   long : (x : List ℕ) (ks : List (List ℕ)) (k : List ℕ) → RisesFrom x ks → ((k : List ℕ) → new_keys from to ks ≡ Err k → IsFirst ks k)
-      → (b : Bool) → is_too_long (new_key from to x) ≡ b → (r : Result (List (List ℕ)) (List ℕ)) → new_keys from to ks ≡ r → cond b (Err x) (with_front (new_key from to x ∷ []) r) ≡ Err k → IsFirst (x ∷ ks) k
+      → (b : Bool) → is_too_long (new_key from to x) ≡ b → (r : Result (List (List ℕ)) (List ℕ)) → new_keys from to ks ≡ r
+      → cond b (Err x) (with_front (new_key from to x ∷ []) r) ≡ Err k → IsFirst (x ∷ ks) k
   long x ks k o ih true f r g e =
-      let h : x ≡ k = cc in
-      (inl (sym h), ap (λ v. is_too_long (new_key from to v)) (sym h) ∙ f, λ j i l. absurd (none j i (ap (λ v. is_lt (text_cmp j v)) h ∙ l)))
+      let h : x ≡ k = cc in (
+        inl (sym h),
+        ap (λ v. is_too_long (new_key from to v)) (sym h) ∙ f,
+        λ j i l. absurd
+            (none j i (ap (λ v. is_lt (text_cmp j v)) h ∙ l)),
+      )
     where
       none : (j : List ℕ) → (j ≡ x) ⊎ IsIn j ks → is_lt (text_cmp j x) ≡ true → ⊥
       none j (inl i) l = false≢true (sym (irrefl text_total x) ∙ ap (λ v. is_lt (text_cmp v x)) (sym i) ∙ l)
@@ -53,7 +86,8 @@ module _ (from to : List ℕ) where
 
   pub first_long : (x : List ℕ) (ks : List (List ℕ)) (k : List ℕ) → RisesFrom x ks → new_keys from to ks ≡ Err k → IsFirst ks k
   first_long x [] k o e = absurd (cc)
-  first_long x (y ∷ ks) k o e = long y ks k o.1 (λ k g. first_long y ks k o.1 g) (is_too_long (new_key from to y)) refl (new_keys from to ks) refl e
+  first_long x (y ∷ ks) k o e = long y ks k o.1 (λ k g. first_long y ks k o.1 g) (is_too_long (new_key from to y)) refl
+      (new_keys from to ks) refl e
 
 -- ---- a file
 
@@ -138,7 +172,8 @@ module _ (z : Objects) (x : ℕ) (p : List ℕ) (y : ℕ) (q : List ℕ) where
   dir_from h k l i = let r = moved_rest k l i in inr (h, dir_stands k l i, (r.0, r.1, r.2))
 
   -- all its keys fit
-  pub dir_fit : IsDirectory z (x ∷ p) → ((k : List ℕ) → IsIn k (keys_below P z) → is_too_long (new_key P Q k) ≡ false) → AllFit z (x ∷ p) (y ∷ q)
+  pub dir_fit : IsDirectory z (x ∷ p) → ((k : List ℕ) → IsIn k (keys_below P z) → is_too_long (new_key P Q k) ≡ false)
+      → AllFit z (x ∷ p) (y ∷ q)
   dir_fit h f k l i = let w = move_of P Q (keys_below P z) k l (dir_to h k l i) in ap is_too_long w.1 ∙ f k w.0
 
   -- or this is the first that does not
@@ -154,7 +189,8 @@ module _ (z : Objects) (x : ℕ) (p : List ℕ) (y : ℕ) (q : List ℕ) where
 
   -- the marker above it is no key below it
   pub dir_apart : (k : List ℕ) → marker_if (parent (x ∷ p)) ≡ Some k → IsIn k (sources D) → ⊥
-  dir_apart k e i = marker_not_below x p (parent (x ∷ p)) k refl e (below_stands P z k (subst (IsIn k) (sources_to P Q (keys_below P z)) i)).0
+  dir_apart k e i = marker_not_below x p (parent (x ∷ p)) k refl e (below_stands P z k
+      (subst (IsIn k) (sources_to P Q (keys_below P z)) i)).0
 
   module _ (h : AreFree z D) (none : NoneBelow z Q) (apart : begins P Q ≡ true → ⊥) (above : begins Q P ≡ true → ⊥) where
     abbrev N : Objects
@@ -184,7 +220,8 @@ module _ (z : Objects) (x : ℕ) (p : List ℕ) (y : ℕ) (q : List ℕ) where
     gone : (k : List ℕ) → begins P k ≡ true → fin.get N k ≡ None
     gone k b = elim (none_or_some (fin.get z k)) [
       | inl n ↦ others_at_end None z D h k (no_source k n) (other (true_or_false (begins Q k))) ∙ n
-      | inr s ↦ let w = is_source D k (subst (IsIn k) (sym (sources_to P Q (keys_below P z))) (stands_below x (marker_of p) z k s.0 b s.1)) in old_at_end None z D h k w.0 w.1
+      | inr s ↦ let w = is_source D k (subst (IsIn k) (sym (sources_to P Q (keys_below P z))) (stands_below x (marker_of p) z k s.0 b s.1))
+          in old_at_end None z D h k w.0 w.1
     ]
       where
         other : (begins Q k ≡ true) ⊎ (begins Q k ≡ false) → IsIn k (targets D) → ⊥

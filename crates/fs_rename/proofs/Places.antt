@@ -1,5 +1,13 @@
 -- The target as a new place.
-use Rattle.fs_rename.proofs.Common.{List, None, Some, [], are_elements, arith, false, is_key, is_marker, length, marker_is, none_some, place_of, prefix_of, refl, some_key, true, ℕ, ◌<◌, ◌==◌, ◌∷◌, ◌≡◌}
+use Rattle.basics.proofs.Members.{none_some}
+use Rattle.fs_ops.specs.Places.{prefix_of}
+use Rattle.fs_rename.specs.Keys.{place_of}
+use Rattle.fs_tree.proofs.Begins.{marker_is}
+use Rattle.fs_tree.specs.Tree.{is_marker}
+use Rattle.path_keys.proofs.Keys.{some_key}
+use Rattle.path_keys.specs.Paths.{is_key}
+use Rattle.s3_types.specs.Names.{are_elements}
+use Rattle.std.proofs.Common.{List, None, Some, arith, false, length, refl, true, ℕ, [], ◌<◌, ◌==◌, ◌∷◌, ◌≡◌}
 
 pub some_long : (s : List ℕ) → (length s == 0) ≡ false → 0 < length s
 some_long s h = grind arith

@@ -1,36 +1,67 @@
 -- Renaming, stage by stage.
-use Rattle.std.specs.Prelude.{Bool, Err, List, None, Ok, Option, Result, Some, [], cond, drop, false, take, true, ℕ, ◌∷◌, ◌≡◌}
-use Rattle.fs_rename.proofs.Common.{AllFit, Before, Begun, Copying, Deleting, Directory, Falls, Goes, HasFile, IsAbsent, IsAtOrBelow}
-use Rattle.fs_rename.proofs.Common.{IsCopied, IsCopying, IsDeleted, IsDeleting, IsDirectory, IsFirstTooLong, IsIn, IsMarked, IsMoved}
-use Rattle.fs_rename.proofs.Common.{IsPhases, IsReady, IsSource, IsWalked, IsWalking, Kind, LessCopies, Listing, Look, MayAsk, MayGo}
-use Rattle.fs_rename.proofs.Common.{More, NoFileIf, NoSuchBucket, NoneBelow, Objects, PageEntry, RenameRefusal, Renames, RenamesPath}
-use Rattle.fs_rename.proofs.Common.{Spot, Step, Walked, Whole, all_go, always, ap, append-nil, arith, begins, begins_all, begins_marker}
-use Rattle.fs_rename.proofs.Common.{begins_trans, copied_all, copied_next, copies_left, copy_asks, deleting, edited, false≢true, fits}
-use Rattle.fs_rename.proofs.Common.{gives, has_more, holds, in_front, inl, inr, inside, irrefl, is_key, is_look, is_lt, is_too_long}
-use Rattle.fs_rename.proofs.Common.{key_if, key_no_marker, keys_below, keys_on, left, look_of, marker, marker_at, marker_if, marker_of}
-use Rattle.fs_rename.proofs.Common.{moves_of, new_keys, parent, path_at, phases_of, prefix_of, refl, reply_in, sends, sources}
-use Rattle.fs_rename.proofs.Common.{stands_below, subst, sweep_asks, sweep_falls, sweep_fits, sweep_hears, sweep_stays, sym, text_cmp}
-use Rattle.fs_rename.proofs.Common.{text_total, walk_asks, walk_falls, walk_fits, walk_goes, ◌∙◌}
-use Rattle.fs_tree.specs.Prelude.{MayMove}
-use Rattle.bucket_ops.specs.Prelude.{Ask, Put}
-use Rattle.basics.proofs.Common.{length-take, take-append-drop}
-use Rattle.basics.proofs.Members.{in_back}
-use Rattle.fs_rename.specs.code.Meaning.{Asks, IsBatch, Moves}
-use Rattle.fs_ops.proofs.AtPathLaws.{look_still}
+use Rattle.basics.proofs.Less.{irrefl}
+use Rattle.basics.proofs.Members.{in_back, in_front}
+use Rattle.basics.specs.Members.{IsIn}
+use Rattle.basics.specs.Order.{text_cmp, text_total}
 use Rattle.bucket_ops.proofs.Batches.{batch_goes, deleting_all}
+use Rattle.bucket_ops.proofs.Below.{stands_below}
+use Rattle.bucket_ops.proofs.Sweeps.{sweep_falls, sweep_fits, sweep_stays}
+use Rattle.bucket_ops.proofs.Walks.{walk_falls, walk_fits, walk_goes}
+use Rattle.bucket_ops.specs.Asks.{Ask, Put, edited, is_look, reply_in}
+use Rattle.bucket_ops.specs.Looks.{look_of}
+use Rattle.bucket_ops.specs.Phases.{IsPhases, MayAsk}
+use Rattle.bucket_ops.specs.Sweeping.{IsDeleted, IsDeleting, sweep_asks}
+use Rattle.bucket_ops.specs.Walking.{IsWalked, IsWalking, fits, keys_below, walk_asks}
+use Rattle.bucket_ops.specs.declared.look.Look.{Look}
+use Rattle.dir_markers.specs.Markers.{marker_of}
+use Rattle.fs_ops.proofs.AtPathLaws.{look_still}
 use Rattle.fs_ops.proofs.DeleteLaws.{parent_key}
-use Rattle.fs_rename.specs.declared.copying.CopyStep.{CopyStep}
+use Rattle.fs_ops.proofs.StepLaws.{phases_of}
+use Rattle.fs_ops.specs.Places.{key_if, prefix_of}
 use Rattle.fs_rename.proofs.CopyLaws.{copy_of_one, copying_falls, copying_goes, is_source}
 use Rattle.fs_rename.proofs.Placed.{all_found, dir_fit, dir_long, only_file, sources_to}
-use Rattle.fs_rename.specs.declared.stages.RenameStage.{RenameStage}
 use Rattle.fs_rename.proofs.Seen.{Tells, TellsKind, inside_tells, place_tells}
-use Rattle.fs_rename.proofs.Told.{free_place, moves_from, no_root, stands, was_free_above}
 use Rattle.fs_rename.proofs.Steps.{fall_all, fall_looked, fall_parent, fall_swept, fall_walked}
+use Rattle.fs_rename.proofs.Told.{free_place, moves_from, no_root, stands, was_free_above}
+use Rattle.fs_rename.specs.Copies.{IsCopied, IsCopying, LessCopies, copied_all, copied_next, copies_left, copy_asks, has_more, moves_of}
+use Rattle.fs_rename.specs.Copies.{sources}
+use Rattle.fs_rename.specs.Keys.{new_keys}
+use Rattle.fs_rename.specs.code.Meaning.{Asks, Before, Begun, IsBatch, IsMoved, IsReady, IsSource, MayGo, Moves, NoFileIf, always, gives}
+use Rattle.fs_rename.specs.code.Meaning.{holds, left, path_at, sends}
+use Rattle.fs_rename.specs.code.Rename.{Answer, Renaming, asks, begun as begun_at, file_to, first, found, go, goes, inside_asks_if, is_none}
+use Rattle.fs_rename.specs.code.Rename.{is_root_at, kind_of, listed_to, look_at_asks, looked, on, on_above, on_batch, on_copied, on_inside}
+use Rattle.fs_rename.specs.code.Rename.{on_parent, on_source, on_walk, on_walked, one_copy, seen_at, seen_inside, swept, up, up_to}
+use Rattle.fs_rename.specs.code.Rename.{with_places}
+use Rattle.fs_rename.specs.declared.copying.CopyStep.{CopyStep}
+use Rattle.fs_rename.specs.declared.copying.CopyStep.TheVariants.{All, Next as NextCopy}
+use Rattle.fs_rename.specs.declared.copying.Copying.{Copying}
+use Rattle.fs_rename.specs.declared.stages.Kind.{Kind}
+use Rattle.fs_rename.specs.declared.stages.Kind.TheVariants.{Directory}
+use Rattle.fs_rename.specs.declared.stages.RenameStage.{RenameStage}
+use Rattle.fs_rename.specs.declared.stages.RenameStage.TheVariants.{Batch, Copy, Look as Looking, Parent, PutMarker, Walk}
+use Rattle.fs_rename.specs.declared.stages.Spot.{Spot}
+use Rattle.fs_tree.proofs.Above.{key_no_marker}
+use Rattle.fs_tree.proofs.Begins.{begins_all, begins_marker, begins_trans, marker_at}
+use Rattle.fs_tree.specs.Changes.{IsMarked, marker_if, parent}
+use Rattle.fs_tree.specs.Moves.{AllFit, IsAtOrBelow, IsFirstTooLong, MayMove, inside, is_too_long}
+use Rattle.fs_tree.specs.Renames.{Renames, RenamesPath}
+use Rattle.fs_tree.specs.Tree.{HasFile, IsAbsent, IsDirectory, NoneBelow, marker}
+use Rattle.fs_tree.specs.declared.rename.RenameRefusal.{RenameRefusal}
+use Rattle.fs_tree.specs.declared.rename.RenameRefusal.TheVariants.{NoSuchBucket}
+use Rattle.list_walk.specs.Walks.{Deleting, Listing, More, Walked, Whole, all_go, deleting, keys_on, sweep_hears}
+use Rattle.operations.specs.Plans.{Falls, Goes}
+use Rattle.operations.specs.declared.plan.Step.{Step}
+use Rattle.path_keys.specs.Paths.{is_key}
+use Rattle.s3_types.specs.Pages.{begins}
+use Rattle.s3_types.specs.Store.{Objects}
+use Rattle.s3_types.specs.declared.reply.PageEntry.{PageEntry}
+use Rattle.std.proofs.Common.{ap, arith, inl, inr, refl, subst, sym, ◌∙◌}
+use Rattle.std.proofs.lemmas.Bool.{false≢true}
+use Rattle.std.proofs.lemmas.List.{append-nil, length-take, take-append-drop}
+use Rattle.std.specs.Ordering.{is_lt}
+use Rattle.std.specs.Prelude.{Bool, Err, List, None, Ok, Option, Result, Some, cond, drop, false, take, true, ℕ, [], ◌∷◌, ◌≡◌}
 use Rattle.std.specs.FinMap as fin
 use Rattle.list_walk.specs.Walks as walks
-use Rattle.fs_rename.specs.declared.copying.CopyStep.TheVariants.{Next as NextCopy, All}
-use Rattle.fs_rename.specs.declared.stages.RenameStage.TheVariants.{Look as Looking, Walk, Copy, Batch, Parent, PutMarker}
-use Rattle.fs_rename.specs.code.Rename.{Renaming, Answer, inside_asks_if, seen_inside, seen_at, is_root_at, is_none, kind_of, one_copy, file_to, go, begun as begun_at, on_source, on_inside, on_above, found, looked, with_places, listed_to, on_walked, on_walk, up_to, up, swept, on_copied, on_batch, on_parent, first, asks, on, goes, look_at_asks}
 
 -- ---- a look changes nothing
 
@@ -77,7 +108,8 @@ module _ (x : ℕ) (p t : List ℕ) (z : Objects) where
     new = q;
     moves = inl (h, refl, refl);
     long = f;
-    first = λ j l i less. absurd (false≢true (sym (irrefl text_total (x ∷ p)) ∙ ap (λ v. is_lt (text_cmp v (x ∷ p))) (sym (only_file z x p q h j l i).0) ∙ less));
+    first = λ j l i less. absurd (false≢true (sym (irrefl text_total (x ∷ p)) ∙ ap (λ v. is_lt (text_cmp v (x ∷ p)))
+        (sym (only_file z x p q h j l i).0) ∙ less));
   }
 
   file_goes : (i : Bool) (q : List ℕ) → IsReady O z false i q → On (file_to O (Some q)) z
@@ -85,7 +117,14 @@ module _ (x : ℕ) (p t : List ℕ) (z : Objects) where
     where
       by : (b : Bool) → is_too_long q ≡ b → On (one_copy (Some (x ∷ p)) (cond b None (Some q))) z
       by true e = ((q, record { source = may_move false h.begun; place = h.place; free = h.free }, one_long q e h.begun.source), refl)
-      by false e = (false, i, q, record { ready = h; fit = one_fit q e h.begun.source }, record { keys = refl; places = refl; some = omega arith; copied = refl })
+      by false e = (
+        false,
+        i,
+        q,
+        record { ready = h; fit = one_fit q e h.begun.source },
+        record
+            { keys = refl; places = refl; some = omega arith; copied = refl },
+      )
 
   goes_to : (d i : Bool) (q : List ℕ) → IsReady O z d i q → On (go O d i) z
   goes_to true i q h = (refl, (q, h), refl)
@@ -126,23 +165,34 @@ module _ (x : ℕ) (p t : List ℕ) (z : Objects) where
   )
   placed i y q h [] e (Ok ls) f = absurd (some_listed h.begun.source (sym e))
   placed i y q h (k ∷ ks) e (Ok ls) f =
-      let w = all_found (marker_of (x ∷ p)) (marker_of (y ∷ q)) (keys_below (marker_of (x ∷ p)) z) ls (ap (new_keys (marker_of (x ∷ p)) (marker_of (y ∷ q))) (sym e) ∙ f) in (
+      let w = all_found (marker_of (x ∷ p)) (marker_of (y ∷ q)) (keys_below (marker_of (x ∷ p)) z) ls
+      (ap (new_keys (marker_of (x ∷ p)) (marker_of (y ∷ q))) (sym e) ∙ f) in (
         true,
         i,
         y ∷ q,
         record { ready = h; fit = dir_fit z x p y q h.begun.source w.1 },
-        record { keys = e ∙ sym (sources_to (marker_of (x ∷ p)) (marker_of (y ∷ q)) (keys_below (marker_of (x ∷ p)) z)); places = w.0; some = omega arith; copied = refl },
+        record {
+          keys = e ∙ sym (sources_to (marker_of (x ∷ p)) (marker_of (y ∷ q)) (keys_below (marker_of (x ∷ p)) z));
+          places = w.0;
+          some = omega arith;
+          copied = refl;
+        },
       )
 
-  walk_to : (i : Bool) (q : List ℕ) → IsReady O z true i q → (keys : List (List ℕ)) → keys ≡ keys_below (marker_of (x ∷ p)) z → On (listed_to O (Some q) keys) z
+  walk_to : (i : Bool) (q : List ℕ) → IsReady O z true i q → (keys : List (List ℕ)) → keys ≡ keys_below (marker_of (x ∷ p)) z
+      → On (listed_to O (Some q) keys) z
   walk_to i [] h keys e = absurd h.free
   walk_to i (y ∷ q) h keys e = placed i y q h keys e (new_keys (marker_of (x ∷ p)) (marker_of (y ∷ q)) keys) refl
 
-  walked_on : (i : Bool) (q : List ℕ) → IsReady O z true i q → (w : Walked PageEntry) → IsWalked (marker_of (x ∷ p)) z w → On (on_walked O i w) z
+  walked_on : (i : Bool) (q : List ℕ) → IsReady O z true i q → (w : Walked PageEntry) → IsWalked (marker_of (x ∷ p)) z w
+      → On (on_walked O i w) z
   walked_on i q h (More found) w = (refl, (q, h), w)
-  walked_on i q h (Whole found) w = subst (λ v. On (listed_to O v (keys_on found)) z) (sym h.at) (walk_to i q h (keys_on found) (ap keys_on w))
+  walked_on i q h (Whole found) w = subst (λ v. On (listed_to O v (keys_on found)) z) (sym h.at)
+      (walk_to i q h (keys_on found) (ap keys_on w))
 
-  walking : (i : Bool) (q : List ℕ) (found : List PageEntry) → IsReady O z true i q → IsWalking (marker_of (x ∷ p)) z found → On (on_walk O i found (reply_in z (walk_asks (marker_of (x ∷ p)) found)) (fits (reply_in z (walk_asks (marker_of (x ∷ p)) found)))) z
+  walking : (i : Bool) (q : List ℕ) (found : List PageEntry) → IsReady O z true i q → IsWalking (marker_of (x ∷ p)) z found
+      → On (on_walk O i found (reply_in z (walk_asks (marker_of (x ∷ p)) found)) (fits (reply_in z (walk_asks (marker_of (x ∷ p)) found))))
+      z
   walking i q found h g = grind (arith, walk_fits, walked_on, walk_goes)
 
   -- ---- the copies, the batches and the marker
@@ -154,32 +204,39 @@ module _ (x : ℕ) (p t : List ℕ) (z : Objects) where
       by None e = (m, h, subst (λ u. IsMarked u m m) (sym e) refl)
       by (Some k) e = (e, h)
 
-  batches : (d i : Bool) (q : List ℕ) → MayGo O z d i q → (w : Option walks.Sweep) (m : Objects) → IsDeleted (copied_all z (moves_of d (x ∷ p) q z)) (sources (moves_of d (x ∷ p) q z)) w m → On (swept O w) m
+  batches : (d i : Bool) (q : List ℕ) → MayGo O z d i q → (w : Option walks.Sweep) (m : Objects)
+      → IsDeleted (copied_all z (moves_of d (x ∷ p) q z)) (sources (moves_of d (x ∷ p) q z)) w m → On (swept O w) m
   batches d i q g (Some w) m h = (d, i, q, g, h)
   batches d i q g None m h = upward m (d, i, q, g, h)
 
-  copied_on : (d i : Bool) (q : List ℕ) → MayGo O z d i q → (c : CopyStep) (m : Objects) → IsCopied z (moves_of d (x ∷ p) q z) c m → On (on_copied O c) m
+  copied_on : (d i : Bool) (q : List ℕ) → MayGo O z d i q → (c : CopyStep) (m : Objects) → IsCopied z (moves_of d (x ∷ p) q z) c m
+      → On (on_copied O c) m
   copied_on d i q g (NextCopy c) m h = (d, i, q, g, h)
   copied_on d i q g (All ks) m h =
       batches d i q g (deleting ks) m
       (subst (λ m. IsDeleted (copied_all z (moves_of d (x ∷ p) q z)) (sources (moves_of d (x ∷ p) q z)) (deleting ks) m) (sym h.1)
       (deleting_all (copied_all z (moves_of d (x ∷ p) q z)) (sources (moves_of d (x ∷ p) q z)) ks h.0))
 
-  batch_on : (d i : Bool) (q : List ℕ) → MayGo O z d i q → (w : walks.Sweep) (m : Objects) → IsDeleted (copied_all z (moves_of d (x ∷ p) q z)) (sources (moves_of d (x ∷ p) q z)) (Some w) m
-      → On (on_batch O w (reply_in m (sweep_asks (marker_of (x ∷ p)) w)) (fits (reply_in m (sweep_asks (marker_of (x ∷ p)) w)))) (edited (sweep_asks (marker_of (x ∷ p)) w) m)
+  batch_on : (d i : Bool) (q : List ℕ) → MayGo O z d i q → (w : walks.Sweep) (m : Objects)
+      → IsDeleted (copied_all z (moves_of d (x ∷ p) q z)) (sources (moves_of d (x ∷ p) q z)) (Some w) m
+      → On (on_batch O w (reply_in m (sweep_asks (marker_of (x ∷ p)) w)) (fits (reply_in m (sweep_asks (marker_of (x ∷ p)) w))))
+      (edited (sweep_asks (marker_of (x ∷ p)) w) m)
   batch_on d i q g (Listing keys) m h = absurd h
   batch_on d i q g (Deleting k ks) m h =
-      subst (λ b. On (on_batch O (Deleting k ks) (reply_in m (sweep_asks (marker_of (x ∷ p)) (Deleting k ks))) b) (edited (sweep_asks (marker_of (x ∷ p)) (Deleting k ks)) m)) (sym (sweep_fits (marker_of (x ∷ p)) (Deleting k ks) m))
+      subst (λ b. On (on_batch O (Deleting k ks) (reply_in m (sweep_asks (marker_of (x ∷ p)) (Deleting k ks))) b)
+      (edited (sweep_asks (marker_of (x ∷ p)) (Deleting k ks)) m)) (sym (sweep_fits (marker_of (x ∷ p)) (Deleting k ks) m))
       (batches d i q g (deleting (drop 1000 (k ∷ ks))) (edited (sweep_asks (marker_of (x ∷ p)) (Deleting k ks)) m)
       (batch_goes (copied_all z (moves_of d (x ∷ p) q z)) (sources (moves_of d (x ∷ p) q z)) (k ∷ ks) m h))
 
   -- ---- each stage
 
-  tells_inside : (u : List ℕ) (b : Bool) → NoFileIf b z u → Tells z u (kind_of (is_none (key_if u)) b (seen_inside (key_if u) b (reply_in z (inside_asks_if O (key_if u) b))))
+  tells_inside : (u : List ℕ) (b : Bool) → NoFileIf b z u
+      → Tells z u (kind_of (is_none (key_if u)) b (seen_inside (key_if u) b (reply_in z (inside_asks_if O (key_if u) b))))
   tells_inside [] b n = (tt, tt)
   tells_inside (y ∷ q) b n = inside_tells z y q b n
 
-  stage_look : (s : Spot) (b d : Bool) → Before O z s d → NoFileIf b z (path_at O s) → On (on O (Looking s b d) (reply_in z (look_at_asks O s b))) z
+  stage_look : (s : Spot) (b d : Bool) → Before O z s d → NoFileIf b z (path_at O s)
+      → On (on O (Looking s b d) (reply_in z (look_at_asks O s b))) z
   stage_look s b d h g = grind (arith, look_goes, place_tells, tells_inside)
 
   step : (s : RenameStage) (m : Objects) → holds O z s m → On (on O s (reply_in m (asks O s))) (edited (asks O s) m)
@@ -187,20 +244,27 @@ module _ (x : ℕ) (p t : List ℕ) (z : Objects) where
       subst (On (on O (Looking s b d) (reply_in m (look_at_asks O s b)))) (sym (still O s b m))
       (subst (λ m. On (on O (Looking s b d) (reply_in m (look_at_asks O s b))) m) (sym h.0) (stage_look s b d h.1 h.2))
   step (Walk i found) m h =
-      subst (λ m. On (on_walk O i found (reply_in m (walk_asks (marker_of (x ∷ p)) found)) (fits (reply_in m (walk_asks (marker_of (x ∷ p)) found)))) m) (sym h.0) (walking i h.1.0 found h.1.1 h.2)
-  step (Copy c) m h = copied_on h.0 h.1 h.2 h.3 (copied_next (has_more c) c) (edited (copy_asks c) m) (copying_goes z (moves_of h.0 (x ∷ p) h.2 z) c m h.4)
+      subst (λ m. On (on_walk O i found (reply_in m (walk_asks (marker_of (x ∷ p)) found))
+      (fits (reply_in m (walk_asks (marker_of (x ∷ p)) found)))) m) (sym h.0) (walking i h.1.0 found h.1.1 h.2)
+  step (Copy c) m h = copied_on h.0 h.1 h.2 h.3 (copied_next (has_more c) c) (edited (copy_asks c) m)
+      (copying_goes z (moves_of h.0 (x ∷ p) h.2 z) c m h.4)
   step (Batch w) m h = batch_on h.0 h.1 h.2 h.3 w m h.4
-  step (Parent k) m h = parent_key (λ l. On (on_parent k l) m) (parent (x ∷ p)) k m h.0 (λ s. (m, h.1, subst (λ u. IsMarked u m m) (sym h.0) (inl (s, refl)))) (λ n. (h.0, h.1, n))
+  step (Parent k) m h = parent_key (λ l. On (on_parent k l) m) (parent (x ∷ p)) k m h.0
+      (λ s. (m, h.1, subst (λ u. IsMarked u m m) (sym h.0) (inl (s, refl)))) (λ n. (h.0, h.1, n))
   step (PutMarker k) m h = (m, h.1, subst (λ u. IsMarked u m (fin.insert m k marker)) (sym h.0) (inr (h.2, refl)))
 
 -- ---- at the root
 
 root_step : (t : List ℕ) (z : Objects) (s : RenameStage) (m : Objects) → holds (record { source = []; target = t }) z s m
-    → Goes (holds (record { source = []; target = t }) z) (gives (record { source = []; target = t }) z) (on (record { source = []; target = t }) s (reply_in m (asks (record { source = []; target = t }) s))) (edited (asks (record { source = []; target = t }) s) m)
+    → Goes (holds (record { source = []; target = t }) z) (gives (record { source = []; target = t }) z)
+    (on (record { source = []; target = t }) s (reply_in m (asks (record { source = []; target = t }) s)))
+    (edited (asks (record { source = []; target = t }) s) m)
 root_step t z s m h = grind arith
 
 steps : (p t : List ℕ) (z : Objects) (s : RenameStage) (m : Objects) → holds (record { source = p; target = t }) z s m
-    → Goes (holds (record { source = p; target = t }) z) (gives (record { source = p; target = t }) z) (on (record { source = p; target = t }) s (reply_in m (asks (record { source = p; target = t }) s))) (edited (asks (record { source = p; target = t }) s) m)
+    → Goes (holds (record { source = p; target = t }) z) (gives (record { source = p; target = t }) z)
+    (on (record { source = p; target = t }) s (reply_in m (asks (record { source = p; target = t }) s)))
+    (edited (asks (record { source = p; target = t }) s) m)
 steps [] t z s m h = root_step t z s m h
 steps (x ∷ p) t z s m h = step x p t z s m h
 
@@ -210,22 +274,29 @@ steps (x ∷ p) t z s m h = step x p t z s m h
 told : (r b : Bool) (l : Look) → b ≡ true → kind_of r b l ≡ None → ⊥
 told r b l h g = grind arith
 
-falls_walk : (o : Renaming) (i : Bool) (found : List PageEntry) (m : Objects) → Falls (left o) (on o (Walk i found) (reply_in m (asks o (Walk i found)))) m (left o (Walk i found) m)
+falls_walk : (o : Renaming) (i : Bool) (found : List PageEntry) (m : Objects)
+    → Falls (left o) (on o (Walk i found) (reply_in m (asks o (Walk i found)))) m (left o (Walk i found) m)
 falls_walk o i found m = grind (arith, walk_fits, fall_walked, walk_falls)
 
-falls_batch : (o : Renaming) (w : walks.Sweep) (m : Objects) → Falls (left o) (on o (Batch w) (reply_in m (asks o (Batch w)))) (edited (asks o (Batch w)) m) (left o (Batch w) m)
+falls_batch : (o : Renaming) (w : walks.Sweep) (m : Objects)
+    → Falls (left o) (on o (Batch w) (reply_in m (asks o (Batch w)))) (edited (asks o (Batch w)) m) (left o (Batch w) m)
 falls_batch o w m =
-    subst (λ b. Falls (left o) (on_batch o w (reply_in m (sweep_asks (prefix_of o.source) w)) b) (edited (sweep_asks (prefix_of o.source) w) m) (left o (Batch w) m)) (sym (sweep_fits (prefix_of o.source) w m))
-    (fall_swept o (edited (sweep_asks (prefix_of o.source) w) m) (sweep_hears all_go w (reply_in m (sweep_asks (prefix_of o.source) w))) _ (sweep_falls (prefix_of o.source) w m))
+    subst (λ b. Falls (left o) (on_batch o w (reply_in m (sweep_asks (prefix_of o.source) w)) b)
+    (edited (sweep_asks (prefix_of o.source) w) m) (left o (Batch w) m)) (sym (sweep_fits (prefix_of o.source) w m))
+    (fall_swept o (edited (sweep_asks (prefix_of o.source) w) m) (sweep_hears all_go w (reply_in m (sweep_asks (prefix_of o.source) w))) _
+    (sweep_falls (prefix_of o.source) w m))
 
-falls_copied : (o : Renaming) (c : Copying) (m : Objects) (b : Bool) → LessCopies (copied_next b c) (copies_left c) → Falls (left o) (on_copied o (copied_next b c)) m (left o (Copy c) m)
+falls_copied : (o : Renaming) (c : Copying) (m : Objects) (b : Bool) → LessCopies (copied_next b c) (copies_left c)
+    → Falls (left o) (on_copied o (copied_next b c)) m (left o (Copy c) m)
 falls_copied o c m true h = omega (arith, h)
 falls_copied o c m false h = fall_all o m c.keys _ (omega arith)
 
-falls : (o : Renaming) (z : Objects) (s : RenameStage) (m : Objects) → holds o z s m → Falls (left o) (on o s (reply_in m (asks o s))) (edited (asks o s) m) (left o s m)
+falls : (o : Renaming) (z : Objects) (s : RenameStage) (m : Objects) → holds o z s m
+    → Falls (left o) (on o s (reply_in m (asks o s))) (edited (asks o s) m) (left o s m)
 falls o z (Looking s b d) m h =
     subst (λ n. Falls (left o) (on o (Looking s b d) (reply_in m (look_at_asks o s b))) n (left o (Looking s b d) m)) (sym (still o s b m))
-    (fall_looked o m s d b (kind_of (is_root_at o s) b (seen_at o s b (reply_in m (look_at_asks o s b)))) (told (is_root_at o s) b (seen_at o s b (reply_in m (look_at_asks o s b)))))
+    (fall_looked o m s d b (kind_of (is_root_at o s) b (seen_at o s b (reply_in m (look_at_asks o s b))))
+    (told (is_root_at o s) b (seen_at o s b (reply_in m (look_at_asks o s b)))))
 falls o z (Walk i found) m h = falls_walk o i found m
 falls o z (Copy c) m h = falls_copied o c (edited (copy_asks c) m) (has_more c) (copying_falls c h.4.some)
 falls o z (Batch w) m h = falls_batch o w m
@@ -237,11 +308,21 @@ stays o s m = grind (arith, still, sweep_stays)
 
 -- ---- at any moment
 
-deleted_way : (o : Renaming) (z : Objects) (d i : Bool) (q : List ℕ) (w : walks.Sweep) (m : Objects) → MayGo o z d i q → IsDeleted (copied_all z (moves_of d o.source q z)) (sources (moves_of d o.source q z)) (Some w) m → always o z m
+deleted_way : (o : Renaming) (z : Objects) (d i : Bool) (q : List ℕ) (w : walks.Sweep) (m : Objects) → MayGo o z d i q
+    → IsDeleted (copied_all z (moves_of d o.source q z)) (sources (moves_of d o.source q z)) (Some w) m → always o z m
 deleted_way o z d i q w m h g = grind arith
 
 moved_way : (o : Renaming) (z m : Objects) → IsMoved o z m → always o z m
-moved_way o z m h = inr (h.0, h.1, h.2, h.3, inr (inl ([], (sources (moves_of h.0 o.source h.2 z), append-nil (sources (moves_of h.0 o.source h.2 z)), h.4))))
+moved_way o z m h = inr (
+  h.0,
+  h.1,
+  h.2,
+  h.3,
+  inr (inl (
+    [],
+    (sources (moves_of h.0 o.source h.2 z), append-nil (sources (moves_of h.0 o.source h.2 z)), h.4),
+  )),
+)
 
 during : (o : Renaming) (z : Objects) (s : RenameStage) (m : Objects) → holds o z s m → always o z m
 during o z (Copy c) m h = inr (h.0, h.1, h.2, h.3, inl (c.from, h.4.copied))

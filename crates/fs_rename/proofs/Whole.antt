@@ -1,6 +1,24 @@
 -- Each object stands whole while it is moved.
-use Rattle.fs_rename.proofs.Common.{AreFree, IsIn, IsMarked, IsMove, IsOneOf, IsWhole, List, Move, None, NoneBelow, Objects, Option, RisesFrom, Some, [], ap, arith, begins_all, behind, copied_all, false≢true, gone_in, inl, inr, is_in, is_lt, kept_out, lt_not, marker, marker_if, marker_key, none_some, parent, refl, same_or_other, sources, subst, suc, sym, take, take-map, targets, text_cmp, text_here, text_other, text_total, true, without, ℕ, ◌∙◌, ◌∷◌, ◌≡◌, ◌⊎◌}
-use Rattle.fs_rename.proofs.CopyLaws.{all_stand, copied_stand, copies_keep, in_sources, in_targets, is_source, is_target, not_target, one_in_take}
+use Rattle.basics.proofs.Less.{lt_not}
+use Rattle.basics.proofs.Members.{none_some, same_or_other, text_here, text_other}
+use Rattle.basics.specs.Members.{IsIn, RisesFrom}
+use Rattle.basics.specs.Order.{text_cmp, text_total}
+use Rattle.bucket_ops.proofs.Below.{gone_in, is_in, kept_out}
+use Rattle.fs_rename.proofs.CopyLaws.{all_stand, copied_stand, copies_keep, in_sources, in_targets, is_source, is_target, not_target}
+use Rattle.fs_rename.proofs.CopyLaws.{one_in_take}
+use Rattle.fs_rename.specs.Copies.{AreFree, IsOneOf, Move, copied_all, sources, targets}
+use Rattle.fs_tree.proofs.Begins.{begins_all}
+use Rattle.fs_tree.proofs.Dropping.{marker_key}
+use Rattle.fs_tree.specs.Changes.{IsMarked, marker_if, parent}
+use Rattle.fs_tree.specs.Moves.{IsMove, IsWhole}
+use Rattle.fs_tree.specs.Tree.{NoneBelow, marker}
+use Rattle.s3_types.specs.Answer.{without}
+use Rattle.s3_types.specs.Store.{Objects}
+use Rattle.std.proofs.Common.{List, None, Option, Some, ap, arith, inl, inr, refl, subst, suc, sym, take, true, ℕ, [], ◌∙◌, ◌∷◌, ◌≡◌, ◌⊎◌}
+use Rattle.std.proofs.lemmas.Bool.{false≢true}
+use Rattle.std.specs.List.{take-map}
+use Rattle.std.specs.Ordering.{is_lt}
+use Rattle.store_frame.proofs.Flat.{behind}
 use Rattle.std.specs.FinMap as fin
 
 -- a key is the marker u, which was put where nothing stood
@@ -11,12 +29,14 @@ IsPut u z m k = (u ≡ Some k) × (fin.get z k ≡ None) × (fin.get m k ≡ Som
 pub record AreWhole (u : Option (List ℕ)) (z : Objects) (ps : List Move) (m : Objects) : Type 0 where
   pub moved : (k l : List ℕ) → IsOneOf k l ps → (fin.get m k ≡ fin.get z k) ⊎ ((fin.get m k ≡ None) × (fin.get m l ≡ fin.get z k))
   pub new : (k l : List ℕ) → IsOneOf k l ps → (fin.get m l ≡ None) ⊎ (fin.get m l ≡ fin.get z k)
-  pub in_order : (k l j i : List ℕ) → IsOneOf k l ps → IsOneOf j i ps → is_lt (text_cmp j k) ≡ true → fin.get m l ≡ fin.get z k → fin.get m i ≡ fin.get z j
+  pub in_order : (k l j i : List ℕ) → IsOneOf k l ps → IsOneOf j i ps → is_lt (text_cmp j k) ≡ true → fin.get m l ≡ fin.get z k
+      → fin.get m i ≡ fin.get z j
   pub all_first : (k l j i : List ℕ) → IsOneOf k l ps → IsOneOf j i ps → fin.get m k ≡ None → fin.get m i ≡ fin.get z j
   pub others : (k : List ℕ) → (IsIn k (sources ps) → ⊥) → (IsIn k (targets ps) → ⊥) → (fin.get m k ≡ fin.get z k) ⊎ IsPut u z m k
 
 -- of keys that rise, those before one of the first are among the first
-earlier : (x : List ℕ) (ks : List (List ℕ)) → RisesFrom x ks → (n : ℕ) (k j : List ℕ) → IsIn k (take n ks) → IsIn j ks → is_lt (text_cmp j k) ≡ true → IsIn j (take n ks)
+earlier : (x : List ℕ) (ks : List (List ℕ)) → RisesFrom x ks → (n : ℕ) (k j : List ℕ) → IsIn k (take n ks) → IsIn j ks
+    → is_lt (text_cmp j k) ≡ true → IsIn j (take n ks)
 earlier x (q ∷ ks) r (suc n) k j h (inl e) l = inl e
 earlier x (q ∷ ks) r (suc n) k j (inl e) (inr i) l =
     absurd (false≢true (sym (lt_not text_total q j (behind q j ks r.1 i)) ∙ ap (λ v. is_lt (text_cmp j v)) (sym e) ∙ l))
@@ -32,7 +52,8 @@ module _ (u : Option (List ℕ)) (z : Objects) (ps : List Move) (h : AreFree z p
     M = copied_all z (take n ps)
 
     old_stays : (k : List ℕ) → (IsIn k (targets ps) → ⊥) → fin.get M k ≡ fin.get z k
-    old_stays k f = copies_keep z (take n ps) k (λ t. let w = is_target (take n ps) k t in f (in_targets ps w.0 k (one_in_take n w.0 k ps w.1)))
+    old_stays k f = copies_keep z (take n ps) k (λ t. let w = is_target (take n ps) k t in f
+        (in_targets ps w.0 k (one_in_take n w.0 k ps w.1)))
 
     new_copied : (k l : List ℕ) → IsOneOf k l ps → IsIn l (targets (take n ps)) → IsOneOf k l (take n ps)
     new_copied k l i t =
@@ -41,9 +62,13 @@ module _ (u : Option (List ℕ)) (z : Objects) (ps : List Move) (h : AreFree z p
 
     copying_new : (k l : List ℕ) → IsOneOf k l ps → (fin.get M l ≡ None) ⊎ (fin.get M l ≡ fin.get z k)
     copying_new k l i =
-        elim (is_in l (targets (take n ps))) [ inl t ↦ inr (copied_stand z ps h n k l (new_copied k l i t)) | inr f ↦ inl (copies_keep z (take n ps) l f ∙ h.free k l i) ]
+        elim (is_in l (targets (take n ps))) [
+          | inl t ↦ inr (copied_stand z ps h n k l (new_copied k l i t))
+          | inr f ↦ inl (copies_keep z (take n ps) l f ∙ h.free k l i)
+        ]
 
-    copying_order : (k l j i : List ℕ) → IsOneOf k l ps → IsOneOf j i ps → is_lt (text_cmp j k) ≡ true → fin.get M l ≡ fin.get z k → fin.get M i ≡ fin.get z j
+    copying_order : (k l j i : List ℕ) → IsOneOf k l ps → IsOneOf j i ps → is_lt (text_cmp j k) ≡ true → fin.get M l ≡ fin.get z k
+        → fin.get M i ≡ fin.get z j
     copying_order k l j i a b less e = by (is_in l (targets (take n ps)))
       where
         first : IsIn k (take n (sources ps)) → IsIn j (sources (take n ps))
@@ -55,7 +80,8 @@ module _ (u : Option (List ℕ)) (z : Objects) (ps : List Move) (h : AreFree z p
         by : IsIn l (targets (take n ps)) ⊎ (IsIn l (targets (take n ps)) → ⊥) → fin.get M i ≡ fin.get z j
         by (inl t) =
             copied_stand z ps h n j i
-            (found (is_source (take n ps) j (first (subst (IsIn k) (sym (take-map (λ (p : Move). p.0) n ps)) (in_sources (take n ps) k l (new_copied k l a t))))))
+            (found (is_source (take n ps) j (first (subst (IsIn k) (sym (take-map (λ (p : Move). p.0) n ps))
+            (in_sources (take n ps) k l (new_copied k l a t))))))
         by (inr f) = absurd (none_some (sym e ∙ copies_keep z (take n ps) l f ∙ h.free k l a) (h.stands k l a).1)
 
     pub whole_copying : AreWhole u z ps M
@@ -140,7 +166,8 @@ module _ (u : Option (List ℕ)) (z : Objects) (ps : List Move) (h : AreFree z p
     whole_put : AreWhole u z ps E
     whole_put = grind (arith, put_old, put_new, put_others)
 
-  whole_by : (v : Option (List ℕ)) (m : Objects) → u ≡ v → ((q : List ℕ) → v ≡ Some q → IsIn q (sources ps) → ⊥) → IsMarked v D m → AreWhole u z ps m
+  whole_by : (v : Option (List ℕ)) (m : Objects) → u ≡ v → ((q : List ℕ) → v ≡ Some q → IsIn q (sources ps) → ⊥) → IsMarked v D m
+      → AreWhole u z ps m
   whole_by v m h g e = grind (arith, whole_emptying, whole_put)
 
   pub whole_marked : (m : Objects) → ((q : List ℕ) → u ≡ Some q → IsIn q (sources ps) → ⊥) → IsMarked u D m → AreWhole u z ps m
@@ -148,13 +175,18 @@ module _ (u : Option (List ℕ)) (z : Objects) (ps : List Move) (h : AreFree z p
 
 -- ---- by the moves of a path
 
-pub is_whole : (p q : List ℕ) (z m : Objects) (ps : List Move) → ((k l : List ℕ) → IsMove z p q k l → IsOneOf k l ps) → ((k l : List ℕ) → IsOneOf k l ps → IsMove z p q k l) → AreWhole (marker_if (parent p)) z ps m → IsWhole p q z m
+pub is_whole : (p q : List ℕ) (z m : Objects) (ps : List Move) → ((k l : List ℕ) → IsMove z p q k l → IsOneOf k l ps)
+    → ((k l : List ℕ) → IsOneOf k l ps → IsMove z p q k l) → AreWhole (marker_if (parent p)) z ps m → IsWhole p q z m
 is_whole p q z m ps to from h = record {
   moved = λ k l i. h.moved k l (to k l i);
   new = λ k l i. h.new k l (to k l i);
   in_order = λ k l j i a b less e. h.in_order k l j i (to k l a) (to j i b) less e;
   all_first = λ k l j i a b e. h.all_first k l j i (to k l a) (to j i b) e;
-  files = λ k f e. (elim (h.others k (not_old k e.0) (not_new k e.1)) [ inl e ↦ e | inr e ↦ absurd (false≢true (sym f ∙ marker_key (parent p) k e.0)) ]);
+  files = λ k f e. (elim (h.others k (not_old k e.0) (not_new k e.1)) [
+    | inl e ↦ e
+    | inr e ↦ absurd
+        (false≢true (sym f ∙ marker_key (parent p) k e.0))
+  ]);
   markers = λ k e. h.others k (not_old k e.0) (not_new k e.1);
 }
   where

@@ -1,11 +1,18 @@
 -- Keys that are copied one by one, and deleted when all are.
-use Rattle.std.specs.Prelude.{◌≡◌, ◌⊎◌, ℕ, ◌+◌, ◌-◌, ◌<◌, ◌&&◌, nat_lt, Bool, true, false, List, [], ◌∷◌, map, take, drop, length, None}
-use Rattle.fs_ops.specs.Prelude.{Objects, copied, RisesFrom, marker_of, Stands, keys_below, Ask, Copy, bucket_asks}
-use Rattle.std.specs.FinMap as fin
+use Rattle.basics.specs.Members.{RisesFrom}
+use Rattle.bucket_ops.specs.Asks.{Ask, Copy}
+use Rattle.bucket_ops.specs.Walking.{keys_below}
+use Rattle.dir_markers.specs.Markers.{marker_of}
+use Rattle.fs_ops.specs.Places.{bucket_asks}
 use Rattle.fs_rename.specs.Keys.{new_key}
-use Rattle.fs_rename.specs.declared.copying.Copying.{Copying}
 use Rattle.fs_rename.specs.declared.copying.CopyStep.{CopyStep}
-use Rattle.fs_rename.specs.declared.copying.CopyStep.TheVariants.{Next, All}
+use Rattle.fs_rename.specs.declared.copying.CopyStep.TheVariants.{All, Next}
+use Rattle.fs_rename.specs.declared.copying.Copying.{Copying}
+use Rattle.fs_tree.specs.Tree.{Stands}
+use Rattle.s3_types.specs.Answer.{copied}
+use Rattle.s3_types.specs.Store.{Objects}
+use Rattle.std.specs.Prelude.{Bool, List, None, drop, false, length, map, nat_lt, take, true, ℕ, [], ◌&&◌, ◌+◌, ◌-◌, ◌<◌, ◌∷◌, ◌≡◌, ◌⊎◌}
+use Rattle.std.specs.FinMap as fin
 
 -- a key and its new key
 abbrev pub Move : Type 0

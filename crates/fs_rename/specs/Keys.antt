@@ -1,6 +1,8 @@
 -- What keys become where they move to another place (Hadoop, S3A: renaming).
-use Rattle.std.specs.Prelude.{ℕ, cond, List, [], ◌∷◌, ◌++◌, Option, Some, None, Result, Ok, Err}
-use Rattle.fs_ops.specs.Prelude.{is_too_long, rest_of, key_if}
+use Rattle.fs_ops.specs.Places.{key_if}
+use Rattle.fs_ops.specs.code.List.{rest_of}
+use Rattle.fs_tree.specs.Moves.{is_too_long}
+use Rattle.std.specs.Prelude.{Err, List, None, Ok, Option, Result, Some, cond, ℕ, [], ◌++◌, ◌∷◌}
 
 -- a target as a new place; nothing is moved to a root, or from one
 abbrev pub place_of : List ℕ → List ℕ → Option (List ℕ)

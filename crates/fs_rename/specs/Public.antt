@@ -1,12 +1,20 @@
 -- What the renaming of a path to another one answers, and leaves (Hadoop FileSystem specification, rename).
-use Rattle.std.specs.Prelude.{ℕ, ◌+◌, ◌*◌, length, Err}
-use Rattle.fs_ops.specs.Prelude.{Scene, Request, AlwaysIn, SendsIn, MayStand, Renames, objects_at, all_below, prefix_of}
-use Rattle.fs_tree.specs.declared.rename.RenameRefusal.TheVariants.{OtherBucket, NoSuchBucket}
-use Rattle.fs_rename.specs.Between.{Route, GivesBetween, most_in}
-use Rattle.fs_rename.specs.code.Rename.{Renaming, Answer, first, asks}
+use Rattle.bucket_ops.specs.Asks.{objects_at}
+use Rattle.bucket_ops.specs.Phases.{AlwaysIn, SendsIn}
+use Rattle.bucket_ops.specs.Walking.{all_below}
+use Rattle.fs_ops.specs.Places.{prefix_of}
+use Rattle.fs_rename.specs.Between.{GivesBetween, Route, most_in}
 use Rattle.fs_rename.specs.code.Meaning.{Asks}
+use Rattle.fs_rename.specs.code.Rename.{Answer, Renaming, asks, first}
+use Rattle.fs_tree.specs.Moves.{MayStand}
+use Rattle.fs_tree.specs.Renames.{Renames}
+use Rattle.fs_tree.specs.declared.rename.RenameRefusal.TheVariants.{NoSuchBucket, OtherBucket}
+use Rattle.s3_types.specs.Store.{Scene}
+use Rattle.s3_types.specs.declared.request.Request.{Request}
+use Rattle.std.specs.Prelude.{Err, length, ℕ, ◌*◌, ◌+◌}
 
--- in one bucket it is what it is among the bucket's objects, and nothing else changes; between two buckets it is refused, before anything else, and nothing changes
+-- in one bucket it is what it is among the bucket's objects, and nothing else changes; between two buckets it is refused, before anything
+-- else, and nothing changes
 abbrev pub RenamesIn : Route → Scene → Answer → Scene → Type 0
 RenamesIn r z a s = GivesBetween r.bucket r.to_bucket (Renames r.source r.target) (Err NoSuchBucket) (Err OtherBucket) z a s
 

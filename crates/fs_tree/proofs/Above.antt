@@ -1,11 +1,25 @@
 -- The paths above a path.
-use Rattle.fs_tree.proofs.Common.{IsIn, List, [], and_parts, ap, append_assoc, are_elements, arith, before_none, before_slash, begins, below, eq_nat, eqb-true, false, false≢true, in_append, in_front, in_last, inl, inr, is_element, is_key, is_key_path, is_marker, is_other, join_with_byte, keys_above, length, length-append, list_all, list_all-append, map, marker_of, nat_eq, nat_le, not, one_part, parent, parts_append, parts_of, parts_round, refl, subst, suc, sym, trimmed, true, true_or_false, zero, ℕ, ◌&&◌, ◌++◌, ◌<◌, ◌==◌, ◌∙◌, ◌∷◌, ◌≡◌, ◌⊎◌}
 use Rattle.basics.proofs.Bools.{contrary}
+use Rattle.basics.proofs.Members.{eq_nat, in_append, in_front, in_last, true_or_false}
+use Rattle.basics.proofs.Pieces.{one_part, parts_append}
+use Rattle.basics.specs.Members.{IsIn}
+use Rattle.basics.specs.Parts.{is_other, parts_of}
+use Rattle.dir_markers.proofs.Above.{above_more, trimmed_marker}
+use Rattle.dir_markers.specs.Markers.{fronts, keys_above, marker_of}
+use Rattle.fs_tree.proofs.Begins.{begins_all, begins_marker, begins_more, begins_trans, marker_at, marker_is, no_empty}
+use Rattle.fs_tree.specs.Changes.{parent}
+use Rattle.fs_tree.specs.Tree.{is_marker}
 use Rattle.path_keys.proofs.Ends.{no_end}
 use Rattle.path_keys.proofs.Keys.{some_key}
-use Rattle.dir_markers.specs.Markers.{fronts}
-use Rattle.dir_markers.proofs.Above.{above_more, trimmed_marker}
-use Rattle.fs_tree.proofs.Begins.{begins_more, begins_all, begins_trans, begins_marker, marker_is, marker_at, no_empty}
+use Rattle.path_keys.proofs.Last.{before_none, before_slash, parts_round}
+use Rattle.path_keys.specs.Paths.{below, is_key}
+use Rattle.s3_types.specs.Names.{are_elements, is_element, is_key_path, trimmed}
+use Rattle.s3_types.specs.Pages.{begins}
+use Rattle.std.proofs.Common.{List, ap, append_assoc, arith, false, inl, inr, length, length-append, map, nat_eq, nat_le, not, refl, subst}
+use Rattle.std.proofs.Common.{suc, sym, true, zero, ℕ, [], ◌&&◌, ◌++◌, ◌<◌, ◌==◌, ◌∙◌, ◌∷◌, ◌≡◌, ◌⊎◌}
+use Rattle.std.proofs.lemmas.Bool.{and_parts, eqb-true, false≢true}
+use Rattle.std.proofs.lemmas.List.Folds.{list_all-append}
+use Rattle.std.specs.List.{join_with_byte, list_all}
 
 -- ---- a text cut at its last `/`
 
@@ -27,9 +41,11 @@ no_begin q [] n h = no_empty q h
 no_begin [] (x ∷ p) n h =
     let e : 47 ≡ x = eq_nat 47 x (and_parts (nat_eq 47 x) true h).0 in
     false≢true (ap (λ v. not (v == 47) && list_all (is_other 47) p) e ∙ n)
-no_begin (y ∷ q) (x ∷ p) n h = no_begin q p (and_parts (not (x == 47)) (list_all (is_other 47) p) n).1 (and_parts (nat_eq y x) (begins (marker_of q) p) h).1
+no_begin (y ∷ q) (x ∷ p) n h = no_begin q p (and_parts (not (x == 47)) (list_all (is_other 47) p) n).1
+    (and_parts (nat_eq y x) (begins (marker_of q) p) h).1
 
-begins_cut : (q front back : List ℕ) → NoSlash back → begins (marker_of q) (front ++ 47 ∷ back) ≡ true → begins (marker_of q) (marker_of front) ≡ true
+begins_cut : (q front back : List ℕ) → NoSlash back → begins (marker_of q) (front ++ 47 ∷ back) ≡ true
+    → begins (marker_of q) (marker_of front) ≡ true
 begins_cut [] [] back n h = refl
 begins_cut [] (x ∷ front) back n h = h
 begins_cut (y ∷ q) [] back n h = absurd (no_begin q back n (and_parts (nat_eq y 47) (begins (marker_of q) back) h).1)
@@ -39,7 +55,8 @@ begins_cut (y ∷ q) (x ∷ front) back n h =
 
 front_begins : (front back : List ℕ) → begins (marker_of front) (front ++ 47 ∷ back) ≡ true
 front_begins [] back = refl
-front_begins (x ∷ front) back = ap (λ b. b && begins (marker_of front) (front ++ 47 ∷ back)) (and_parts (nat_eq x x) (begins front front) (begins_all (x ∷ front))).0 ∙ front_begins front back
+front_begins (x ∷ front) back = ap (λ b. b && begins (marker_of front) (front ++ 47 ∷ back))
+    (and_parts (nat_eq x x) (begins front front) (begins_all (x ∷ front))).0 ∙ front_begins front back
 
 -- ---- the path above a path
 
@@ -106,7 +123,8 @@ pub key_no_marker : (x : ℕ) (p : List ℕ) → is_key (x ∷ p) ≡ true → i
 key_no_marker x p k = contrary (is_marker (x ∷ p)) (λ e.
     let w = marker_ends (x ∷ p) e in
     let parts = ap (parts_of 47) w.1 ∙ parts_append 47 w.0 [] ∙ ap (λ (l : List (List ℕ)). parts_of 47 w.0 ++ l) (one_part 47 [] refl) in
-    let all : (list_all is_element (parts_of 47 w.0) && false) ≡ true = sym (ap (list_all is_element) parts ∙ list_all-append is_element (parts_of 47 w.0) ([] ∷ []))
+    let all : (list_all is_element (parts_of 47 w.0) && false) ≡ true = sym (ap (list_all is_element) parts ∙ list_all-append is_element
+    (parts_of 47 w.0) ([] ∷ []))
     ∙ (some_key (x ∷ p) (omega arith) k).0 in
     (and_parts (list_all is_element (parts_of 47 w.0)) false all).1)
 
@@ -128,7 +146,8 @@ key_elements k h = (and_parts (nat_le 1 (length k) && nat_le (length k) 1024) (a
 -- before a `/` and behind it
 pub cut_elements : (a r : List ℕ) → are_elements (a ++ 47 ∷ r) ≡ true → (are_elements a ≡ true) × (are_elements r ≡ true)
 cut_elements a r h =
-    and_parts (are_elements a) (are_elements r) (sym (ap (list_all is_element) (parts_append 47 a r) ∙ list_all-append is_element (parts_of 47 a) (parts_of 47 r)) ∙ h)
+    and_parts (are_elements a) (are_elements r) (sym (ap (list_all is_element) (parts_append 47 a r) ∙ list_all-append is_element
+    (parts_of 47 a) (parts_of 47 r)) ∙ h)
 
 -- before one that may be its last byte
 pub front_elements : (a r : List ℕ) → are_elements (trimmed (a ++ 47 ∷ r)) ≡ true → are_elements a ≡ true
@@ -142,13 +161,15 @@ front_elements a r h = elim (true_or_false (is_marker (47 ∷ r))) [
     ended (y ∷ f) e =
         let s : 47 ≡ y = cc in
         let k : 47 ∷ r ≡ (47 ∷ f) ++ 47 ∷ [] = e ∙ ap (λ y. y ∷ f ++ 47 ∷ []) (sym s) in
-        (cut_elements a f (sym (marker_elements (a ++ 47 ∷ r) (a ++ 47 ∷ f) (ap (λ l. a ++ l) k ∙ sym (append_assoc a (47 ∷ f) (47 ∷ [])))) ∙ h)).0
+        (cut_elements a f (sym (marker_elements (a ++ 47 ∷ r) (a ++ 47 ∷ f) (ap (λ l. a ++ l) k ∙ sym (append_assoc a (47 ∷ f) (47 ∷ []))))
+        ∙ h)).0
 
 -- ---- the name of what is below a path
 
 pub plain_end : (n : List ℕ) → NoSlash n → is_marker n ≡ false
 plain_end [] s = refl
-plain_end (x ∷ []) s = (elim (x == 47) as (λ b. (x == 47) ≡ b → (x == 47) ≡ false) [ true ↦ λ e. absurd (false≢true (sym (ap (λ b. not b && true) e) ∙ s)) | false ↦ λ e. e ]) refl
+plain_end (x ∷ []) s = (elim (x == 47) as (λ b. (x == 47) ≡ b → (x == 47) ≡ false)
+    [ true ↦ λ e. absurd (false≢true (sym (ap (λ b. not b && true) e) ∙ s)) | false ↦ λ e. e ]) refl
 plain_end (x ∷ y ∷ n) s = plain_end (y ∷ n) (and_parts (not (x == 47)) (list_all (is_other 47) (y ∷ n)) s).1
 
 pub name_element : (p n : List ℕ) → NoSlash n → are_elements (below p n) ≡ true → is_element n ≡ true

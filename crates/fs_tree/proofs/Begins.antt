@@ -1,5 +1,10 @@
 -- Texts that begin with others, and markers.
-use Rattle.fs_tree.proofs.Common.{List, [], and_parts, ap, arith, begins, eq_nat, false≢true, inl, inr, is_marker, length, marker_of, nat_eq, nat_true, refl, sym, true, ℕ, ◌&&◌, ◌++◌, ◌∙◌, ◌∷◌, ◌≡◌, ◌≤◌, ◌⊎◌}
+use Rattle.basics.proofs.Members.{eq_nat, nat_true}
+use Rattle.dir_markers.specs.Markers.{marker_of}
+use Rattle.fs_tree.specs.Tree.{is_marker}
+use Rattle.s3_types.specs.Pages.{begins}
+use Rattle.std.proofs.Common.{List, ap, arith, inl, inr, length, nat_eq, refl, sym, true, ℕ, [], ◌&&◌, ◌++◌, ◌∙◌, ◌∷◌, ◌≡◌, ◌≤◌, ◌⊎◌}
+use Rattle.std.proofs.lemmas.Bool.{and_parts, false≢true}
 
 pub begins_more : (p t : List ℕ) → begins p (p ++ t) ≡ true
 begins_more [] t = refl

@@ -3,4 +3,3 @@ pub mod Above
 pub mod Making
 pub mod Dropping
 pub mod Moving
-mod Common

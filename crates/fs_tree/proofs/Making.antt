@@ -1,8 +1,18 @@
 -- Making a directory, in the tree.
-use Rattle.fs_tree.proofs.Common.{HasDir, IsIn, List, MakesDirs, Object, Objects, PutsDir, SomeBelow, Stands, [], ap, arith, begins, false≢true, inl, inr, is_marker, keys_above, marker, marker_of, refl, same_or_other, subst, sym, text_here, text_other, true, ℕ, ◌∙◌, ◌∷◌, ◌≡◌, ◌⊎◌}
+use Rattle.basics.proofs.Members.{same_or_other, text_here, text_other}
+use Rattle.basics.specs.Members.{IsIn}
+use Rattle.dir_markers.specs.Markers.{keys_above, marker_of}
+use Rattle.fs_tree.proofs.Above.{above_begins, above_marker, begins_above}
+use Rattle.fs_tree.proofs.Begins.{begins_all, begins_trans, marker_at, marker_is, no_empty}
+use Rattle.fs_tree.specs.Answers.{PutsDir}
+use Rattle.fs_tree.specs.Changes.{MakesDirs}
+use Rattle.fs_tree.specs.Tree.{HasDir, SomeBelow, Stands, is_marker, marker}
+use Rattle.s3_types.specs.Pages.{begins}
+use Rattle.s3_types.specs.Store.{Objects}
+use Rattle.s3_types.specs.declared.object.Object.{Object}
+use Rattle.std.proofs.Common.{List, ap, arith, inl, inr, refl, subst, sym, true, ℕ, [], ◌∙◌, ◌∷◌, ◌≡◌, ◌⊎◌}
+use Rattle.std.proofs.lemmas.Bool.{false≢true}
 use Rattle.std.specs.FinMap as fin
-use Rattle.fs_tree.proofs.Begins.{begins_all, begins_trans, marker_is, marker_at, no_empty}
-use Rattle.fs_tree.proofs.Above.{above_begins, begins_above, above_marker}
 
 -- what stands stays there
 pub put_stands : (z : Objects) (k q : List ℕ) (v : Object) → Stands z q → Stands (fin.insert z k v) q
@@ -17,7 +27,8 @@ dir_of m [] p b h = tt
 dir_of m (x ∷ q) p b h = (h.0, begins_trans (marker_of (x ∷ q)) p h.0 b h.1, h.2, h.3)
 
 -- a directory is one still where each key that makes it one does so
-pub dir_each : (z m : Objects) (q : List ℕ) → ((k : List ℕ) → begins (marker_of q) k ≡ true → Stands z k → HasDir m q) → HasDir z q → HasDir m q
+pub dir_each : (z m : Objects) (q : List ℕ) → ((k : List ℕ) → begins (marker_of q) k ≡ true → Stands z k → HasDir m q) → HasDir z q
+    → HasDir m q
 dir_each z m [] f h = tt
 dir_each z m (x ∷ q) f h = f h.0 h.1 (h.2, h.3)
 
@@ -34,7 +45,8 @@ has_marker z p = (marker_of p, begins_all (marker_of p), marker, text_here z (ma
 only_put : (z : Objects) (p q : List ℕ) → HasDir (fin.insert z (marker_of p) marker) q → HasDir z q ⊎ IsIn q (p ∷ keys_above p)
 only_put z p [] h = inl tt
 only_put z p (x ∷ q) h = elim (put_was z (marker_of p) h.0 marker (h.2, h.3)) [
-  | inl e ↦ inr (elim (marker_at (x ∷ q) p (ap (begins (marker_of (x ∷ q))) (sym e) ∙ h.1)) [ inl i ↦ inl i | inr b ↦ inr (begins_above (x ∷ q) p b) ])
+  | inl e ↦ inr (elim (marker_at (x ∷ q) p (ap (begins (marker_of (x ∷ q))) (sym e) ∙ h.1))
+      [ inl i ↦ inl i | inr b ↦ inr (begins_above (x ∷ q) p b) ])
   | inr s ↦ inl (h.0, h.1, s.0, s.1)
 ]
 

@@ -1,11 +1,23 @@
 -- Moving a file or a directory, in the tree.
-use Rattle.fs_tree.proofs.Common.{HasDir, HasFile, IsAbsent, IsAtOrBelow, IsDirMoved, IsDirectory, IsFileMoved, IsMarkedAbove, IsPlace, List, MayMove, MovesDir, MovesFile, None, NoneBelow, Objects, Some, SomeBelow, Stands, [], and_parts, ap, append-nil, append_assoc, before_none, before_slash, begins, eq_nat, false, false≢true, inl, inr, inside, is_marker, last_of, marker_if, marker_of, nat_eq, none_some, one_part, own_name, parent, parts_of, parts_round, refl, same_or_other, subst, sym, true, true_or_false, ℕ, ◌++◌, ◌∙◌, ◌∷◌, ◌≡◌, ◌⊎◌}
+use Rattle.basics.proofs.Members.{eq_nat, none_some, same_or_other, true_or_false}
+use Rattle.basics.proofs.Pieces.{one_part}
+use Rattle.basics.specs.Parts.{parts_of}
+use Rattle.dir_markers.specs.Markers.{marker_of}
+use Rattle.fs_tree.proofs.Above.{NoSlash, above_parent, cut}
+use Rattle.fs_tree.proofs.Begins.{begins_marker, begins_more, begins_trans, marker_at}
+use Rattle.fs_tree.proofs.Dropping.{above_kept, marked_files, marked_other, marked_stands, marked_was, marker_not_below, not_above_root}
+use Rattle.fs_tree.proofs.Dropping.{stands_above, through}
+use Rattle.fs_tree.proofs.Making.{dir_by, dir_each, dir_of}
+use Rattle.fs_tree.specs.Changes.{IsMarkedAbove, last_of, marker_if, own_name, parent}
+use Rattle.fs_tree.specs.Moves.{IsAtOrBelow, IsDirMoved, IsFileMoved, IsPlace, MayMove, MovesDir, MovesFile, inside}
+use Rattle.fs_tree.specs.Tree.{HasDir, HasFile, IsAbsent, IsDirectory, NoneBelow, SomeBelow, Stands, is_marker}
+use Rattle.path_keys.proofs.Last.{before_none, before_slash, parts_round}
+use Rattle.s3_types.specs.Pages.{begins}
+use Rattle.s3_types.specs.Store.{Objects}
+use Rattle.std.proofs.Common.{List, None, Some, ap, append-nil, append_assoc, false, inl, inr, nat_eq, refl, subst, sym, true, ℕ, [], ◌++◌}
+use Rattle.std.proofs.Common.{◌∙◌, ◌∷◌, ◌≡◌, ◌⊎◌}
+use Rattle.std.proofs.lemmas.Bool.{and_parts, false≢true}
 use Rattle.std.specs.FinMap as fin
-use Rattle.fs_tree.proofs.Begins.{begins_more, begins_trans, begins_marker, marker_at}
-use Rattle.fs_tree.proofs.Above.{NoSlash, cut, above_parent}
-use Rattle.fs_tree.proofs.Making.{dir_of, dir_each, dir_by}
-pub use Rattle.fs_tree.proofs.Dropping.{marker_not_below}
-use Rattle.fs_tree.proofs.Dropping.{not_above_root, stands_above, marked_was, marked_stands, marked_other, marked_files, above_kept, through}
 
 -- ---- texts
 
@@ -28,7 +40,10 @@ last_end _ p = refl
 
 own_no_slash : (p : List ℕ) → NoSlash (own_name p)
 own_no_slash p =
-    elim (cut p) [ inl n ↦ subst NoSlash (sym (ap last_of (one_part 47 p n))) n | inr c ↦ subst NoSlash (sym (ap last_of (parts_round p c.0 c.1 c.2 c.3) ∙ last_end (parts_of 47 c.0) c.1)) c.3 ]
+    elim (cut p) [
+      | inl n ↦ subst NoSlash (sym (ap last_of (one_part 47 p n))) n
+      | inr c ↦ subst NoSlash (sym (ap last_of (parts_round p c.0 c.1 c.2 c.3) ∙ last_end (parts_of 47 c.0) c.1)) c.3
+    ]
 
 -- the directory that a path is inside is the one above it
 pub inside_above : (p t : List ℕ) → parent (inside p t) ≡ t
@@ -48,7 +63,8 @@ dirs_above z q [] e h (y ∷ d) b = absurd (not_above_root y d (rw e at (above_p
 dirs_above z q (x ∷ u) e h (y ∷ d) b = dir_of z (y ∷ d) (marker_of (x ∷ u)) (rw e at (above_parent (y ∷ d) q b)) h
 
 -- the new place is neither the source nor below it
-pub place_apart : (z : Objects) (x : ℕ) (p t q : List ℕ) → MayMove z (x ∷ p) t → IsPlace z (x ∷ p) t q → IsAbsent z q → begins (marker_of (x ∷ p)) (marker_of q) ≡ true → ⊥
+pub place_apart : (z : Objects) (x : ℕ) (p t q : List ℕ) → MayMove z (x ∷ p) t → IsPlace z (x ∷ p) t q → IsAbsent z q
+    → begins (marker_of (x ∷ p)) (marker_of q) ≡ true → ⊥
 place_apart z x p t q m i n b = elim (marker_at (x ∷ p) q b) [ inl e ↦ stands m.stands (subst (IsAbsent z) (sym e) n) | inr b ↦ below b i ]
   where
     stands : HasFile z (x ∷ p) ⊎ IsDirectory z (x ∷ p) → IsAbsent z (x ∷ p) → ⊥
@@ -57,14 +73,16 @@ place_apart z x p t q m i n b = elim (marker_at (x ∷ p) q b) [ inl e ↦ stand
 
     below : begins (marker_of (x ∷ p)) q ≡ true → IsPlace z (x ∷ p) t q → ⊥
     below b (inr h) = m.apart (inr (ap (begins (marker_of (x ∷ p))) (sym h.2) ∙ b))
-    below b (inl h) = elim (marker_at (x ∷ p) t (ap (λ v. begins (marker_of (x ∷ p)) (marker_of v)) (sym (ap parent h.1 ∙ inside_above (x ∷ p) t)) ∙ above_parent (x ∷ p) q b)) [
-      | inl e ↦ m.apart (inl (sym e))
-      | inr b ↦ m.apart (inr b)
-    ]
+    below b (inl h) = elim (marker_at (x ∷ p) t (ap (λ v. begins (marker_of (x ∷ p)) (marker_of v))
+        (sym (ap parent h.1 ∙ inside_above (x ∷ p) t)) ∙ above_parent (x ∷ p) q b)) [
+          | inl e ↦ m.apart (inl (sym e))
+          | inr b ↦ m.apart (inr b)
+        ]
 
 -- ---- a file
 
-module _ (p q : List ℕ) (z n m : Objects) (w : IsFileMoved p q z n) (g : IsMarkedAbove p n m) (free : fin.get z q ≡ None) (above : HasDir z (parent q)) where
+module _ (p q : List ℕ) (z n m : Objects) (w : IsFileMoved p q z n) (g : IsMarkedAbove p n m) (free : fin.get z q ≡ None)
+    (above : HasDir z (parent q)) where
   -- a file that is moved is so in the tree, and nothing else is
   pub moves_file : is_marker p ≡ false → is_marker q ≡ false → Stands z p → MovesFile p q z m
   moves_file f i s = record {
@@ -97,10 +115,12 @@ moved_below : (a b : List ℕ) (u v : Objects) → ((rest : List ℕ) → fin.ge
     → (rest : List ℕ) → SomeBelow u (a ++ rest) → SomeBelow v (b ++ rest)
 moved_below a b u v moved rest h =
     let r = rest_after (a ++ rest) h.0 h.1 in
-    let is = ap (fin.get v) (append_assoc b rest r.0) ∙ moved (rest ++ r.0) ∙ ap (fin.get u) (sym (append_assoc a rest r.0) ∙ sym r.1) ∙ h.3 in
+    let is = ap (fin.get v) (append_assoc b rest r.0) ∙ moved (rest ++ r.0) ∙ ap (fin.get u) (sym (append_assoc a rest r.0) ∙ sym r.1) ∙ h.3
+    in
     ((b ++ rest) ++ r.0, begins_more (b ++ rest) r.0, h.2, is)
 
-module _ (x : ℕ) (p : List ℕ) (y : ℕ) (q : List ℕ) (z n m : Objects) (w : IsDirMoved (x ∷ p) (y ∷ q) z n) (g : IsMarkedAbove (x ∷ p) n m) (free : NoneBelow z (marker_of (y ∷ q))) (above : HasDir z (parent (y ∷ q))) (there : SomeBelow z (marker_of (x ∷ p))) where
+module _ (x : ℕ) (p : List ℕ) (y : ℕ) (q : List ℕ) (z n m : Objects) (w : IsDirMoved (x ∷ p) (y ∷ q) z n) (g : IsMarkedAbove (x ∷ p) n m)
+    (free : NoneBelow z (marker_of (y ∷ q))) (above : HasDir z (parent (y ∷ q))) (there : SomeBelow z (marker_of (x ∷ p))) where
   abbrev P : List ℕ
   P = marker_of (x ∷ p)
 
@@ -115,7 +135,8 @@ module _ (x : ℕ) (p : List ℕ) (y : ℕ) (q : List ℕ) (z n m : Objects) (w 
   not_new k e b = not_above (begins_trans Q (x ∷ p) P (through (x ∷ p) (parent (x ∷ p)) refl k (y ∷ q) e b) (begins_marker (x ∷ p)))
 
   moved_all : (rest : List ℕ) → fin.get m (Q ++ rest) ≡ fin.get z (P ++ rest)
-  moved_all rest = marked_other (marker_if (parent (x ∷ p))) n m g (Q ++ rest) (λ e. not_new (Q ++ rest) e (begins_more Q rest)) ∙ w.moved rest
+  moved_all rest = marked_other (marker_if (parent (x ∷ p))) n m g (Q ++ rest) (λ e. not_new (Q ++ rest) e (begins_more Q rest)) ∙ w.moved
+      rest
 
   gone_all : (k : List ℕ) → begins P k ≡ true → fin.get m k ≡ None
   gone_all k b = marked_other (marker_if (parent (x ∷ p))) n m g k (λ e. marker_not_below x p (parent (x ∷ p)) k refl e b) ∙ w.gone k b
@@ -124,7 +145,8 @@ module _ (x : ℕ) (p : List ℕ) (y : ℕ) (q : List ℕ) (z n m : Objects) (w 
   no_dir [] (inl e) h = absurd (cc)
   no_dir [] (inr b) h = absurd (false≢true b)
   no_dir (v ∷ d) (inl e) h = none_some (gone_all h.0 (ap (λ u. begins (marker_of u) h.0) (sym e) ∙ h.1)) h.3
-  no_dir (v ∷ d) (inr b) h = none_some (gone_all h.0 (begins_trans P (marker_of (v ∷ d)) h.0 (begins_trans P (v ∷ d) (marker_of (v ∷ d)) b (begins_marker (v ∷ d))) h.1)) h.3
+  no_dir (v ∷ d) (inr b) h = none_some (gone_all h.0 (begins_trans P (marker_of (v ∷ d)) h.0
+      (begins_trans P (v ∷ d) (marker_of (v ∷ d)) b (begins_marker (v ∷ d))) h.1)) h.3
 
   below_new : (rest : List ℕ) → SomeBelow z (P ++ rest) → SomeBelow m (Q ++ rest)
   below_new = moved_below P Q z m moved_all
@@ -137,7 +159,8 @@ module _ (x : ℕ) (p : List ℕ) (y : ℕ) (q : List ℕ) (z n m : Objects) (w 
   moves_dir = record {
     moved = moved_all;
     directory = subst (SomeBelow m) (append-nil Q) (below_new [] (subst (SomeBelow z) (sym (append-nil P)) there));
-    moved_dirs = λ rest h. subst (SomeBelow m) (marker_end Q rest) (below_new (marker_of rest) (subst (SomeBelow z) (sym (marker_end P rest)) h));
+    moved_dirs = λ rest h. subst (SomeBelow m) (marker_end Q rest) (below_new (marker_of rest)
+        (subst (SomeBelow z) (sym (marker_end P rest)) h));
     only_moved = λ rest h. subst (SomeBelow z) (marker_end P rest)
         (moved_below Q P m z (λ rest. sym (moved_all rest)) (marker_of rest) (subst (SomeBelow m) (sym (marker_end Q rest)) h));
     gone = gone_all;
@@ -151,7 +174,8 @@ module _ (x : ℕ) (p : List ℕ) (y : ℕ) (q : List ℕ) (z n m : Objects) (w 
       ]
     ]);
     only = λ d f. dir_each m z d (λ k i v. elim (marked_was (marker_if (parent (x ∷ p))) n m g k v) [
-      | inr e ↦ dir_of z d P (begins_trans (marker_of d) (x ∷ p) P (through (x ∷ p) (parent (x ∷ p)) refl k d e i) (begins_marker (x ∷ p))) there
+      | inr e ↦ dir_of z d P (begins_trans (marker_of d) (x ∷ p) P (through (x ∷ p) (parent (x ∷ p)) refl k d e i) (begins_marker (x ∷ p)))
+          there
       | inl s ↦ elim (true_or_false (begins P k)) [
         | inl a ↦ absurd (none_some (w.gone k a) s.1)
         | inr a ↦ elim (true_or_false (begins Q k)) [

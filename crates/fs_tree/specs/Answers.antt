@@ -1,18 +1,21 @@
--- What each file operation answers among the objects z of its bucket, and leaves: refusals in their order, each of which changes nothing (Hadoop FileSystem specification: getFileStatus, open, listStatus, create, mkdirs, delete).
-use Rattle.std.specs.Prelude.{◌≡◌, ◌⊎◌, ℕ, Bool, true, false, List, [], ◌∷◌, Result, Ok, Err, None, length}
-use Rattle.s3_types.specs.Prelude.{Objects, without}
-use Rattle.std.specs.FinMap as fin
-use Rattle.s3_types.specs.declared.object.Object.{Object}
-use Rattle.path_keys.specs.Paths.{Path}
-use Rattle.dir_markers.specs.Markers.{marker_of, keys_above, created}
+-- What each file operation answers among the objects z of its bucket, and leaves: refusals in their order, each of which changes nothing
+-- (Hadoop FileSystem specification: getFileStatus, open, listStatus, create, mkdirs, delete).
+use Rattle.dir_markers.specs.Markers.{created, keys_above, marker_of}
 use Rattle.dir_markers.specs.declared.marker.MarkerPolicy.{MarkerPolicy}
 use Rattle.dir_markers.specs.declared.status.Status.{Status}
 use Rattle.dir_markers.specs.declared.status.Status.TheVariants.{File}
+use Rattle.fs_tree.specs.Changes.{DropsDir, DropsFile, HasEntries, IsMarkedAbove, IsWithoutBelow, MakesDirs, MakesFile, own_name}
+use Rattle.fs_tree.specs.Tree.{HasChildren, HasFile, IsAbsent, IsDirectory, IsEmpty, IsFile, IsFirstFile, IsStatus, NoFiles, marker}
 use Rattle.fs_tree.specs.declared.answers.DirEntry.{DirEntry}
 use Rattle.fs_tree.specs.declared.answers.FsRefusal.{FsRefusal}
-use Rattle.fs_tree.specs.declared.answers.FsRefusal.TheVariants.{NotFound, AlreadyExists, IsDirectory as ADirectory, NotDirectory, NotEmpty, IsRoot}
-use Rattle.fs_tree.specs.Tree.{marker, IsFile, HasFile, IsDirectory, IsAbsent, IsStatus, NoFiles, IsFirstFile, HasChildren, IsEmpty}
-use Rattle.fs_tree.specs.Changes.{MakesDirs, MakesFile, HasEntries, own_name, DropsFile, DropsDir, IsMarkedAbove, IsWithoutBelow}
+use Rattle.fs_tree.specs.declared.answers.FsRefusal.TheVariants.{AlreadyExists, IsDirectory as ADirectory, IsRoot, NotDirectory, NotEmpty}
+use Rattle.fs_tree.specs.declared.answers.FsRefusal.TheVariants.{NotFound}
+use Rattle.path_keys.specs.Paths.{Path}
+use Rattle.s3_types.specs.Answer.{without}
+use Rattle.s3_types.specs.Store.{Objects}
+use Rattle.s3_types.specs.declared.object.Object.{Object}
+use Rattle.std.specs.Prelude.{Bool, Err, List, None, Ok, Result, false, length, true, ℕ, [], ◌∷◌, ◌≡◌, ◌⊎◌}
+use Rattle.std.specs.FinMap as fin
 
 -- the status of a path
 abbrev pub Stats : List ℕ → Objects → Result Status FsRefusal → Objects → Type 0
@@ -29,18 +32,21 @@ Reads p z (Err r) m = ⊥
 
 -- what a directory holds, or a file's own entry
 abbrev pub Lists : List ℕ → Objects → Result (List DirEntry) FsRefusal → Objects → Type 0
-Lists p z (Ok es) m = (((o : Object) × IsFile z p o × (es ≡ record { name = own_name p; status = File (length o.bytes) } ∷ [])) ⊎ (IsDirectory z p × HasEntries p z es)) × (m ≡ z)
+Lists p z (Ok es) m = (((o : Object) × IsFile z p o × (es ≡ record { name = own_name p; status = File (length o.bytes) } ∷ []))
+    ⊎ (IsDirectory z p × HasEntries p z es)) × (m ≡ z)
 Lists p z (Err NotFound) m = IsAbsent z p × (m ≡ z)
 Lists p z (Err r) m = ⊥
 
--- a file is created: nothing stands at the path, or a file that may be replaced, and no file above it; and the markers above it go that are not kept
+-- a file is created: nothing stands at the path, or a file that may be replaced, and no file above it; and the markers above it go that are
+-- not kept
 abbrev pub Creates : Path → List ℕ → Bool → MarkerPolicy → Objects → Result (Unit {0}) FsRefusal → Objects → Type 0
 Creates p bytes overwrite policy z (Ok x) m =
     ((HasFile z p.key × (overwrite ≡ true)) ⊎ IsAbsent z p.key) × NoFiles z (keys_above p.key) × MakesFile p.key bytes z m
     × (m ≡ without (fin.insert z p.key (record { bytes = bytes; header = None })) (created policy p))
 Creates p bytes overwrite policy z (Err AlreadyExists) m = HasFile z p.key × (overwrite ≡ false) × (m ≡ z)
 Creates p bytes overwrite policy z (Err ADirectory) m = IsDirectory z p.key × (m ≡ z)
-Creates p bytes overwrite policy z (Err (NotDirectory a)) m = ((HasFile z p.key × (overwrite ≡ true)) ⊎ IsAbsent z p.key) × IsFirstFile z (keys_above p.key) a × (m ≡ z)
+Creates p bytes overwrite policy z (Err (NotDirectory a)) m = ((HasFile z p.key × (overwrite ≡ true)) ⊎ IsAbsent z p.key)
+    × IsFirstFile z (keys_above p.key) a × (m ≡ z)
 Creates p bytes overwrite policy z (Err r) m = ⊥
 
 -- a directory stands already, and nothing changes; or nothing stands at the path and no file above it, and its marker is put

@@ -1,15 +1,20 @@
 -- What file operations do to the tree, and what a directory holds (Hadoop FileSystem specification: mkdirs, delete, create, listStatus).
-use Rattle.std.specs.Prelude.{◌≡◌, ◌⊎◌, ℕ, ◌&&◌, true, false, List, [], ◌∷◌, map, Some, None, Option}
-use Rattle.s3_types.specs.Prelude.{join_with_byte, list_all, text_cmp, is_other, is_element, is_key, Objects, begins, IsIn}
-use Rattle.std.specs.List.Sorted.{IsStrictlySortedBy}
-use Rattle.std.specs.FinMap as fin
-use Rattle.basics.specs.Parts.{parts_of}
-use Rattle.path_keys.specs.Paths.{without_last, below}
-use Rattle.dir_markers.specs.Markers.{marker_of, keys_above}
+use Rattle.basics.specs.Members.{IsIn}
+use Rattle.basics.specs.Order.{text_cmp}
+use Rattle.basics.specs.Parts.{is_other, parts_of}
+use Rattle.dir_markers.specs.Markers.{keys_above, marker_of}
 use Rattle.dir_markers.specs.declared.status.Status.{Status}
 use Rattle.dir_markers.specs.declared.status.Status.TheVariants.{Directory, File}
+use Rattle.fs_tree.specs.Tree.{HasDir, IsStatus, NoneBelow, SomeBelow, Stands, is_marker, marker}
 use Rattle.fs_tree.specs.declared.answers.DirEntry.{DirEntry}
-use Rattle.fs_tree.specs.Tree.{Stands, SomeBelow, NoneBelow, is_marker, marker, HasDir, IsStatus}
+use Rattle.path_keys.specs.Paths.{below, without_last}
+use Rattle.s3_types.specs.Names.{is_element, is_key}
+use Rattle.s3_types.specs.Pages.{begins}
+use Rattle.s3_types.specs.Store.{Objects}
+use Rattle.std.specs.List.{join_with_byte, list_all}
+use Rattle.std.specs.List.Sorted.{IsStrictlySortedBy}
+use Rattle.std.specs.Prelude.{List, None, Option, Some, false, map, true, ℕ, [], ◌&&◌, ◌∷◌, ◌≡◌, ◌⊎◌}
+use Rattle.std.specs.FinMap as fin
 
 -- every file is as it was, header included
 abbrev pub SameFiles : Objects → Objects → Type 0

@@ -1,15 +1,19 @@
--- Copying all that is below a directory to another place of its bucket, so that a copy that was stopped can be made again (Hadoop FileSystem shell: cp).
-use Rattle.std.specs.Prelude.{◌≡◌, ◌⊎◌, ℕ, true, List, [], ◌∷◌, ◌++◌, length, None, Result, Ok, Err}
-use Rattle.s3_types.specs.Prelude.{is_lt, text_cmp, Objects, begins}
-use Rattle.std.specs.FinMap as fin
-use Rattle.path_keys.specs.Paths.{below}
+-- Copying all that is below a directory to another place of its bucket, so that a copy that was stopped can be made again (Hadoop
+-- FileSystem shell: cp).
+use Rattle.basics.specs.Order.{text_cmp}
 use Rattle.dir_markers.specs.Markers.{keys_above}
-use Rattle.fs_tree.specs.declared.copy.CopyRefusal.{CopyRefusal}
-use Rattle.fs_tree.specs.declared.copy.CopyRefusal.TheVariants.{Overlap, SourceIsFile, SourceMissing, TargetFile, TooLong, Differs}
-use Rattle.fs_tree.specs.declared.copy.CopyCount.{CopyCount}
-use Rattle.fs_tree.specs.Tree.{Stands, HasFile, IsDirectory, IsAbsent, NoFiles, IsFirstFile}
-use Rattle.fs_tree.specs.Moves.{IsMove, AllFit, IsFirstTooLong}
 use Rattle.fs_tree.specs.MarkerTool.{AreAll}
+use Rattle.fs_tree.specs.Moves.{AllFit, IsFirstTooLong, IsMove}
+use Rattle.fs_tree.specs.Tree.{HasFile, IsAbsent, IsDirectory, IsFirstFile, NoFiles, Stands}
+use Rattle.fs_tree.specs.declared.copy.CopyCount.{CopyCount}
+use Rattle.fs_tree.specs.declared.copy.CopyRefusal.{CopyRefusal}
+use Rattle.fs_tree.specs.declared.copy.CopyRefusal.TheVariants.{Differs, Overlap, SourceIsFile, SourceMissing, TargetFile, TooLong}
+use Rattle.path_keys.specs.Paths.{below}
+use Rattle.s3_types.specs.Pages.{begins}
+use Rattle.s3_types.specs.Store.{Objects}
+use Rattle.std.specs.Ordering.{is_lt}
+use Rattle.std.specs.Prelude.{Err, List, None, Ok, Result, length, true, ℕ, [], ◌++◌, ◌∷◌, ◌≡◌, ◌⊎◌}
+use Rattle.std.specs.FinMap as fin
 
 -- one path is the other or below it; everything is below the root
 abbrev pub IsOverlap : List ℕ → List ℕ → Type 0
@@ -93,5 +97,6 @@ pub record CopiesResume : Type 0 where
   -- it is not refused
   pub again : (p t : List ℕ) (z m : Objects) → MayCopy z p t → IsCopiedInPart p t z m → MayCopy m p t
   -- it ends alike
-  pub same : (p t : List ℕ) (z m n o : Objects) (c d : CopyCount) → MayCopy z p t → IsCopiedInPart p t z m → CopiesTree p t m c n → CopiesTree p t z d o
+  pub same : (p t : List ℕ) (z m n o : Objects) (c d : CopyCount) → MayCopy z p t → IsCopiedInPart p t z m → CopiesTree p t m c n
+      → CopiesTree p t z d o
       → (q : List ℕ) → fin.get n q ≡ fin.get o q

@@ -5,4 +5,3 @@ pub mod Answers
 pub mod Moves
 pub mod Renames
 pub mod Copies
-pub mod Prelude

@@ -1,17 +1,20 @@
 -- What the marker tool tells of the markers below a path, removes and puts (Hadoop, S3A: directory markers, the marker tool).
-use Rattle.std.specs.Prelude.{◌≡◌, ◌⊎◌, ℕ, ◌<◌, true, List, [], length, map, Some, None, Result, Ok, Err}
-use Rattle.s3_types.specs.Prelude.{text_cmp, Objects, begins, IsIn}
-use Rattle.std.specs.List.Sorted.{IsStrictlySortedBy}
-use Rattle.std.specs.FinMap as fin
-use Rattle.s3_types.specs.declared.object.Object.{Object}
-use Rattle.path_keys.specs.Paths.{below}
-use Rattle.fs_tree.specs.declared.answers.FsRefusal.{FsRefusal}
-use Rattle.fs_tree.specs.declared.answers.FsRefusal.TheVariants.{NotFound, NotDirectory}
-use Rattle.fs_tree.specs.declared.markers.MarkerKind.{MarkerKind}
-use Rattle.fs_tree.specs.declared.markers.MarkerKind.TheVariants.{Surplus, Leaf, Odd}
-use Rattle.fs_tree.specs.declared.markers.MarkerEntry.{MarkerEntry}
-use Rattle.fs_tree.specs.Tree.{Stands, SomeBelow, is_marker, marker, HasDir, HasFile, IsDirectory, IsAbsent}
+use Rattle.basics.specs.Members.{IsIn}
+use Rattle.basics.specs.Order.{text_cmp}
 use Rattle.fs_tree.specs.Changes.{SameFiles}
+use Rattle.fs_tree.specs.Tree.{HasDir, HasFile, IsAbsent, IsDirectory, SomeBelow, Stands, is_marker, marker}
+use Rattle.fs_tree.specs.declared.answers.FsRefusal.{FsRefusal}
+use Rattle.fs_tree.specs.declared.answers.FsRefusal.TheVariants.{NotDirectory, NotFound}
+use Rattle.fs_tree.specs.declared.markers.MarkerEntry.{MarkerEntry}
+use Rattle.fs_tree.specs.declared.markers.MarkerKind.{MarkerKind}
+use Rattle.fs_tree.specs.declared.markers.MarkerKind.TheVariants.{Leaf, Odd, Surplus}
+use Rattle.path_keys.specs.Paths.{below}
+use Rattle.s3_types.specs.Pages.{begins}
+use Rattle.s3_types.specs.Store.{Objects}
+use Rattle.s3_types.specs.declared.object.Object.{Object}
+use Rattle.std.specs.List.Sorted.{IsStrictlySortedBy}
+use Rattle.std.specs.Prelude.{Err, List, None, Ok, Result, Some, length, map, true, ℕ, [], ◌<◌, ◌≡◌, ◌⊎◌}
+use Rattle.std.specs.FinMap as fin
 
 -- both show the same files, headers included, and the same directories
 pub record SameTree (z m : Objects) : Type 0 where

@@ -1,11 +1,14 @@
 -- Moving a file or a directory to another place of its bucket (Hadoop FileSystem specification: rename).
-use Rattle.std.specs.Prelude.{◌≡◌, ◌⊎◌, ℕ, Bool, true, false, nat_lt, cond, List, ◌++◌, Some, None, length}
-use Rattle.s3_types.specs.Prelude.{is_lt, text_cmp, Objects, begins}
-use Rattle.std.specs.FinMap as fin
-use Rattle.path_keys.specs.Paths.{below}
+use Rattle.basics.specs.Order.{text_cmp}
 use Rattle.dir_markers.specs.Markers.{marker_of}
-use Rattle.fs_tree.specs.Tree.{Stands, is_marker, marker, HasDir, HasFile, IsDirectory, IsAbsent}
-use Rattle.fs_tree.specs.Changes.{parent, marker_if, own_name}
+use Rattle.fs_tree.specs.Changes.{marker_if, own_name, parent}
+use Rattle.fs_tree.specs.Tree.{HasDir, HasFile, IsAbsent, IsDirectory, Stands, is_marker, marker}
+use Rattle.path_keys.specs.Paths.{below}
+use Rattle.s3_types.specs.Pages.{begins}
+use Rattle.s3_types.specs.Store.{Objects}
+use Rattle.std.specs.Ordering.{is_lt}
+use Rattle.std.specs.Prelude.{Bool, List, None, Some, cond, false, length, nat_lt, true, ℕ, ◌++◌, ◌≡◌, ◌⊎◌}
+use Rattle.std.specs.FinMap as fin
 
 -- ---- the source, the target and the new place
 
@@ -22,7 +25,8 @@ pub record MayMove (z : Objects) (p t : List ℕ) : Type 0 where
 abbrev pub inside : List ℕ → List ℕ → List ℕ
 inside p t = below t (own_name p)
 
--- the new place q: inside the directory that stands at the target, or the target itself where nothing stands there and a directory stands above it
+-- the new place q: inside the directory that stands at the target, or the target itself where nothing stands there and a directory stands
+-- above it
 abbrev pub IsPlace : Objects → List ℕ → List ℕ → List ℕ → Type 0
 IsPlace z p t q = (IsDirectory z t × (q ≡ inside p t)) ⊎ (IsAbsent z t × IsDirectory z (parent t) × (q ≡ t))
 
@@ -85,7 +89,8 @@ pub record MovesDir (p q : List ℕ) (z m : Objects) : Type 0 where
   pub only_moved : (rest : List ℕ) → HasDir m (marker_of q ++ rest) → HasDir z (marker_of p ++ rest)
   pub gone : (k : List ℕ) → begins (marker_of p) k ≡ true → fin.get m k ≡ None
   pub gone_dirs : (d : List ℕ) → IsAtOrBelow p d → HasDir m d → ⊥
-  pub files : (k : List ℕ) → is_marker k ≡ false → begins (marker_of p) k ≡ false → begins (marker_of q) k ≡ false → fin.get m k ≡ fin.get z k
+  pub files : (k : List ℕ) → is_marker k ≡ false → begins (marker_of p) k ≡ false → begins (marker_of q) k ≡ false
+      → fin.get m k ≡ fin.get z k
   pub kept : (d : List ℕ) → (IsAtOrBelow p d → ⊥) → HasDir z d → HasDir m d
   pub only : (d : List ℕ) → (IsAtOrBelow q d → ⊥) → HasDir m d → HasDir z d
 
@@ -104,7 +109,8 @@ pub record IsWhole (p q : List ℕ) (z m : Objects) : Type 0 where
   -- a new key is absent or has its source's object
   pub new : (k l : List ℕ) → IsMove z p q k l → (fin.get m l ≡ None) ⊎ (fin.get m l ≡ fin.get z k)
   -- copies come in the order of their keys
-  pub in_order : (k l j i : List ℕ) → IsMove z p q k l → IsMove z p q j i → is_lt (text_cmp j k) ≡ true → fin.get m l ≡ fin.get z k → fin.get m i ≡ fin.get z j
+  pub in_order : (k l j i : List ℕ) → IsMove z p q k l → IsMove z p q j i → is_lt (text_cmp j k) ≡ true → fin.get m l ≡ fin.get z k
+      → fin.get m i ≡ fin.get z j
   -- nothing goes before all are copied
   pub all_first : (k l j i : List ℕ) → IsMove z p q k l → IsMove z p q j i → fin.get m k ≡ None → fin.get m i ≡ fin.get z j
   pub files : (k : List ℕ) → is_marker k ≡ false → IsElsewhere z p q k → fin.get m k ≡ fin.get z k

@@ -1,11 +1,14 @@
--- What a renaming answers among the objects z of its bucket, and leaves: refusals in their order, each of which changes nothing (Hadoop FileSystem specification: rename).
-use Rattle.std.specs.Prelude.{◌≡◌, ◌⊎◌, ℕ, List, [], ◌∷◌, Result, Ok, Err}
-use Rattle.s3_types.specs.Prelude.{Objects}
+-- What a renaming answers among the objects z of its bucket, and leaves: refusals in their order, each of which changes nothing (Hadoop
+-- FileSystem specification: rename).
+use Rattle.fs_tree.specs.Changes.{IsMarkedAbove, parent}
+use Rattle.fs_tree.specs.Moves.{AllFit, IsAtOrBelow, IsDirMoved, IsFileMoved, IsFirstTooLong, IsFreePlace, MayMove, MovesDir, MovesFile}
+use Rattle.fs_tree.specs.Moves.{inside}
+use Rattle.fs_tree.specs.Tree.{HasFile, IsAbsent, IsDirectory}
 use Rattle.fs_tree.specs.declared.rename.RenameRefusal.{RenameRefusal}
-use Rattle.fs_tree.specs.declared.rename.RenameRefusal.TheVariants.{SourceMissing, SourceRoot, UnderSource, TargetFile, TargetExists, ParentMissing, ParentIsFile, TooLong}
-use Rattle.fs_tree.specs.Tree.{HasFile, IsDirectory, IsAbsent}
-use Rattle.fs_tree.specs.Changes.{parent, IsMarkedAbove}
-use Rattle.fs_tree.specs.Moves.{IsAtOrBelow, MayMove, inside, IsFreePlace, AllFit, IsFirstTooLong, IsFileMoved, IsDirMoved, MovesFile, MovesDir}
+use Rattle.fs_tree.specs.declared.rename.RenameRefusal.TheVariants.{ParentIsFile, ParentMissing, SourceMissing, SourceRoot, TargetExists}
+use Rattle.fs_tree.specs.declared.rename.RenameRefusal.TheVariants.{TargetFile, TooLong, UnderSource}
+use Rattle.s3_types.specs.Store.{Objects}
+use Rattle.std.specs.Prelude.{Err, List, Ok, Result, ℕ, [], ◌∷◌, ◌≡◌, ◌⊎◌}
 
 -- a file comes to stand at q, and the marker above its old place is put where that directory is left empty
 pub record RenamesFile (p q : List ℕ) (z m : Objects) : Type 0 where

@@ -1,11 +1,13 @@
--- The tree of files and directories that a bucket's objects are (Hadoop FileSystem specification, the model of a file system; Hadoop, S3A, directory markers).
-use Rattle.std.specs.Prelude.{◌≡◌, ◌⊎◌, ℕ, ◌==◌, Bool, true, false, List, [], ◌∷◌, Some, None, length}
-use Rattle.s3_types.specs.Prelude.{Objects, begins}
-use Rattle.std.specs.FinMap as fin
-use Rattle.s3_types.specs.declared.object.Object.{Object}
+-- The tree of files and directories that a bucket's objects are (Hadoop FileSystem specification, the model of a file system; Hadoop, S3A,
+-- directory markers).
 use Rattle.dir_markers.specs.Markers.{marker_of}
 use Rattle.dir_markers.specs.declared.status.Status.{Status}
 use Rattle.dir_markers.specs.declared.status.Status.TheVariants.{Directory, File}
+use Rattle.s3_types.specs.Pages.{begins}
+use Rattle.s3_types.specs.Store.{Objects}
+use Rattle.s3_types.specs.declared.object.Object.{Object}
+use Rattle.std.specs.Prelude.{Bool, List, None, Some, false, length, true, ℕ, [], ◌==◌, ◌∷◌, ◌≡◌, ◌⊎◌}
+use Rattle.std.specs.FinMap as fin
 
 -- an object stands at a key
 abbrev pub Stands : Objects → List ℕ → Type 0

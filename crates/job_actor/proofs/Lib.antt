@@ -4,4 +4,3 @@ pub mod Tallies
 pub mod Unread
 pub mod Keeping
 pub mod Staying
-mod Common

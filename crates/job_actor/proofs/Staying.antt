@@ -1,12 +1,27 @@
 -- The picks of a run stay while nobody sends who picks.
-use Rattle.job_actor.proofs.Common.{ArePicksOf, Content, Entry, EventEnd, LeavesPicks, List, Pick, Play, Script, Seen, Sends, Setting, Times, [], all_picks, ap, happen, length, nothing_seen, picks_below, see, see_all, see_more, seen, sent_ahead, sym, times, ◌++◌, ◌∙◌, ◌∷◌, ◌≡◌}
+use Rattle.job_actor.specs.Picks.{ArePicksOf, LeavesPicks}
+use Rattle.job_model.specs.JobScript.{Script}
+use Rattle.job_model.specs.declared.ends.EventEnd.{EventEnd}
+use Rattle.job_model.specs.declared.ends.Pick.{Pick}
+use Rattle.job_protocol.specs.Operations.{Setting}
+use Rattle.job_protocol.specs.Seen.{Seen, Times, nothing_seen, see, see_all, seen}
+use Rattle.job_spec.specs.Promise.{all_picks, picks_below}
+use Rattle.job_spec.specs.States.{times}
 use Rattle.job_steps.proofs.Parts.{take_whole}
+use Rattle.job_steps.proofs.Running.{sent_ahead}
+use Rattle.job_steps.specs.Transitions.{Play, Sends, happen}
+use Rattle.job_traces.proofs.Entries.{see_more}
+use Rattle.s3_types.specs.Store.{Content}
+use Rattle.s3_types.specs.declared.journal.Entry.{Entry}
+use Rattle.std.proofs.Common.{List, ap, length, sym, [], ◌++◌, ◌∙◌, ◌∷◌, ◌≡◌}
 
-all_of : (w : Script) (k : Times) (opening : Content) (es : List Entry) → seen w k opening es (length es) ≡ see_all w k (nothing_seen opening) es
+all_of : (w : Script) (k : Times) (opening : Content) (es : List Entry)
+    → seen w k opening es (length es) ≡ see_all w k (nothing_seen opening) es
 all_of w k opening es = ap (see_all w k (nothing_seen opening)) (take_whole es)
 
 -- an entry that leaves what is seen of the picks leaves those of the run
-pub picks_stay : (w : Script) (opening : Content) (es : List Entry) (e : Entry) (xs : List EventEnd) → ((s : Seen) → (see w (times w xs) s e).picks ≡ s.picks) → all_picks w opening (es ++ e ∷ []) xs ≡ all_picks w opening es xs
+pub picks_stay : (w : Script) (opening : Content) (es : List Entry) (e : Entry) (xs : List EventEnd)
+    → ((s : Seen) → (see w (times w xs) s e).picks ≡ s.picks) → all_picks w opening (es ++ e ∷ []) xs ≡ all_picks w opening es xs
 picks_stay w opening es e xs stays =
     let k = times w xs in
     let s = see_all w k (nothing_seen opening) es in
@@ -15,5 +30,6 @@ picks_stay w opening es e xs stays =
     let before : (seen w k opening es (length es)).picks ≡ s.picks = ap (λ (v : Seen). v.picks) (all_of w k opening es) in
     ap (λ p. picks_below p w.tasks) (now ∙ sym before)
 
-pub same_picks : (g : Setting) (opening : Content) (x : Play) (e : Entry) → LeavesPicks g opening x e → (ps : List Pick) → ArePicksOf g opening x ps → ArePicksOf g opening (happen g x (Sends e)) ps
+pub same_picks : (g : Setting) (opening : Content) (x : Play) (e : Entry) → LeavesPicks g opening x e → (ps : List Pick)
+    → ArePicksOf g opening x ps → ArePicksOf g opening (happen g x (Sends e)) ps
 same_picks g opening x e stays ps h xs ahead = let old = sent_ahead g x e xs ahead in h xs old ∙ sym (stays xs old)

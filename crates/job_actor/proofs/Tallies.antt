@@ -1,9 +1,16 @@
 -- The picks of a report, as one more set is read.
-use Rattle.job_actor.proofs.Common.{List, None, Option, Pick, Picks, Some, [], ap, append-nil, arith, inl, inr, is_some, length, length-append, picked, picks_below, refl, suc, sym, true, zero, ℕ, ◌++◌, ◌<◌, ◌∙◌, ◌∷◌, ◌≡◌, ◌≤◌, ◌⊎◌}
+use Rattle.job_model.specs.declared.ends.Pick.{Pick}
+use Rattle.job_protocol.specs.Outputs.{Picks}
+use Rattle.job_spec.specs.Promise.{picked, picks_below}
+use Rattle.std.proofs.Common.{List, None, Option, Some, ap, arith, inl, inr, length, length-append, refl, suc, sym, true, zero, ℕ, [], ◌++◌}
+use Rattle.std.proofs.Common.{◌<◌, ◌∙◌, ◌∷◌, ◌≡◌, ◌≤◌, ◌⊎◌}
+use Rattle.std.proofs.lemmas.List.{append-nil}
+use Rattle.std.specs.Option.{is_some}
 
 pub below_same : (p q : Picks) (n : ℕ) → ((t : ℕ) → t < n → p t ≡ q t) → picks_below p n ≡ picks_below q n
 below_same p q zero h = refl
-below_same p q (suc n) h = ap (λ l. l ++ picked n (p n)) (below_same p q n (λ t l. h t (omega arith))) ∙ ap (λ o. picks_below q n ++ picked n o) (h n (omega arith))
+below_same p q (suc n) h = ap (λ l. l ++ picked n (p n)) (below_same p q n (λ t l. h t (omega arith))) ∙ ap
+    (λ o. picks_below q n ++ picked n o) (h n (omega arith))
 
 -- tasks of which none is picked add nothing
 pub below_none : (p : Picks) (n high : ℕ) → n ≤ high → ((t : ℕ) → n ≤ t → t < high → p t ≡ None) → picks_below p high ≡ picks_below p n
@@ -34,7 +41,8 @@ below_all p (suc n) h =
     one None e = absurd cc
 
 -- one more pick is the last one
-pub below_more : (p q : Picks) (n high a : ℕ) → n < high → ((t : ℕ) → t < n → is_some (p t) ≡ true) → ((t : ℕ) → n ≤ t → t < high → p t ≡ None) → ((t : ℕ) → t < high → (t ≡ n → ⊥) → q t ≡ p t) → q n ≡ Some a
+pub below_more : (p q : Picks) (n high a : ℕ) → n < high → ((t : ℕ) → t < n → is_some (p t) ≡ true)
+    → ((t : ℕ) → n ≤ t → t < high → p t ≡ None) → ((t : ℕ) → t < high → (t ≡ n → ⊥) → q t ≡ p t) → q n ≡ Some a
     → picks_below p high ++ record { task = length (picks_below p high); attempt = a } ∷ [] ≡ picks_below q high
 below_more p q n high a low some none same here =
     let cut = below_none p n high (omega arith) none in

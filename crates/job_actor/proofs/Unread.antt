@@ -1,12 +1,50 @@
 -- While the job's commit reads, nothing is picked of the tasks whose sets it has yet to read.
-use Rattle.job_actor.proofs.Common.{Answered, At, BeginClean, BeginCommit, BeginSetup, Beginning, Bool, Commit, CommitEnd, CommitOver, Completing, Content, Decides, Driver, Entry, Fetching, Hold, InCommit, IsHonestOutcome, IsLegal, IsOpening, IsTimely, List, Marking, None, Operation, Option, Outcome, PendingSet, Picks, Replacing, Reply, Request, Reverting, Runs, Script, Seen, Sets, Setting, Slow, Some, Stand, Sweep, TheCheck, TheCommit, TheSetup, Told, Turn, Who, [], actor_begins, after_check_so, again, all_commits, answer, ap, arith, asks, attempt_sends, begin, check_after, checked_idle, clean_of_so, cleans_is, commit_asks, commit_misses, commit_of_so, commit_picks, commit_start, commit_tells, completing, cond, dealt, driver_entry, driver_sends, entry, false, fetched, fetching, files_set, follow, inl, inr, is_no_magic, is_set, just_set, knowing, late_now, length, length-append, nat_lt, none_or_some, none_some, nothing_learnt, picks_of, refl, replaced, replacing, revert, reverting, run_begins, same_or_not, see, set_read, set_request, some_is, step, strays, subst, sweep_hears, swept, sym, tells, true, who, worn_completion, ℕ, ◌&&◌, ◌++◌, ◌<◌, ◌^◌, ◌∙◌, ◌∷◌, ◌≡◌, ◌≤◌, ◌⊎◌}
-use Rattle.job_facts.specs.Prelude.{same_path, ok_set, decided, picks_by, sets_at, IsSetAnswer, Times, is_picking}
-use Rattle.job_traces.specs.Runs.{MayBegin}
-use Rattle.job_facts.proofs.Reading.{reads_it, reads_other}
-use Rattle.job_facts.proofs.Replies.{set_reply, bytes_read}
-use Rattle.job_facts.proofs.Sharing.{check_plain}
-use Rattle.job_actor.proofs.Picking.{unpicked}
+use Rattle.basics.proofs.Members.{none_or_some, none_some, same_or_not, some_is}
 use Rattle.basics.proofs.Options.{both_hold}
+use Rattle.job_actor.proofs.Picking.{unpicked}
+use Rattle.job_facts.proofs.Reading.{reads_it, reads_other}
+use Rattle.job_facts.proofs.Replies.{bytes_read, set_reply}
+use Rattle.job_facts.proofs.Sharing.{check_plain}
+use Rattle.job_facts.specs.Facts.{Hold, knowing}
+use Rattle.job_facts.specs.Filed.{Decides}
+use Rattle.job_facts.specs.Laws.{IsSetAnswer}
+use Rattle.job_facts.specs.Stores.{sets_at}
+use Rattle.job_facts.specs.Told.{Told, driver_entry, entry}
+use Rattle.job_model.specs.Attempts.{Who}
+use Rattle.job_model.specs.JobScript.{Script}
+use Rattle.job_model.specs.Legal.{IsLegal}
+use Rattle.job_model.specs.declared.ends.CommitEnd.{CommitEnd}
+use Rattle.job_protocol.proofs.Begun.{after_check_so, clean_of_so, commit_of_so}
+use Rattle.job_protocol.specs.JobCommits.{Commit, CommitOver, Completing, Fetching, Marking, Replacing, Reverting, Sets, all_commits}
+use Rattle.job_protocol.specs.JobCommits.{commit_asks, commit_misses, commit_start, commit_tells, completing, decided, fetched, fetching}
+use Rattle.job_protocol.specs.JobCommits.{is_no_magic, ok_set, picks_of, replaced, replacing, reverting, set_read, set_request, swept}
+use Rattle.job_protocol.specs.JobCommits.{worn_completion}
+use Rattle.job_protocol.specs.Lanes.{Turn, again, dealt, follow, revert}
+use Rattle.job_protocol.specs.Operations.{Operation, Setting, TheCheck, TheCommit, TheSetup, asks, tells, who}
+use Rattle.job_protocol.specs.Outputs.{Picks, same_path}
+use Rattle.job_protocol.specs.Rechecks.{check_after}
+use Rattle.job_protocol.specs.Records.{files_set}
+use Rattle.job_protocol.specs.Seen.{Seen, Times, is_picking, picks_by, see}
+use Rattle.job_traces.proofs.Entries.{late_now}
+use Rattle.job_traces.proofs.EveryRun.{checked_idle, cleans_is, just_set}
+use Rattle.job_traces.proofs.Running.{At, InCommit}
+use Rattle.job_traces.proofs.Steps.{commit_picks}
+use Rattle.job_traces.specs.Runs.{BeginClean, BeginCommit, BeginSetup, Beginning, IsOpening, IsTimely, MayBegin, Runs, Stand, actor_begins}
+use Rattle.job_traces.specs.Runs.{attempt_sends, begin, driver_sends, is_set, nothing_learnt, run_begins, strays}
+use Rattle.list_walk.specs.Walks.{Sweep, sweep_hears}
+use Rattle.pending_json.specs.declared.records.PendingSet.{PendingSet}
+use Rattle.retries.specs.Retries.{step}
+use Rattle.s3_types.specs.Answer.{answer}
+use Rattle.s3_types.specs.Moment.{IsHonestOutcome}
+use Rattle.s3_types.specs.Store.{Content}
+use Rattle.s3_types.specs.declared.journal.Entry.{Entry}
+use Rattle.s3_types.specs.declared.journal.Outcome.{Outcome}
+use Rattle.s3_types.specs.declared.journal.Outcome.TheVariants.{Answered, Slow}
+use Rattle.s3_types.specs.declared.reply.Reply.{Reply}
+use Rattle.s3_types.specs.declared.request.Actor.TheVariants.{Driver}
+use Rattle.s3_types.specs.declared.request.Request.{Request}
+use Rattle.std.proofs.Common.{Bool, List, None, Option, Some, ap, arith, cond, false, inl, inr, length, length-append, nat_lt, refl, subst}
+use Rattle.std.proofs.Common.{sym, true, ℕ, [], ◌&&◌, ◌++◌, ◌<◌, ◌^◌, ◌∙◌, ◌∷◌, ◌≡◌, ◌≤◌, ◌⊎◌}
 
 -- ---- what is read of a task
 
@@ -14,7 +52,8 @@ use Rattle.basics.proofs.Options.{both_hold}
 abbrev pub ReadSo : Option PendingSet → Option ℕ → Type 0
 ReadSo read latest = ((read ≡ None) × (latest ≡ None)) ⊎ ((h : PendingSet) × (read ≡ Some h) × (latest ≡ Some h.attempt))
 
-pub reads_so : (w : Script) (minimum : ℕ) → IsLegal w → (s : Seen) (m : Told) → Hold w minimum s m → m.cleaned ≡ false → s.scene.content.next ≤ 2 ^ 64 → (t : ℕ) → t < w.tasks
+pub reads_so : (w : Script) (minimum : ℕ) → IsLegal w → (s : Seen) (m : Told) → Hold w minimum s m → m.cleaned ≡ false
+    → s.scene.content.next ≤ 2 ^ 64 → (t : ℕ) → t < w.tasks
     → (x : Reply) → x ≡ answer s.scene (set_request w.committer w t) → ReadSo (set_read x) (s.last t)
 reads_so w minimum j s m h uncleaned few t low x e = by (sets_at w s.scene t) refl
   where
@@ -26,10 +65,18 @@ reads_so w minimum j s m h uncleaned few t low x e = by (sets_at w s.scene t) re
     none_last none = elim (none_or_some (s.last t)) [ inl is ↦ is | inr y ↦ absurd (none_some none (h.standing uncleaned t y.0 low y.1).1) ]
 
     by : (o : Option (List ℕ)) → sets_at w s.scene t ≡ o → ReadSo (set_read x) (s.last t)
-    by None none = inl (ap set_read e ∙ nothing (answer s.scene (set_request w.committer w t)) (set_reply j h w.committer t None none), none_last none)
+    by None none = inl (
+      ap set_read e ∙ nothing (answer s.scene (set_request w.committer w t)) (set_reply j h w.committer t None none),
+      none_last none,
+    )
     by (Some b) stands =
         let y = h.sets t b low stands in
-        inr (files_set w y.by y.commits (knowing (m.drawn y.by)), ap set_read e ∙ set_reply j h w.committer t (Some b) stands ∙ ap ok_set (bytes_read j h few t b low y), y.latest)
+        inr (
+          files_set w y.by y.commits (knowing (m.drawn y.by)),
+          ap set_read e ∙ set_reply j h w.committer t (Some b) stands ∙ ap ok_set
+              (bytes_read j h few t b low y),
+          y.latest,
+        )
 
 pub left : (b c : Bool) (x y : Option ℕ) → c ≡ false → cond (b && c) x y ≡ y
 left true c x y h = ap (λ d. cond d x y) h
@@ -75,7 +122,8 @@ module _ (w : Script) (p : Picks) where
   free_decided sets None = free_replacing sets (replaced w.committer w.mode w (picks_of sets))
 
   free_fetching : (sets : Sets) → ((t : ℕ) → length sets ≤ t → t < w.tasks → p t ≡ None) → Free w p (fetching w sets)
-  free_fetching sets h = free_either (nat_lt (length sets) w.tasks) (Fetching sets 0) (decided w sets (same_path w (picks_of sets))) h (free_decided sets (same_path w (picks_of sets)))
+  free_fetching sets h = free_either (nat_lt (length sets) w.tasks) (Fetching sets 0) (decided w sets (same_path w (picks_of sets))) h
+      (free_decided sets (same_path w (picks_of sets)))
 
   free_swept : (sets : Sets) (q : List ℕ) (qs : List (List ℕ)) (o : Option Sweep) → Free w p (swept w sets q qs o)
   free_swept sets q qs (Some v) = tt
@@ -93,12 +141,14 @@ module _ (w : Script) (p : Picks) where
   free_missed (Fetching sets n) lost h = free_either (nat_lt n w.retries) _ _ h tt
   free_missed (Replacing sets q qs v n) lost h = free_either (nat_lt n w.retries) _ _ tt tt
   free_missed (Completing sets x xs finished) lost h =
-      free_either (nat_lt x.missed w.retries) (completing sets (xs ++ again x lost ∷ []) finished) (worn_completion sets x xs finished) (free_completing sets (xs ++ again x lost ∷ []) finished) (free_reverting (revert (all_commits sets) x.number xs finished))
+      free_either (nat_lt x.missed w.retries) (completing sets (xs ++ again x lost ∷ []) finished) (worn_completion sets x xs finished)
+      (free_completing sets (xs ++ again x lost ∷ []) finished) (free_reverting (revert (all_commits sets) x.number xs finished))
   free_missed (Marking sets n) lost h = free_either (nat_lt n w.retries) _ _ tt tt
   free_missed (Reverting r rs n) lost h = free_either (nat_lt n w.retries) _ _ tt (free_reverting rs)
   free_missed (CommitOver end) lost h = tt
 
-module _ (w : Script) (minimum : ℕ) (j : IsLegal w) (k : Times) (s : Seen) (m : Told) (n : ℕ) (hold : Hold w minimum s m) (uncleaned : m.cleaned ≡ false) (few : s.scene.content.next ≤ 2 ^ 64) (begun : is_picking k s.begun n ≡ true) where
+module _ (w : Script) (minimum : ℕ) (j : IsLegal w) (k : Times) (s : Seen) (m : Told) (n : ℕ) (hold : Hold w minimum s m)
+    (uncleaned : m.cleaned ≡ false) (few : s.scene.content.next ≤ 2 ^ 64) (begun : is_picking k s.begun n ≡ true) where
   abbrev picks_after : Request → Outcome → Picks
   picks_after r o = (see w k s (driver_entry n r o)).picks
 
@@ -119,30 +169,37 @@ module _ (w : Script) (minimum : ℕ) (j : IsLegal w) (k : Times) (s : Seen) (m 
     ]
 
     behind : (h : PendingSet) (t : ℕ) → length (sets ++ h ∷ []) ≤ t → t < w.tasks → now t ≡ None
-    behind h t l low_t = let long = length-append sets (h ∷ []) in other t low_t (let past : length sets < t = omega arith in λ e. absurd (omega arith)) ∙ free t (omega arith) low_t
+    behind h t l low_t = let long = length-append sets (h ∷ []) in other t low_t
+        (let past : length sets < t = omega arith in λ e. absurd (omega arith)) ∙ free t (omega arith) low_t
 
-    free_read : (x : Reply) → x ≡ answer s.scene (set_request w.committer w (length sets)) → After (Fetching sets i) (set_request w.committer w (length sets)) (Answered x)
+    free_read : (x : Reply) → x ≡ answer s.scene (set_request w.committer w (length sets))
+        → After (Fetching sets i) (set_request w.committer w (length sets)) (Answered x)
     free_read x e = elim (reads_so w minimum j s m hold uncleaned few (length sets) low x e) [
       | inl none ↦ subst (λ o. Free w now (fetched w sets o)) (sym none.0) (unpublished none.1)
       | inr y ↦ subst (λ o. Free w now (fetched w sets o)) (sym y.1) (free_fetching w now (sets ++ y.0 ∷ []) (behind y.0))
     ]
 
-  free_heard : (c : Commit) → Decides w minimum m.publish_sent m.drawn c → Free w s.picks c → (r : Request) → commit_asks w c ≡ Some r → (x : Reply) → x ≡ answer s.scene r → After c r (Answered x)
+  free_heard : (c : Commit) → Decides w minimum m.publish_sent m.drawn c → Free w s.picks c → (r : Request) → commit_asks w c ≡ Some r
+      → (x : Reply) → x ≡ answer s.scene r → After c r (Answered x)
   free_heard (Fetching sets i) low free r e x honest =
       let is : set_request w.committer w (length sets) ≡ r = some_is e in
       subst (λ q. After (Fetching sets i) q (Answered x)) is (free_read sets i low free x (honest ∙ ap (answer s.scene) (sym is)))
-  free_heard (Replacing sets q qs v i) low free r e x honest = free_swept w (picks_after r (Answered x)) sets q qs (sweep_hears (is_no_magic w) v x)
-  free_heard (Completing sets y ys finished) low free r e x honest = free_completing w (picks_after r (Answered x)) sets (ys ++ follow w.lanes (length (all_commits sets)) y.number) (y.number ∷ finished)
+  free_heard (Replacing sets q qs v i) low free r e x honest = free_swept w (picks_after r (Answered x)) sets q qs
+      (sweep_hears (is_no_magic w) v x)
+  free_heard (Completing sets y ys finished) low free r e x honest = free_completing w (picks_after r (Answered x)) sets
+      (ys ++ follow w.lanes (length (all_commits sets)) y.number) (y.number ∷ finished)
   free_heard (Reverting q qs i) low free r e x honest = free_reverting w (picks_after r (Answered x)) qs
   free_heard _ low free r e x honest = tt
 
-  free_next : (c : Commit) → Decides w minimum m.publish_sent m.drawn c → Free w s.picks c → (r : Request) → commit_asks w c ≡ Some r → (o : Outcome) → IsHonestOutcome o (answer s.scene r) → After c r o
+  free_next : (c : Commit) → Decides w minimum m.publish_sent m.drawn c → Free w s.picks c → (r : Request) → commit_asks w c ≡ Some r
+      → (o : Outcome) → IsHonestOutcome o (answer s.scene r) → After c r o
   free_next c low free r e (Answered x) honest = free_heard c low free r e x honest
   free_next c low free r e Slow honest = free_missed w s.picks c false free
   free_next c low free r e _ honest = free_missed w s.picks c true free
 
 -- an attempt picks nothing
-pub attempt_picks : (w : Script) (k : Times) (s : Seen) (a : Who) (n : ℕ) (r : Request) (o : Outcome) → (see w k s (entry a n r o)).picks ≡ s.picks
+pub attempt_picks : (w : Script) (k : Times) (s : Seen) (a : Who) (n : ℕ) (r : Request) (o : Outcome)
+    → (see w k s (entry a n r o)).picks ≡ s.picks
 attempt_picks w k s a n r (Answered x) = refl
 attempt_picks w k s a n r _ = refl
 
@@ -152,21 +209,28 @@ module _ (g : Setting) (k : Times) (opening : Content) (j : IsLegal g.script) (i
   abbrev w : Script
   w = g.script
 
-  sent : (fs : List Entry) (y : Stand) (op : Operation) (n : ℕ) (r : Request) (o : Outcome) → Runs g k opening fs y → y.driver ≡ Some op → asks g (who Driver) nothing_learnt op ≡ Some r → IsTimely k n op → y.seen.scene.content.next ≤ 2 ^ 64
-      → IsHonestOutcome o (answer y.seen.scene r) → FreeAt w y.seen.picks y.driver → FreeAt w (see w k y.seen (driver_entry n r o)).picks (Some (tells g (who Driver) op o))
+  sent : (fs : List Entry) (y : Stand) (op : Operation) (n : ℕ) (r : Request) (o : Outcome) → Runs g k opening fs y → y.driver ≡ Some op
+      → asks g (who Driver) nothing_learnt op ≡ Some r → IsTimely k n op → y.seen.scene.content.next ≤ 2 ^ 64
+      → IsHonestOutcome o (answer y.seen.scene r) → FreeAt w y.seen.picks y.driver
+      → FreeAt w (see w k y.seen (driver_entry n r o)).picks (Some (tells g (who Driver) op o))
   sent fs y (TheSetup t) n r o run d asked timely few honest free = tt
   sent fs y (TheCommit c) n r o run d asked timely few honest free =
       let l = late_now g k opening j is_opening fs y run (ap is_set d) in
       let i : InCommit g opening y.seen.picks y.told c = subst (λ v. At g opening v y.seen y.told) d l.driver in
-      free_next w g.minimum j k y.seen y.told n l.hold i.uncleaned few (commit_picks k y.seen.begun n timely.0 timely.1) c i.decides (subst (FreeAt w y.seen.picks) d free) r asked o honest
+      free_next w g.minimum j k y.seen y.told n l.hold i.uncleaned few (commit_picks k y.seen.begun n timely.0 timely.1) c i.decides
+      (subst (FreeAt w y.seen.picks) d free) r asked o honest
   sent fs y (TheCheck t) n r o run d asked timely few honest free =
       let l = late_now g k opening j is_opening fs y run (ap is_set d) in
       let idle = subst (λ v. At g opening v y.seen y.told) d l.driver in
-      let after = checked_idle g k opening j is_opening y (cleans_is g k opening j is_opening fs y run) n r o (check_plain w t.operation r asked) timely.1 idle in
-      after_check_so g (λ op. FreeAt w (see w k y.seen (driver_entry n r o)).picks (Some op)) (free_start w (see w k y.seen (driver_entry n r o)).picks after.unpicked None) (λ u. after.unpicked) (step w.retries (check_after w) t o)
+      let after = checked_idle g k opening j is_opening y (cleans_is g k opening j is_opening fs y run) n r o
+      (check_plain w t.operation r asked) timely.1 idle in
+      after_check_so g (λ op. FreeAt w (see w k y.seen (driver_entry n r o)).picks (Some op))
+      (free_start w (see w k y.seen (driver_entry n r o)).picks after.unpicked None) (λ u. after.unpicked)
+      (step w.retries (check_after w) t o)
   sent fs y _ n r o run d asked timely few honest free = tt
 
-  begin_unread : (fs : List Entry) (y : Stand) (b : Beginning) → Runs g k opening fs y → MayBegin g y b → FreeAt w y.seen.picks y.driver → FreeAt w y.seen.picks (begin g y b).driver
+  begin_unread : (fs : List Entry) (y : Stand) (b : Beginning) → Runs g k opening fs y → MayBegin g y b → FreeAt w y.seen.picks y.driver
+      → FreeAt w y.seen.picks (begin g y b).driver
   begin_unread fs y (BeginCommit r) run may free =
       let l = late_now g k opening j is_opening fs y run (just_set y.driver may) in
       let none = unpicked g opening j is_opening y.driver y.seen y.told may l.driver in
@@ -178,6 +242,8 @@ module _ (g : Setting) (k : Times) (opening : Content) (j : IsLegal g.script) (i
   pub unread : (es : List Entry) (x : Stand) → Runs g k opening es x → FreeAt w x.seen.picks x.driver
   unread es x run_begins = tt
   unread es x (actor_begins fs y b run may) = begin_unread fs y b run may (unread fs y run)
-  unread es x (driver_sends fs y op n r o run d asked timely few honest) = sent fs y op n r o run d asked timely few honest (unread fs y run)
-  unread es x (attempt_sends fs y a op n r o run set at asked honest) = subst (λ p. FreeAt w p y.driver) (sym (attempt_picks w k y.seen a n r o)) (unread fs y run)
+  unread es x (driver_sends fs y op n r o run d asked timely few honest) = sent fs y op n r o run d asked timely few honest
+      (unread fs y run)
+  unread es x (attempt_sends fs y a op n r o run set at asked honest) = subst (λ p. FreeAt w p y.driver)
+      (sym (attempt_picks w k y.seen a n r o)) (unread fs y run)
   unread es x (strays fs y n r o run f) = unread fs y run

@@ -1,11 +1,17 @@
 -- What an actor is at, beside the contracts of its calls.
-use Rattle.std.specs.Prelude.{◌≡◌, ℕ, ◌+◌, ◌<◌, ◌≤◌, Bool, true, false, not, Option, Some, None, is_some}
+use Rattle.job_model.specs.declared.ends.OpEnd.{OpEnd}
+use Rattle.job_spec.specs.Turns.{is_memory}
+use Rattle.s3_types.specs.Answer.{answer, apply}
+use Rattle.s3_types.specs.Moment.{IsHonestOutcome, effect}
+use Rattle.s3_types.specs.Store.{Scene}
+use Rattle.s3_types.specs.declared.journal.Outcome.{Outcome}
+use Rattle.s3_types.specs.declared.request.Request.{Request}
+use Rattle.std.specs.Prelude.{Bool, None, Option, Some, false, is_some, not, true, ℕ, ◌+◌, ◌<◌, ◌≡◌, ◌≤◌}
 use Rattle.job_model.specs.declared.ends.SetupEnd.TheVariants as setups
 use Rattle.job_model.specs.declared.ends.CheckEnd.TheVariants as checks
 use Rattle.job_model.specs.declared.ends.TaskEnd.TheVariants as tasks
 use Rattle.job_model.specs.declared.ends.CommitEnd.TheVariants as commits
 use Rattle.job_model.specs.declared.ends.OpEnd.TheVariants as ends
-use Rattle.job_steps.specs.Prelude.{Scene, answer, apply, effect, IsHonestOutcome, Request, Outcome, OpEnd, is_memory}
 
 -- the end names a path: one at which files clash, one that two tasks write, or what is gone
 abbrev pub names_path : OpEnd → Bool
@@ -32,10 +38,12 @@ pub record EndsWanting (asked : Option Request) (end : Option OpEnd) : Type 0 wh
   pub wanting : ends_wanting end ≡ true
 
 -- what an actor is at asks a request until it has ended, and ends
-pub record ActLaws {A : Type 0} (wants : A → Option Request) (tells : A → Outcome → A) (fits : A → Outcome → Type 0) (end_of : A → Option OpEnd) (left : A → Scene → ℕ) (rise : A → Request → ℕ) : Type 0 where
+pub record ActLaws {A : Type 0} (wants : A → Option Request) (tells : A → Outcome → A) (fits : A → Outcome → Type 0)
+    (end_of : A → Option OpEnd) (left : A → Scene → ℕ) (rise : A → Request → ℕ) : Type 0 where
   -- it asks a request exactly until it has ended
   pub goes_on : (a : A) → is_some (wants a) ≡ not (is_some (end_of a))
   -- what is left falls with each sending of its own, whatever becomes of it
-  pub falls : (a : A) (s : Scene) (r : Request) (o : Outcome) → wants a ≡ Some r → fits a o → IsHonestOutcome o (answer s r) → left (tells a o) (effect s r o) < left a s
+  pub falls : (a : A) (s : Scene) (r : Request) (o : Outcome) → wants a ≡ Some r → fits a o → IsHonestOutcome o (answer s r)
+      → left (tells a o) (effect s r o) < left a s
   -- by a request of another actor it rises by no more than that
   pub others : (a : A) (s : Scene) (r : Request) → left a (apply s r) ≤ left a s + rise a r

@@ -1,6 +1,18 @@
 -- The picks of a job's commit, as a run goes on.
-use Rattle.std.specs.Prelude.{◌≡◌, Bool, true, false, List, [], ◌∷◌, ◌++◌, Option, Some, None}
-use Rattle.job_steps.specs.Prelude.{Content, Driver, Entry, IsLegal, Event, EventEnd, Pick, Setting, Operation, Running, TheCommit, TheCheck, begins_commit, is_commit, all_picks, IsOpening, Play, Reachable, MayOpen, Ahead}
+use Rattle.job_model.specs.Legal.{IsLegal}
+use Rattle.job_model.specs.declared.ends.EventEnd.{EventEnd}
+use Rattle.job_model.specs.declared.ends.Pick.{Pick}
+use Rattle.job_model.specs.declared.events.Event.{Event}
+use Rattle.job_protocol.specs.Operations.{Operation, Running, Setting, TheCheck, TheCommit}
+use Rattle.job_spec.specs.Promise.{all_picks}
+use Rattle.job_spec.specs.States.{begins_commit, is_commit}
+use Rattle.job_steps.specs.Running.{Ahead}
+use Rattle.job_steps.specs.Transitions.{MayOpen, Play, Reachable}
+use Rattle.job_traces.specs.Runs.{IsOpening}
+use Rattle.s3_types.specs.Store.{Content}
+use Rattle.s3_types.specs.declared.journal.Entry.{Entry}
+use Rattle.s3_types.specs.declared.request.Actor.TheVariants.{Driver}
+use Rattle.std.specs.Prelude.{Bool, List, None, Option, Some, false, true, [], ◌++◌, ◌∷◌, ◌≡◌}
 
 -- these are the picks that are seen so far, however the run goes on
 abbrev pub ArePicksOf : Setting → Content → Play → List Pick → Type 0
@@ -13,7 +25,8 @@ HasPicked g opening x None = Unit {0}
 
 -- the entry leaves the picks that are seen so far as they are, however the run goes on
 abbrev pub LeavesPicks : Setting → Content → Play → Entry → Type 0
-LeavesPicks g opening x e = (xs : List EventEnd) → Ahead x xs → all_picks g.script opening (x.journal ++ e ∷ []) xs ≡ all_picks g.script opening x.journal xs
+LeavesPicks g opening x e = (xs : List EventEnd) → Ahead x xs
+    → all_picks g.script opening (x.journal ++ e ∷ []) xs ≡ all_picks g.script opening x.journal xs
 
 -- the operation is the job's commit, or the check that goes on as one
 abbrev pub is_job_commit : Operation → Bool
@@ -29,6 +42,8 @@ is_committing (Some m) = is_job_commit m.operation
 -- How picks go.
 pub record PicksGo : Type 0 where
   -- what the driver began last is the job's commit exactly where that is at it
-  pub doing : (g : Setting) (opening : Content) (x : Play) → IsLegal g.script → Reachable g opening x → is_committing (x.running Driver) ≡ is_commit (x.live.doing Driver)
+  pub doing : (g : Setting) (opening : Content) (x : Play) → IsLegal g.script → Reachable g opening x
+      → is_committing (x.running Driver) ≡ is_commit (x.live.doing Driver)
   -- where the job's commit may begin nothing was picked
-  pub none_before : (g : Setting) (opening : Content) (x : Play) → IsLegal g.script → IsOpening g opening → Reachable g opening x → (ev : Event) → begins_commit ev ≡ true → MayOpen g x ev None → ArePicksOf g opening x []
+  pub none_before : (g : Setting) (opening : Content) (x : Play) → IsLegal g.script → IsOpening g opening → Reachable g opening x
+      → (ev : Event) → begins_commit ev ≡ true → MayOpen g x ev None → ArePicksOf g opening x []

@@ -1,8 +1,12 @@
 -- The plans that a script gives to the actors of its job.
-use Rattle.std.specs.Prelude.{◌≡◌}
-use Rattle.job_steps.specs.Prelude.{Actor, Driver, Attempt, Known, Setting, who, job_of, task_of}
 use Rattle.job_actor.specs.declared.plan.Plan.{Plan}
 use Rattle.job_actor.specs.declared.plan.Plan.TheVariants.{Job, Task}
+use Rattle.job_model.specs.Known.{Known}
+use Rattle.job_protocol.specs.AtWork.{job_of, task_of}
+use Rattle.job_protocol.specs.Operations.{Setting, who}
+use Rattle.s3_types.specs.declared.request.Actor.{Actor}
+use Rattle.s3_types.specs.declared.request.Actor.TheVariants.{Attempt, Driver}
+use Rattle.std.specs.Prelude.{◌≡◌}
 
 -- the script gives this actor, who knows this, the plan
 abbrev pub IsPlanOf : Setting → Actor → Known → Plan → Type 0

@@ -1,11 +1,21 @@
 -- One sending of the request that an actor asks.
-use Rattle.std.specs.Prelude.{◌≡◌, ℕ, ◌+◌, List, [], ◌∷◌, ◌++◌, Option, Some}
-use Rattle.job_steps.specs.Prelude.{Scene, answer, effect, IsHonestOutcome, IsForetold, Fate, Request, Actor, Outcome, Entry, OpEnd}
 use Rattle.job_actor.specs.Acts.{EndsWanting}
 use Rattle.job_actor.specs.declared.posting.Posted.{Posted}
-use Rattle.job_actor.specs.declared.posting.Posted.TheVariants.{Unsent, Broken, Heard}
+use Rattle.job_actor.specs.declared.posting.Posted.TheVariants.{Broken, Heard, Unsent}
+use Rattle.job_model.specs.declared.ends.OpEnd.{OpEnd}
+use Rattle.s3_types.specs.Answer.{answer}
+use Rattle.s3_types.specs.Foretold.{IsForetold}
+use Rattle.s3_types.specs.Moment.{IsHonestOutcome, effect}
+use Rattle.s3_types.specs.Store.{Scene}
+use Rattle.s3_types.specs.declared.fates.Fate.{Fate}
+use Rattle.s3_types.specs.declared.journal.Entry.{Entry}
+use Rattle.s3_types.specs.declared.journal.Outcome.{Outcome}
+use Rattle.s3_types.specs.declared.request.Actor.{Actor}
+use Rattle.s3_types.specs.declared.request.Request.{Request}
+use Rattle.std.specs.Prelude.{List, Option, Some, ℕ, [], ◌++◌, ◌+◌, ◌∷◌, ◌≡◌}
 
--- what is seen of a run: the scene, how many requests were made, what becomes of those to come as far as it is told beforehand, and the entries
+-- what is seen of a run: the scene, how many requests were made, what becomes of those to come as far as it is told beforehand, and the
+-- entries
 pub record Sight : Type 0 where
   pub scene : Scene
   pub requests : ℕ
@@ -20,7 +30,8 @@ sight scene requests told entries = record { scene = scene; requests = requests;
 abbrev pub DueFits : {A : Type 0} → (A → Option Request) → (A → Outcome → Type 0) → A → Scene → Type 0
 DueFits wants fits a s = (r : Request) (o : Outcome) → wants a ≡ Some r → IsHonestOutcome o (answer s r) → fits a o
 
--- one entry was appended, by this actor in this event: of the request that was asked, honest, and with the outcome that was told beforehand, where one was
+-- one entry was appended, by this actor in this event: of the request that was asked, honest, and with the outcome that was told
+-- beforehand, where one was
 pub record Grew (asked : Option Request) (actor : Actor) (event : ℕ) (c d : Sight) : Type 0 where
   pub request : Request
   pub outcome : Outcome
@@ -39,17 +50,20 @@ pub record NotSent {A : Type 0} (a b : A) (c d : Sight) : Type 0 where
   pub count : d.requests ≡ c.requests
 
 -- it was sent, and the actor found no memory when it was told
-pub record SentBroken {A : Type 0} (wants : A → Option Request) (end_of : A → Option OpEnd) (actor : Actor) (event : ℕ) (a b : A) (c d : Sight) : Type 0 where
+pub record SentBroken {A : Type 0} (wants : A → Option Request) (end_of : A → Option OpEnd) (actor : Actor) (event : ℕ) (a b : A)
+    (c d : Sight) : Type 0 where
   pub grew : Grew (wants a) actor event c d
   pub over : EndsWanting (wants b) (end_of b)
 
 -- it was sent, and the actor was told the outcome of its entry
-pub record SentHeard {A : Type 0} (wants : A → Option Request) (tells : A → Outcome → A) (actor : Actor) (event : ℕ) (a b : A) (c d : Sight) : Type 0 where
+pub record SentHeard {A : Type 0} (wants : A → Option Request) (tells : A → Outcome → A) (actor : Actor) (event : ℕ) (a b : A)
+    (c d : Sight) : Type 0 where
   pub grew : Grew (wants a) actor event c d
   pub told : b ≡ tells a grew.outcome
 
 -- what one sending has done, by how it went
-abbrev pub PostedBy : {A : Type 0} → (A → Option Request) → (A → Outcome → A) → (A → Option OpEnd) → Actor → ℕ → A → A → Sight → Sight → Posted → Type 0
+abbrev pub PostedBy : {A : Type 0} → (A → Option Request) → (A → Outcome → A) → (A → Option OpEnd) → Actor → ℕ → A → A → Sight → Sight
+    → Posted → Type 0
 PostedBy wants tells end_of actor event a b c d Unsent = NotSent a b c d
 PostedBy wants tells end_of actor event a b c d Broken = SentBroken wants end_of actor event a b c d
 PostedBy wants tells end_of actor event a b c d Heard = SentHeard wants tells actor event a b c d

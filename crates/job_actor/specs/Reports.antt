@@ -1,9 +1,15 @@
 -- What a driver knows of its tasks as it begins an operation.
-use Rattle.std.specs.Prelude.{List, Some, is_some, ℕ, ◌≡◌}
-use Rattle.job_protocol.specs.Prelude.{Actor, Driver, Op, Reports, Script, Setting, Who, paths_of}
-use Rattle.job_protocol.specs.Rechecks.{files_of_all}
 use Rattle.commit_laws.specs.Fitting.{least_missing}
 use Rattle.job_actor.specs.declared.reported.Reported.{Reported}
+use Rattle.job_model.specs.Attempts.{Who}
+use Rattle.job_model.specs.JobScript.{Script}
+use Rattle.job_model.specs.declared.events.Op.{Op}
+use Rattle.job_protocol.specs.Operations.{Reports, Setting}
+use Rattle.job_protocol.specs.Outputs.{paths_of}
+use Rattle.job_protocol.specs.Rechecks.{files_of_all}
+use Rattle.s3_types.specs.declared.request.Actor.{Actor}
+use Rattle.s3_types.specs.declared.request.Actor.TheVariants.{Driver}
+use Rattle.std.specs.Prelude.{List, Some, is_some, ℕ, ◌≡◌}
 use Rattle.job_model.specs.declared.events.Op.TheVariants as ops
 use Rattle.job_protocol.specs.Conflicts as conflicts
 

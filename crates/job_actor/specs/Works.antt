@@ -1,16 +1,34 @@
 -- What the operations of a job's actors owe to a world.
-use Rattle.std.specs.Prelude.{◌≡◌, ℕ, ◌+◌, ◌≤◌, ◌^◌, List, [], Option, Some, None, is_some, slice_get}
-use Rattle.job_steps.specs.Prelude.{Content, Scene, answer, apply, IsHonestOutcome, Request, Actor, Driver, Outcome, Entry, Known, IsLegal, Script, Op, OpEnd, Pick, Reports, Setting, Running, advance, over, start_of, actors, IsOpening, Play, Reachable, Sends, MaySend, happen, scene_of, knows_now}
-use Rattle.job_protocol.specs.Operations as operations
-use Rattle.job_actor.specs.Posting.{DueFits}
 use Rattle.job_actor.specs.Picks.{HasPicked, LeavesPicks, is_job_commit}
+use Rattle.job_actor.specs.Posting.{DueFits}
+use Rattle.job_model.specs.JobScript.{Script}
+use Rattle.job_model.specs.Known.{Known}
+use Rattle.job_model.specs.Legal.{IsLegal}
+use Rattle.job_model.specs.declared.ends.OpEnd.{OpEnd}
+use Rattle.job_model.specs.declared.ends.Pick.{Pick}
+use Rattle.job_model.specs.declared.events.Op.{Op}
+use Rattle.job_protocol.specs.Operations.{Reports, Running, Setting, advance, over, start_of}
+use Rattle.job_spec.specs.States.{actors}
+use Rattle.job_steps.specs.Transitions.{MaySend, Play, Reachable, Sends, happen, knows_now, scene_of}
+use Rattle.job_traces.specs.Runs.{IsOpening}
+use Rattle.s3_types.specs.Answer.{answer, apply}
+use Rattle.s3_types.specs.Moment.{IsHonestOutcome}
+use Rattle.s3_types.specs.Store.{Content, Scene}
+use Rattle.s3_types.specs.declared.journal.Entry.{Entry}
+use Rattle.s3_types.specs.declared.journal.Outcome.{Outcome}
+use Rattle.s3_types.specs.declared.request.Actor.{Actor}
+use Rattle.s3_types.specs.declared.request.Actor.TheVariants.{Driver}
+use Rattle.s3_types.specs.declared.request.Request.{Request}
+use Rattle.std.specs.Prelude.{List, None, Option, Some, is_some, slice_get, ℕ, [], ◌+◌, ◌^◌, ◌≡◌, ◌≤◌}
+use Rattle.job_protocol.specs.Operations as operations
 
 -- the actor at a place: the driver at 0, and then the attempts in script order
 abbrev pub IsPlace : Script → ℕ → Actor → Type 0
 IsPlace w place a = slice_get (actors w) place ≡ Some a
 
 -- it is this operation of the actor as the script begins it, where the actor knows k and the driver these reports
-pub record Starts {W : Type 0} (is_of : Setting → Actor → W → Type 0) (running : Known → W → Running) (picks_of : W → Option (List Pick)) (g : Setting) (a : Actor) (op : Op) (reports : Reports) (k : Known) (work : W) : Type 0 where
+pub record Starts {W : Type 0} (is_of : Setting → Actor → W → Type 0) (running : Known → W → Running) (picks_of : W → Option (List Pick))
+    (g : Setting) (a : Actor) (op : Op) (reports : Reports) (k : Known) (work : W) : Type 0 where
   pub goes_by : is_of g a work
   pub starts : start_of g a op reports k ≡ Some (running k work).operation
   pub known : (running k work).known ≡ k
@@ -18,7 +36,8 @@ pub record Starts {W : Type 0} (is_of : Setting → Actor → W → Type 0) (run
   pub picks : (ps : List Pick) → picks_of work ≡ Some ps → ps ≡ []
 
 -- a run of a legal script has come so far, and this is what an actor of it is at
-pub record IsAt {W : Type 0} (is_of : Setting → Actor → W → Type 0) (running : Known → W → Running) (g : Setting) (opening : Content) (x : Play) (a : Actor) (work : W) : Type 0 where
+pub record IsAt {W : Type 0} (is_of : Setting → Actor → W → Type 0) (running : Known → W → Running) (g : Setting) (opening : Content)
+    (x : Play) (a : Actor) (work : W) : Type 0 where
   pub legal : IsLegal g.script
   pub opens : IsOpening g opening
   pub happened : Reachable g opening x
@@ -33,20 +52,29 @@ rise_for most Driver = most
 rise_for most _ = 0
 
 -- what holds of operations in every run of a legal script
-pub record WorkLaws {W : Type 0} (wants : W → Option Request) (tells : W → Outcome → W) (fits : W → Outcome → Type 0) (end_of : W → Option OpEnd) (left : W → Scene → ℕ) (is_of : Setting → Actor → W → Type 0) (running : Known → W → Running) (rise : Script → ℕ) (picks_of : W → Option (List Pick)) : Type 0 where
+pub record WorkLaws {W : Type 0} (wants : W → Option Request) (tells : W → Outcome → W) (fits : W → Outcome → Type 0)
+    (end_of : W → Option OpEnd) (left : W → Scene → ℕ) (is_of : Setting → Actor → W → Type 0) (running : Known → W → Running)
+    (rise : Script → ℕ) (picks_of : W → Option (List Pick)) : Type 0 where
   -- it asks what the script's operation asks, and each outcome that is due fits
-  pub asks : (g : Setting) (opening : Content) (x : Play) (a : Actor) (work : W) → IsAt is_of running g opening x a work → wants work ≡ operations.wants g a (running (knows_now g x a) work)
-  pub due : (g : Setting) (opening : Content) (x : Play) (a : Actor) (work : W) → IsAt is_of running g opening x a work → DueFits wants fits work (scene_of opening x)
+  pub asks : (g : Setting) (opening : Content) (x : Play) (a : Actor) (work : W) → IsAt is_of running g opening x a work
+      → wants work ≡ operations.wants g a (running (knows_now g x a) work)
+  pub due : (g : Setting) (opening : Content) (x : Play) (a : Actor) (work : W) → IsAt is_of running g opening x a work
+      → DueFits wants fits work (scene_of opening x)
   -- it goes where that goes
-  pub goes : (g : Setting) (opening : Content) (x : Play) (a : Actor) (work : W) → IsAt is_of running g opening x a work → (r : Request) → wants work ≡ Some r → (o : Outcome) → IsHonestOutcome o (answer (scene_of opening x) r)
-      → is_of g a (tells work o) × (running (advance g a (running (knows_now g x a) work) o).known (tells work o) ≡ advance g a (running (knows_now g x a) work) o)
+  pub goes : (g : Setting) (opening : Content) (x : Play) (a : Actor) (work : W) → IsAt is_of running g opening x a work → (r : Request)
+      → wants work ≡ Some r → (o : Outcome) → IsHonestOutcome o (answer (scene_of opening x) r)
+      → is_of g a (tells work o) × (running (advance g a (running (knows_now g x a) work) o).known (tells work o) ≡ advance g a
+      (running (knows_now g x a) work) o)
   -- and ends as that does
   pub ends : (k : Known) (work : W) → end_of work ≡ over (running k work).operation
   -- an actor's request raises what another has left by no more than so much
-  pub beside : (g : Setting) (opening : Content) (x : Play) (a b : Actor) (work other : W) → IsAt is_of running g opening x a work → IsAt is_of running g opening x b other → (a ≡ b → ⊥) → (r : Request) → wants other ≡ Some r
+  pub beside : (g : Setting) (opening : Content) (x : Play) (a b : Actor) (work other : W) → IsAt is_of running g opening x a work
+      → IsAt is_of running g opening x b other → (a ≡ b → ⊥) → (r : Request) → wants other ≡ Some r
       → left work (apply (scene_of opening x) r) ≤ left work (scene_of opening x) + rise_for (rise g.script) a
   -- the job's commit has picks: they are those that are seen, from its beginning on; and any other operation leaves them
   pub has_picks : (k : Known) (work : W) → is_some (picks_of work) ≡ is_job_commit (running k work).operation
-  pub picks : (g : Setting) (opening : Content) (x : Play) (a : Actor) (work : W) → IsAt is_of running g opening x a work → HasPicked g opening x (picks_of work)
+  pub picks : (g : Setting) (opening : Content) (x : Play) (a : Actor) (work : W) → IsAt is_of running g opening x a work
+      → HasPicked g opening x (picks_of work)
       → (e : Entry) → e.actor ≡ a → MaySend g opening x e → HasPicked g opening (happen g x (Sends e)) (picks_of (tells work e.outcome))
-  pub leaves : (g : Setting) (opening : Content) (x : Play) (a : Actor) (work : W) → IsAt is_of running g opening x a work → picks_of work ≡ None → (e : Entry) → e.actor ≡ a → MaySend g opening x e → LeavesPicks g opening x e
+  pub leaves : (g : Setting) (opening : Content) (x : Play) (a : Actor) (work : W) → IsAt is_of running g opening x a work
+      → picks_of work ≡ None → (e : Entry) → e.actor ≡ a → MaySend g opening x e → LeavesPicks g opening x e

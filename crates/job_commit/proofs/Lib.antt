@@ -4,4 +4,3 @@ pub mod Goings
 pub mod Tables
 pub mod Whole
 pub mod Lost
-mod Common

@@ -1,19 +1,28 @@
 -- What a job's commit keeps true of its parts.
-use Rattle.std.specs.Prelude.{◌≡◌, ℕ, ◌+◌, ◌<◌, ◌≤◌, Bool, List, [], ◌∷◌, map, length, Option, Some, None}
-use Rattle.job_protocol.specs.Prelude.{Request, Job, Script, Pick, Turn, Reply, ClusterBytes, Answered, Sets, all_commits, Commit, commit_asks, commit_hears, commit_misses, In, read_script, sets_in, sets_after, picked_after}
-use Rattle.s3_types.specs.declared.reply.Reply.TheVariants.{Object}
-use Rattle.conflict.specs.Deletions.{Deletion, spared}
-use Rattle.commit_parts.specs.Tables.{LaneTable}
-use Rattle.commit_parts.specs.Undos.{NumbersWithin}
-use Rattle.job_commit.specs.Stages.{operation_of}
 use Rattle.commit_parts.specs.Places.{places_from}
 use Rattle.commit_parts.specs.ReadSets.{AreRead, HasAll}
+use Rattle.commit_parts.specs.Tables.{LaneTable}
+use Rattle.commit_parts.specs.Undos.{NumbersWithin}
 use Rattle.commit_parts.specs.declared.places.Place.{Place}
 use Rattle.commit_parts.specs.declared.undo.Undo.{Undo}
+use Rattle.conflict.specs.Deletions.{Deletion, spared}
+use Rattle.job_commit.specs.Stages.{operation_of}
 use Rattle.job_commit.specs.declared.basis.Basis.{Basis}
-use Rattle.job_commit.specs.declared.step.Step.{Step}
-use Rattle.job_commit.specs.declared.step.Step.TheVariants as steps
 use Rattle.job_commit.specs.declared.step.Next.{Next}
+use Rattle.job_commit.specs.declared.step.Step.{Step}
+use Rattle.job_model.specs.JobScript.{Script}
+use Rattle.job_model.specs.Jobs.{Job}
+use Rattle.job_model.specs.declared.ends.Pick.{Pick}
+use Rattle.job_protocol.specs.AtWork.{picked_after, read_script, sets_after, sets_in}
+use Rattle.job_protocol.specs.JobCommits.{Commit, Sets, all_commits, commit_asks, commit_hears, commit_misses}
+use Rattle.job_protocol.specs.LaneTable.{In}
+use Rattle.job_protocol.specs.Lanes.{Turn}
+use Rattle.s3_types.specs.declared.journal.Outcome.TheVariants.{Answered}
+use Rattle.s3_types.specs.declared.reply.Reply.{Reply}
+use Rattle.s3_types.specs.declared.reply.Reply.TheVariants.{ClusterBytes, Object}
+use Rattle.s3_types.specs.declared.request.Request.{Request}
+use Rattle.std.specs.Prelude.{Bool, List, None, Option, Some, length, map, ℕ, [], ◌+◌, ◌<◌, ◌∷◌, ◌≡◌, ◌≤◌}
+use Rattle.job_commit.specs.declared.step.Step.TheVariants as steps
 
 -- picks of the tasks from this one on
 abbrev pub picks_from : ℕ → List ℕ → List Pick
@@ -78,7 +87,8 @@ pub record IsNext (j : Job) (sets : Sets) (places : List Place) (c : Commit) (ne
   pub step : StepHolds j sets places next.step
 
 -- what the machine does next after an answer, with the sets, the places and the picks that it then has
-pub record Heard (j : Job) (sets : Sets) (picks : List Pick) (c : Commit) (r : Reply) (sets' : Sets) (places' : List Place) (picks' : List Pick) (after : Next) : Type 0 where
+pub record Heard (j : Job) (sets : Sets) (picks : List Pick) (c : Commit) (r : Reply) (sets' : Sets) (places' : List Place)
+    (picks' : List Pick) (after : Next) : Type 0 where
   pub next : IsNext j sets' places' (commit_hears (read_script j (sets_after c (Answered r))) c r) after
   pub picked : attempts_of picks' ≡ picked_after (attempts_of picks) c (Answered r)
 

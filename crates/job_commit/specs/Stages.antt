@@ -1,13 +1,18 @@
 -- What a job's commit is doing, as the machine keeps it.
-use Rattle.std.specs.Prelude.{ℕ, ◌+◌, Bool, false, List, [], ◌∷◌, ◌++◌, map, None, length}
-use Rattle.job_protocol.specs.Prelude.{Request, Turn, follow, again, Sweep, Sets, all_commits, Commit, Fetching, Replacing, Marking, Reverting, CommitOver, completing, worn_completion, Job}
-use Rattle.job_model.specs.declared.ends.CommitEnd.TheVariants as ends
-use Rattle.job_model.specs.declared.ends.Stage.TheVariants as stages
 use Rattle.commit_parts.specs.Tables.{first_missed}
 use Rattle.commit_parts.specs.Undos.{undo_request}
-use Rattle.job_commit.specs.declared.step.Step.{Step}
-use Rattle.job_commit.specs.declared.step.Step.TheVariants as steps
 use Rattle.job_commit.specs.declared.step.Next.{Next}
+use Rattle.job_commit.specs.declared.step.Step.{Step}
+use Rattle.job_model.specs.Jobs.{Job}
+use Rattle.job_protocol.specs.JobCommits.{Commit, CommitOver, Fetching, Marking, Replacing, Reverting, Sets, all_commits, completing}
+use Rattle.job_protocol.specs.JobCommits.{worn_completion}
+use Rattle.job_protocol.specs.Lanes.{Turn, again, follow}
+use Rattle.list_walk.specs.Walks.{Sweep}
+use Rattle.s3_types.specs.declared.request.Request.{Request}
+use Rattle.std.specs.Prelude.{Bool, List, None, false, length, map, ℕ, [], ◌++◌, ◌+◌, ◌∷◌}
+use Rattle.job_model.specs.declared.ends.CommitEnd.TheVariants as ends
+use Rattle.job_model.specs.declared.ends.Stage.TheVariants as stages
+use Rattle.job_commit.specs.declared.step.Step.TheVariants as steps
 
 -- these requests are left of the revert; the first was sent so often without an answer
 abbrev pub reverting_from : ℕ → List Request → Commit

@@ -1,9 +1,12 @@
 -- What a sending was for a commit.
-use Rattle.std.specs.Prelude.{nat_lt, Bool, false, cond}
-use Rattle.job_protocol.specs.Prelude.{Outcome, Answered, Commit, Completing, Committing}
-use Rattle.machine.specs.declared.retrying.Turn.{Turn}
-use Rattle.machine.specs.declared.retrying.Turn.TheVariants as turns
 use Rattle.commit_laws.specs.Fitting.{missed_of}
+use Rattle.job_protocol.specs.AtWork.{Committing}
+use Rattle.job_protocol.specs.JobCommits.{Commit, Completing}
+use Rattle.machine.specs.declared.retrying.Turn.{Turn}
+use Rattle.s3_types.specs.declared.journal.Outcome.{Outcome}
+use Rattle.s3_types.specs.declared.journal.Outcome.TheVariants.{Answered}
+use Rattle.std.specs.Prelude.{Bool, cond, false, nat_lt}
+use Rattle.machine.specs.declared.retrying.Turn.TheVariants as turns
 
 -- without an answer: the request is sent again, or was sent for the last time
 abbrev pub turn_unanswered : Committing → Turn

@@ -1,8 +1,28 @@
 -- What a store as lists shows, and what a journal makes of it.
-use Rattle.job_examples.proofs.Common.{Bool, Entry, List, None, Object, Option, Outcome, Path, Request, RequestLost, Slow, Some, [], after_all, and_parts, ap, arith, below, codes, cond, drop, effect, eq_by_cmp, false, false≢true, find, inl, inr, is_file_path, lake, list_all, moment, nat_eq, none_some, not, object_at, object_in, option_map, refl, relative_in, some_is, starts_with, sym, take, text_cmp, text_eq, text_exact, text_is, tied, true, true_or_false, view, ℕ, ◌&&◌, ◌++◌, ◌||◌, ◌∙◌, ◌∷◌, ◌≡◌}
-use Rattle.path_keys.proofs.Common.{Decides-eqb, starts_is}
+use Rattle.basics.proofs.Members.{none_some, some_is, text_exact, text_is, true_or_false}
+use Rattle.basics.proofs.Tree.{tied}
+use Rattle.basics.specs.Order.{text_cmp, text_eq}
+use Rattle.job_examples.proofs.Books.{Book, after, applies, at_bucket, content_of, is_ours, scene_of, text_found}
 use Rattle.job_examples.proofs.MapLists.{map_of, mapped}
-use Rattle.job_examples.proofs.Books.{Book, scene_of, content_of, text_found, at_bucket, after, is_ours, applies}
+use Rattle.job_examples.specs.Jobs.{lake}
+use Rattle.job_protocol.specs.View.{is_file_path, object_at, object_in, view}
+use Rattle.path_keys.specs.Paths.{Path, below, relative_in}
+use Rattle.s3_types.specs.Moment.{after_all, effect, moment}
+use Rattle.s3_types.specs.declared.journal.Entry.{Entry}
+use Rattle.s3_types.specs.declared.journal.Outcome.{Outcome}
+use Rattle.s3_types.specs.declared.journal.Outcome.TheVariants.{RequestLost, Slow}
+use Rattle.s3_types.specs.declared.object.Object.{Object}
+use Rattle.s3_types.specs.declared.request.Request.{Request}
+use Rattle.std.proofs.Common.{Bool, List, None, Option, Some, ap, arith, codes, cond, drop, false, inl, inr, not, refl, sym, take, true, ℕ}
+use Rattle.std.proofs.Common.{[], ◌&&◌, ◌++◌, ◌||◌, ◌∙◌, ◌∷◌, ◌≡◌}
+use Rattle.std.proofs.lemmas.Bool.{and_parts, false≢true}
+use Rattle.std.proofs.lemmas.Bool.Decides.{Decides-eqb}
+use Rattle.std.proofs.lemmas.Slice.Eq.{starts_is}
+use Rattle.std.specs.FinMap.Entries.{find}
+use Rattle.std.specs.List.{list_all, starts_with}
+use Rattle.std.specs.Option.{option_map}
+use Rattle.std.specs.Ordering.{eq_by_cmp}
+use Rattle.std.specs.Prelude.{nat_eq}
 
 pub implied : (a b : Bool) → (not a || b) ≡ true → a ≡ true → b ≡ true
 implied a b h g = grind arith
@@ -40,10 +60,13 @@ visible (e ∷ es) = shown_by (relative_in (codes "out") e.0) e.1.bytes (visible
 abbrev files_at : List (List ℕ × Object) → List ℕ → Option (List ℕ)
 files_at es p = cond (is_file_path p) (option_map (λ o. o.bytes) (find text_cmp (below (codes "out") p) es)) None
 
-find_shown : (b : Bool) (q bytes : List ℕ) (l : List (List ℕ × List ℕ)) (p : List ℕ) → find text_cmp p (cond b ((q, bytes) ∷ l) l) ≡ cond b (cond (eq_by_cmp text_cmp p q) (Some bytes) (find text_cmp p l)) (find text_cmp p l)
+find_shown : (b : Bool) (q bytes : List ℕ) (l : List (List ℕ × List ℕ)) (p : List ℕ)
+    → find text_cmp p (cond b ((q, bytes) ∷ l) l) ≡ cond b (cond (eq_by_cmp text_cmp p q) (Some bytes) (find text_cmp p l))
+    (find text_cmp p l)
 find_shown b q bytes l p = grind arith
 
-merged : (f g e : Bool) (bytes : List ℕ) (x rest : Option (List ℕ)) → (e ≡ true → f ≡ g) → cond f x None ≡ rest → cond f (cond e (Some bytes) x) None ≡ cond g (cond e (Some bytes) rest) rest
+merged : (f g e : Bool) (bytes : List ℕ) (x rest : Option (List ℕ)) → (e ≡ true → f ≡ g) → cond f x None ≡ rest
+    → cond f (cond e (Some bytes) x) None ≡ cond g (cond e (Some bytes) rest) rest
 merged f g e bytes x rest h p = grind arith
 
 same_path : (p q : List ℕ) → eq_by_cmp text_cmp p q ≡ true → p ≡ q
@@ -57,21 +80,28 @@ data Placed (k : List ℕ) : Type 0 where
 place : (k : List ℕ) → Placed k
 place k =
     elim (relative_in (codes "out") k) as (λ r. relative_in (codes "out") k ≡ r → Placed k) [
-      | None ↦ λ h. nowhere h (λ p. elim (true_or_false (eq_by_cmp text_cmp (below (codes "out") p) k)) [ inl e ↦ absurd (none_some h (ap (relative_in (codes "out")) (sym (same_path (below (codes "out") p) k e)))) | inr e ↦ e ])
+      | None ↦ λ h. nowhere h (λ p. elim (true_or_false (eq_by_cmp text_cmp (below (codes "out") p) k))
+          [ inl e ↦ absurd (none_some h (ap (relative_in (codes "out")) (sym (same_path (below (codes "out") p) k e)))) | inr e ↦ e ])
       | Some q ↦ λ h. placed q h (elim (true_or_false (starts_with nat_eq k (codes "out/"))) [
-        | inl s ↦ (starts_is Decides-eqb k (codes "out/") (starts_with nat_eq k (codes "out/")) refl).0 s ∙ ap (λ (l : List ℕ). codes "out/" ++ l) (some_is (sym (ap (λ b. cond b (Some (drop 4 k)) None) s) ∙ h))
+        | inl s ↦ (starts_is Decides-eqb k (codes "out/") (starts_with nat_eq k (codes "out/")) refl).0 s ∙ ap
+            (λ (l : List ℕ). codes "out/" ++ l) (some_is (sym (ap (λ b. cond b (Some (drop 4 k)) None) s) ∙ h))
         | inr s ↦ absurd (none_some (ap (λ b. cond b (Some (drop 4 k)) None) s) h)
       ])
     ] refl
 
-shown_entry : (p : List ℕ) (e : List ℕ × Object) (es : List (List ℕ × Object)) → Placed e.0 → files_at es p ≡ find text_cmp p (visible es) → files_at (e ∷ es) p ≡ find text_cmp p (visible (e ∷ es))
+shown_entry : (p : List ℕ) (e : List ℕ × Object) (es : List (List ℕ × Object)) → Placed e.0 → files_at es p ≡ find text_cmp p (visible es)
+    → files_at (e ∷ es) p ≡ find text_cmp p (visible (e ∷ es))
 shown_entry p e es (nowhere h n) r =
-    ap (λ b. cond (is_file_path p) (option_map (λ (o : Object). o.bytes) (cond b (Some e.1) (find text_cmp (below (codes "out") p) es))) None) (n p) ∙ r
+    ap (λ b. cond (is_file_path p) (option_map (λ (o : Object). o.bytes) (cond b (Some e.1) (find text_cmp (below (codes "out") p) es)))
+    None) (n p) ∙ r
     ∙ ap (λ x. find text_cmp p (shown_by x e.1.bytes (visible es))) (sym h)
 shown_entry p e es (placed q h k) r =
-    ap (λ j. cond (is_file_path p) (option_map (λ (o : Object). o.bytes) (cond (eq_by_cmp text_cmp (below (codes "out") p) j) (Some e.1) (find text_cmp (below (codes "out") p) es))) None) k
+    ap (λ j. cond (is_file_path p) (option_map (λ (o : Object). o.bytes) (cond (eq_by_cmp text_cmp (below (codes "out") p) j) (Some e.1)
+    (find text_cmp (below (codes "out") p) es))) None) k
     ∙ ap (λ x. cond (is_file_path p) x None) (mapped (λ o. o.bytes) (eq_by_cmp text_cmp p q) e.1 (find text_cmp (below (codes "out") p) es))
-    ∙ merged (is_file_path p) (is_file_path q) (eq_by_cmp text_cmp p q) e.1.bytes (option_map (λ o. o.bytes) (find text_cmp (below (codes "out") p) es)) (find text_cmp p (visible es)) (λ t. ap is_file_path (same_path p q t)) r
+    ∙ merged (is_file_path p) (is_file_path q) (eq_by_cmp text_cmp p q) e.1.bytes
+    (option_map (λ o. o.bytes) (find text_cmp (below (codes "out") p) es)) (find text_cmp p (visible es))
+    (λ t. ap is_file_path (same_path p q t)) r
     ∙ sym (find_shown (is_file_path q) q e.1.bytes (visible es) p)
     ∙ ap (λ x. find text_cmp p (shown_by x e.1.bytes (visible es))) (sym h)
 
@@ -111,6 +141,7 @@ leads b (e ∷ es) h =
 abbrev pub without_files : Book → Book
 without_files b = record { objects = b.objects; uploads = b.uploads; next = b.next; files = [] }
 
-pub moment_is : (b : Book) (es : List Entry) (m : ℕ) → are_ours (take m es) ≡ true → moment (content_of (without_files b)) es m ≡ scene_of (book_after (without_files b) (take m es))
+pub moment_is : (b : Book) (es : List Entry) (m : ℕ) → are_ours (take m es) ≡ true
+    → moment (content_of (without_files b)) es m ≡ scene_of (book_after (without_files b) (take m es))
 unfolding map_of
 moment_is b es m h = leads (without_files b) (take m es) h

@@ -1,8 +1,37 @@
 -- What each entry of a run over a store as lists may change, and what it was answered, as tests that compute.
-use Rattle.job_examples.proofs.Common.{Actor, Answered, AreHonest, Bool, Content, Driver, Entry, IsHonest, IsHonestOutcome, IsZeroRename, List, None, Option, Ordering, Outcome, OutsideStays, Reply, ReplyLost, RequestLost, Same, SameOutside, SameOutsideUpload, Script, Slow, Some, Upload, ZeroRename, [], and_parts, ap, arith, begins, codes, cond, dest_prefix, eq_by_cmp, false, find, find-where_key, inl, inr, is_copy, is_driver, is_effective, is_own, lake, list_all, map, may_show, moment, nat_cmp, none_some, not, not_so, object_at, option_map, or_cases, refl, sends_data, slice_get, some_is, subst, suc, sym, take, text_cmp, text_eq, text_exact, true, upload_at, upload_in, view, where_key, zero, ℕ, ◌&&◌, ◌++◌, ◌+◌, ◌||◌, ◌∙◌, ◌∷◌, ◌≡◌, ◌⊎◌}
+use Rattle.basics.proofs.Bools.{not_so}
+use Rattle.basics.proofs.Members.{none_some, some_is, text_exact}
+use Rattle.basics.specs.Order.{text_cmp, text_eq}
+use Rattle.job_examples.proofs.Books.{Book, Draft, answers, at_bucket, content_of, is_ordered, is_ours, no_other, reply, scene_of}
+use Rattle.job_examples.proofs.Books.{upload_found, upload_of}
+use Rattle.job_examples.proofs.Checks.{are_ours, book_after, dest, effect_is, effect_on, files_are, implied, moment_is, objects_at}
+use Rattle.job_examples.proofs.Checks.{same_files, views, visible, without_files}
 use Rattle.job_examples.proofs.MapLists.{map_of}
-use Rattle.job_examples.proofs.Books.{Book, Draft, upload_of, scene_of, content_of, is_ours, reply, is_ordered, answers, at_bucket, no_other, upload_found}
-use Rattle.job_examples.proofs.Checks.{implied, dest, same_files, files_are, visible, views, objects_at, are_ours, without_files, effect_on, effect_is, book_after, moment_is}
+use Rattle.job_examples.specs.Jobs.{lake}
+use Rattle.job_model.specs.JobScript.{Script}
+use Rattle.job_protocol.specs.Scope.{IsZeroRename, SameOutside, SameOutsideUpload, is_copy, may_show, sends_data, upload_at, upload_in}
+use Rattle.job_protocol.specs.Setup.{dest_prefix}
+use Rattle.job_protocol.specs.View.{Same, object_at, view}
+use Rattle.job_spec.specs.Ends.{is_driver}
+use Rattle.job_spec.specs.Entries.{OutsideStays, ZeroRename}
+use Rattle.job_spec.specs.Turns.{is_own}
+use Rattle.s3_types.specs.Moment.{AreHonest, IsHonest, IsHonestOutcome, is_effective, moment}
+use Rattle.s3_types.specs.Pages.{begins}
+use Rattle.s3_types.specs.Store.{Content, Upload}
+use Rattle.s3_types.specs.declared.journal.Entry.{Entry}
+use Rattle.s3_types.specs.declared.journal.Outcome.{Outcome}
+use Rattle.s3_types.specs.declared.journal.Outcome.TheVariants.{Answered, ReplyLost, RequestLost, Slow}
+use Rattle.s3_types.specs.declared.reply.Reply.{Reply}
+use Rattle.s3_types.specs.declared.request.Actor.{Actor}
+use Rattle.s3_types.specs.declared.request.Actor.TheVariants.{Driver}
+use Rattle.std.proofs.Common.{Bool, List, None, Option, Some, ap, arith, codes, cond, false, inl, inr, map, not, refl, subst, suc, sym}
+use Rattle.std.proofs.Common.{take, true, zero, ℕ, [], ◌&&◌, ◌++◌, ◌+◌, ◌||◌, ◌∙◌, ◌∷◌, ◌≡◌, ◌⊎◌}
+use Rattle.std.proofs.lemmas.Bool.{and_parts, or_cases}
+use Rattle.std.specs.FinMap.Entries.{find, find-where_key, where_key}
+use Rattle.std.specs.List.{list_all, slice_get}
+use Rattle.std.specs.Option.{option_map}
+use Rattle.std.specs.Ordering.{eq_by_cmp, nat_cmp}
+use Rattle.std.specs.declared.cmp.Ordering.{Ordering}
 
 -- ---- what is outside the destination
 
@@ -17,14 +46,17 @@ record Inside (b : Book) : Type 0 where
   objects : where_key text_cmp is_outside b.objects ≡ []
   uploads : list_all (λ e. begins prefix e.1.key) b.uploads ≡ true
 
-value_found : {K X : Type 0} (R : K → K → Ordering) (test : X → Bool) (es : List (K × X)) → list_all (λ e. test e.1) es ≡ true → (k : K) (x : X) → find R k es ≡ Some x → test x ≡ true
+value_found : {K X : Type 0} (R : K → K → Ordering) (test : X → Bool) (es : List (K × X)) → list_all (λ e. test e.1) es ≡ true
+    → (k : K) (x : X) → find R k es ≡ Some x → test x ≡ true
 value_found R test [] h k x e = absurd (none_some refl e)
-value_found R test (f ∷ fs) h k x e = let a = and_parts (test f.1) _ h in elim (eq_by_cmp R k f.0) as (λ c. cond c (Some f.1) (find R k fs) ≡ Some x → test x ≡ true) [
-  | true ↦ λ g. subst (λ y. test y ≡ true) (some_is g) a.0
-  | false ↦ λ g. value_found R test fs a.1 k x g
-] e
+value_found R test (f ∷ fs) h k x e = let a = and_parts (test f.1) _ h in elim (eq_by_cmp R k f.0) as
+    (λ c. cond c (Some f.1) (find R k fs) ≡ Some x → test x ≡ true) [
+      | true ↦ λ g. subst (λ y. test y ≡ true) (some_is g) a.0
+      | false ↦ λ g. value_found R test fs a.1 k x g
+    ] e
 
-same_upload : (w : Script) → dest_prefix w ≡ prefix → (o p : Option Draft) → ((d : Draft) → o ≡ Some d → begins prefix d.key ≡ true) → ((d : Draft) → p ≡ Some d → begins prefix d.key ≡ true) → SameOutsideUpload w (option_map upload_of o) (option_map upload_of p)
+same_upload : (w : Script) → dest_prefix w ≡ prefix → (o p : Option Draft) → ((d : Draft) → o ≡ Some d → begins prefix d.key ≡ true)
+    → ((d : Draft) → p ≡ Some d → begins prefix d.key ≡ true) → SameOutsideUpload w (option_map upload_of o) (option_map upload_of p)
 same_upload w h o p g e = grind arith
 
 module _ (w : Script) (to : w.dest ≡ dest) where
@@ -36,7 +68,8 @@ module _ (w : Script) (to : w.dest ≡ dest) where
 
   found_outside : (b : Book) → Inside b → (k : List ℕ) → begins prefix k ≡ false → find text_cmp k b.objects ≡ None
   found_outside b h k n =
-      sym (find-where_key text_cmp is_outside k (λ q t. ap is_outside (sym (text_exact k q t))) b.objects ∙ ap (λ c. cond c (find text_cmp k b.objects) None) (ap not n))
+      sym (find-where_key text_cmp is_outside k (λ q t. ap is_outside (sym (text_exact k q t))) b.objects ∙ ap
+      (λ c. cond c (find text_cmp k b.objects) None) (ap not n))
       ∙ ap (λ l. find text_cmp k l) h.objects
 
   outside_same : (b c : Book) → Inside b → Inside c → SameOutside w (content_of b) (content_of c)
@@ -44,9 +77,13 @@ module _ (w : Script) (to : w.dest ≡ dest) where
     buckets = λ k n. let m : text_eq k lake ≡ false = ap (λ d. text_eq k d.bucket) (sym to) ∙ n in no_other c k m ∙ sym (no_other b k m);
     objects = λ k n.
         let m : begins prefix k ≡ false = ap (λ x. begins x k) (sym prefix_is) ∙ n in
-        ap (λ d. object_at (content_of c) d.bucket k) to ∙ objects_at c k ∙ found_outside c g k m ∙ sym (found_outside b h k m) ∙ sym (objects_at b k) ∙ ap (λ d. object_at (content_of b) d.bucket k) (sym to);
-    uploads = λ id. subst (λ (x : Option Upload × Option Upload). SameOutsideUpload w x.0 x.1) (λ i. (sym (uploads_at b id) i, sym (uploads_at c id) i))
-        (same_upload w prefix_is (find nat_cmp id b.uploads) (find nat_cmp id c.uploads) (value_found nat_cmp (λ d. begins prefix d.key) b.uploads h.uploads id) (value_found nat_cmp (λ d. begins prefix d.key) c.uploads g.uploads id));
+        ap (λ d. object_at (content_of c) d.bucket k) to ∙ objects_at c k ∙ found_outside c g k m ∙ sym (found_outside b h k m) ∙ sym
+        (objects_at b k) ∙ ap (λ d. object_at (content_of b) d.bucket k) (sym to);
+    uploads = λ id. subst (λ (x : Option Upload × Option Upload). SameOutsideUpload w x.0 x.1)
+        (λ i. (sym (uploads_at b id) i, sym (uploads_at c id) i))
+        (same_upload w prefix_is (find nat_cmp id b.uploads) (find nat_cmp id c.uploads)
+        (value_found nat_cmp (λ d. begins prefix d.key) b.uploads h.uploads id)
+        (value_found nat_cmp (λ d. begins prefix d.key) c.uploads g.uploads id));
   }
 
 -- ---- entry by entry
@@ -98,7 +135,8 @@ outcomes es = map (λ e. e.outcome) es
 -- ---- what a sound entry is of
 
 abbrev Shows : Book → Entry → Type 0
-Shows b e = (visible (effect_on b e.request e.outcome).objects ≡ visible b.objects) ⊎ ((e.actor ≡ Driver) × (may_show e.request ≡ true) × (is_effective e.outcome ≡ true))
+Shows b e = (visible (effect_on b e.request e.outcome).objects ≡ visible b.objects)
+    ⊎ ((e.actor ≡ Driver) × (may_show e.request ≡ true) × (is_effective e.outcome ≡ true))
 
 record Sound (b : Book) (e : Entry) : Type 0 where
   ours : is_ours e.request ≡ true
@@ -137,7 +175,8 @@ sound_is b e h =
 
 pub ours_all : (b : Book) (es : List Entry) → all_sound b es ≡ true → are_ours es ≡ true
 ours_all b [] h = refl
-ours_all b (e ∷ es) h = let p = and_parts (is_sound b e) _ h in rw ((sound_is b e p.0).ours) (ours_all (effect_on b e.request e.outcome) es p.1)
+ours_all b (e ∷ es) h = let p = and_parts (is_sound b e) _ h in rw ((sound_is b e p.0).ours)
+    (ours_all (effect_on b e.request e.outcome) es p.1)
 
 pub ours_some : (es : List Entry) (m : ℕ) → are_ours es ≡ true → are_ours (take m es) ≡ true
 ours_some es zero h = refl
@@ -161,29 +200,35 @@ honest_from b [] h g = tt
 honest_from b (e ∷ es) h g =
     let p = and_parts (is_sound b e) _ h in
     let s = sound_is b e p.0 in
-    let q = first_is (due_outcome e.outcome (reply b e.request)) e.outcome (due_outcomes (effect_on b e.request e.outcome) es) (outcomes es) g in (
+    let q = first_is (due_outcome e.outcome (reply b e.request)) e.outcome (due_outcomes (effect_on b e.request e.outcome) es) (outcomes es)
+    g in (
       subst (IsHonestOutcome e.outcome) (sym (answers b e.request s.ours s.order)) (honest_by e.outcome (reply b e.request) q.0),
       subst (λ c. AreHonest c es) (sym (effect_is b e.request e.outcome s.ours)) (honest_from (effect_on b e.request e.outcome) es p.1 q.1),
     )
 
-pub honest : (b : Book) (es : List Entry) → all_sound (without_files b) es ≡ true → due_outcomes (without_files b) es ≡ outcomes es → IsHonest (content_of (without_files b)) es
+pub honest : (b : Book) (es : List Entry) → all_sound (without_files b) es ≡ true → due_outcomes (without_files b) es ≡ outcomes es
+    → IsHonest (content_of (without_files b)) es
 unfolding map_of
 honest b es h g = honest_from (without_files b) es h g
 
 module _ (w : Script) (to : w.dest ≡ dest) where
   shown_same : (b c : Book) → visible c.objects ≡ visible b.objects → Same (view w.dest (content_of c)) (view w.dest (content_of b))
-  shown_same b c h p = ap (λ d. view d (content_of c) p) to ∙ views c p ∙ ap (λ l. find text_cmp p l) h ∙ sym (views b p) ∙ ap (λ d. view d (content_of b) p) (sym to)
+  shown_same b c h p = ap (λ d. view d (content_of c) p) to ∙ views c p ∙ ap (λ l. find text_cmp p l) h ∙ sym (views b p) ∙ ap
+      (λ d. view d (content_of b) p) (sym to)
 
-  zero_step : (b : Book) (e : Entry) → Sound b e → is_own e.actor ≡ true → Inside (effect_on b e.request e.outcome) → IsZeroRename w e (content_of b) (content_of (effect_on b e.request e.outcome))
+  zero_step : (b : Book) (e : Entry) → Sound b e → is_own e.actor ≡ true → Inside (effect_on b e.request e.outcome)
+      → IsZeroRename w e (content_of b) (content_of (effect_on b e.request e.outcome))
   zero_step b e h g f = grind (arith, shown_same, effect_on, outside_same)
 
-  zero_at : (b : Book) (es : List Entry) → all_sound b es ≡ true → (m : ℕ) (e : Entry) → slice_get es m ≡ Some e → is_own e.actor ≡ true → IsZeroRename w e (content_of (book_after b (take m es))) (content_of (book_after b (take (suc m) es)))
+  zero_at : (b : Book) (es : List Entry) → all_sound b es ≡ true → (m : ℕ) (e : Entry) → slice_get es m ≡ Some e → is_own e.actor ≡ true
+      → IsZeroRename w e (content_of (book_after b (take m es))) (content_of (book_after b (take (suc m) es)))
   zero_at b [] h m e g o = absurd (cc)
   zero_at b (x ∷ es) h zero e g o =
       let p = and_parts (is_sound b x) _ h in
       let k : x ≡ e = cc in
       subst (λ y. IsZeroRename w y (content_of b) (content_of (effect_on b x.request x.outcome))) k
-      (zero_step b x (sound_is b x p.0) (subst (λ y. is_own y.actor ≡ true) (sym k) o) (inside_at (effect_on b x.request x.outcome) es p.1 0))
+      (zero_step b x (sound_is b x p.0) (subst (λ y. is_own y.actor ≡ true) (sym k) o)
+      (inside_at (effect_on b x.request x.outcome) es p.1 0))
   zero_at b (x ∷ es) h (suc m) e g o = zero_at (effect_on b x.request x.outcome) es (and_parts (is_sound b x) _ h).1 m e g o
 
   pub zero_rename : (b : Book) (es : List Entry) → all_sound (without_files b) es ≡ true → ZeroRename w (content_of (without_files b)) es
@@ -191,9 +236,13 @@ module _ (w : Script) (to : w.dest ≡ dest) where
       let all = ours_all (without_files b) es h in
       let one : m + 1 ≡ suc m = omega arith in
       let next = ap (λ n. moment (content_of (without_files b)) es n) one ∙ moment_is b es (suc m) (ours_some es (suc m) all) in
-      subst (λ (x : Content × Content). IsZeroRename w e x.0 x.1) (λ i. ((sym (moment_is b es m (ours_some es m all)) i).content, (sym next i).content)) (zero_at (without_files b) es h m e g o)
+      subst (λ (x : Content × Content). IsZeroRename w e x.0 x.1) (λ i.
+      ((sym (moment_is b es m (ours_some es m all)) i).content, (sym next i).content)) (zero_at (without_files b) es h m e g o)
 
-  pub outside_stays : (b : Book) (es : List Entry) → all_sound (without_files b) es ≡ true → OutsideStays w (content_of (without_files b)) es
+  pub outside_stays : (b : Book) (es : List Entry) → all_sound (without_files b) es ≡ true
+      → OutsideStays w (content_of (without_files b)) es
   outside_stays b es h o m l =
-      subst (λ s. SameOutside w (content_of (without_files b)) s.content) (sym (moment_is b es m (ours_some es m (ours_all (without_files b) es h))))
-      (outside_same w to (without_files b) (book_after (without_files b) (take m es)) (inside_at (without_files b) es h 0) (inside_at (without_files b) es h m))
+      subst (λ s. SameOutside w (content_of (without_files b)) s.content) (sym
+      (moment_is b es m (ours_some es m (ours_all (without_files b) es h))))
+      (outside_same w to (without_files b) (book_after (without_files b) (take m es)) (inside_at (without_files b) es h 0)
+      (inside_at (without_files b) es h m))

@@ -15,4 +15,3 @@ pub mod FourFileRuns
 pub mod TaskRuns
 pub mod TwinChecks
 pub mod TwinRuns
-mod Common

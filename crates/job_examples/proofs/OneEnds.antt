@@ -1,13 +1,46 @@
 -- The operations of the run of one attempt with one file end as is due, and the run is finished.
-use Rattle.job_examples.proofs.Common.{Actor, ActorEnd, AllByRecursion, Answered, Attempt, CommitEnds, Do, Doing, Driver, Ended, EndedIn, Entry, IsFree, IsSome, Keeps, List, Magic, None, OneFileFinished, Op, OpEnd, Option, Promised, Refusal, Refused, Reply, Request, SetupIs, Some, TaskIs, WasPublished, WornFirst, [], after_event, all_picks, ap, arith, before, by_actor, clean_event, codes, commit_entries, commits_at, computed, first_worn, has_cleaned, inr, is_marked, is_some, journal, known_then, length, moment, none_sent, none_some, opening, past, refl, script, see_all, seen, seen_until, set_read, set_request, setting, since, slice_get, some_is, stage_of, subst, suc, sym, take, the_ends, the_picks, the_publishing, told, true, until, until_last, worker, zero, ℕ, ◌&&◌, ◌++◌, ◌+◌, ◌∙◌, ◌∷◌, ◌≡◌, ◌⊎◌}
-use Rattle.std.specs.Fmt.{digits}
-use Rattle.json.specs.Print.{escape_byte}
+use Rattle.basics.proofs.Members.{none_some, some_is}
 use Rattle.job_examples.proofs.Books.{at_bucket}
 use Rattle.job_examples.proofs.Checks.{objects_at}
-use Rattle.job_examples.proofs.OneSet.{set_is_read}
-use Rattle.job_examples.proofs.Sights.{empty_book, nothing, opening_is, opens, opens_is, saw_all, sees}
 use Rattle.job_examples.proofs.Kept.{keeps}
 use Rattle.job_examples.proofs.OnePlays.{commit_doing, plays, setup_doing, task_doing, write_doing}
+use Rattle.job_examples.proofs.OneSet.{set_is_read}
+use Rattle.job_examples.proofs.Sights.{empty_book, nothing, opening_is, opens, opens_is, saw_all, sees}
+use Rattle.job_examples.specs.Jobs.{commits_at, worker}
+use Rattle.job_examples.specs.OneFile.{commit_entries, journal, opening, script, the_publishing}
+use Rattle.job_examples.specs.OneFinished.{OneFileFinished, the_ends, the_picks}
+use Rattle.job_examples.specs.Runs.{Keeps}
+use Rattle.job_model.specs.declared.ends.ActorEnd.{ActorEnd}
+use Rattle.job_model.specs.declared.ends.EventEnd.TheVariants.{Ended}
+use Rattle.job_model.specs.declared.ends.OpEnd.{OpEnd}
+use Rattle.job_model.specs.declared.events.Event.TheVariants.{Do}
+use Rattle.job_model.specs.declared.events.Op.{Op}
+use Rattle.job_protocol.specs.JobCommits.{set_read, set_request, stage_of}
+use Rattle.job_protocol.specs.Seen.{is_marked, see_all, seen}
+use Rattle.job_spec.specs.Ends.{EndedIn, has_cleaned}
+use Rattle.job_spec.specs.Follows.{known_then}
+use Rattle.job_spec.specs.OperationEnds.{IsFree, SetupIs, TaskIs, WasPublished}
+use Rattle.job_spec.specs.Promise.{CommitEnds, Promised, all_picks, seen_until, setting}
+use Rattle.job_spec.specs.States.{Doing, after_event, clean_event, past, told}
+use Rattle.job_spec.specs.Turns.{before, by_actor, since, until, until_last}
+use Rattle.json.specs.Print.{escape_byte}
+use Rattle.retries.proofs.First.{computed, none_sent}
+use Rattle.retries.specs.Worn.{WornFirst, first_worn}
+use Rattle.s3_types.specs.Moment.{moment}
+use Rattle.s3_types.specs.declared.journal.Entry.{Entry}
+use Rattle.s3_types.specs.declared.journal.Outcome.TheVariants.{Answered}
+use Rattle.s3_types.specs.declared.reply.Refusal.{Refusal}
+use Rattle.s3_types.specs.declared.reply.Reply.{Reply}
+use Rattle.s3_types.specs.declared.reply.Reply.TheVariants.{Refused}
+use Rattle.s3_types.specs.declared.request.Actor.{Actor}
+use Rattle.s3_types.specs.declared.request.Actor.TheVariants.{Attempt, Driver}
+use Rattle.s3_types.specs.declared.request.Committer.TheVariants.{Magic}
+use Rattle.s3_types.specs.declared.request.Request.{Request}
+use Rattle.std.proofs.Common.{List, None, Option, Some, ap, arith, codes, inr, is_some, length, refl, subst, suc, sym, take, true, zero, ℕ}
+use Rattle.std.proofs.Common.{[], ◌&&◌, ◌++◌, ◌+◌, ◌∙◌, ◌∷◌, ◌≡◌, ◌⊎◌}
+use Rattle.std.specs.Fmt.{digits}
+use Rattle.std.specs.List.{AllByRecursion, slice_get}
+use Rattle.std.specs.Prelude.{IsSome}
 use Rattle.job_model.specs.declared.events.Op.TheVariants as ops
 use Rattle.job_model.specs.declared.ends.SetupEnd.TheVariants as setups
 use Rattle.job_model.specs.declared.ends.TaskEnd.TheVariants as tasks
@@ -25,36 +58,57 @@ worn_none es h = subst (λ o. WornFirst 3 es o) h (computed 3 [] es (none_sent 3
 
 -- what is due of an operation that ended so in event j
 abbrev Due : ℕ → Actor → Doing → OpEnd → List Entry → Type 0
-Due j a d (ends.Setup e) es = (e ≡ setups.NoMemory) ⊎ ((worn : Option Request) × WornFirst 3 es worn × SetupIs script (moment opening journal (length (before d.since journal))).content worn e)
+Due j a d (ends.Setup e) es = (e ≡ setups.NoMemory)
+    ⊎ ((worn : Option Request) × WornFirst 3 es worn
+    × SetupIs script (moment opening journal (length (before d.since journal))).content worn e)
 Due j (Attempt t a) d (ends.Task e) es =
     ((e ≡ tasks.NoMemory) ⊎ ((worn : Option Request) × WornFirst 3 es worn
-    × TaskIs d.op script (record { task = t; attempt = a }) es (known_then (setting script opening) (Attempt t a) d (by_actor (Attempt t a) journal)).publish_sent (has_cleaned (clean_event script the_ends) (until_last (Attempt t a) (until (j + 1) journal))) worn e))
+    × TaskIs d.op script (record { task = t; attempt = a }) es (known_then (setting script opening) (Attempt t a) d
+    (by_actor (Attempt t a) journal)).publish_sent (has_cleaned (clean_event script the_ends)
+    (until_last (Attempt t a) (until (j + 1) journal))) worn e))
     × (d.op ≡ ops.Commit → WasPublished script opening journal t a (j + 1))
 Due j a d (ends.Commit e) es = CommitEnds script opening journal the_ends j d e es
 Due j a d (ends.Clean e) es = ⊥
 Due j a d _ es = Unit {0}
 
 -- where it is due of the operation that the script's event j does
-due_at : (j : ℕ) (a : Actor) (op : Op) (end : OpEnd) (c : Doing) → slice_get script.events j ≡ Some (Do a op) → slice_get the_ends j ≡ Some (Ended end) → (after_event script (past script (take j the_ends)) (Do a op) (Ended end)).doing a ≡ Some c
+due_at : (j : ℕ) (a : Actor) (op : Op) (end : OpEnd) (c : Doing) → slice_get script.events j ≡ Some (Do a op)
+    → slice_get the_ends j ≡ Some (Ended end) → (after_event script (past script (take j the_ends)) (Do a op) (Ended end)).doing a ≡ Some c
     → Due j a c end (since c.since (by_actor a (until (j + 1) journal)))
     → (b : Actor) (d : Doing) (e : OpEnd) (es : List Entry) → EndedIn script the_ends journal j b d e es → Due j b d e es
 due_at j a op end c g k does good b d e es h =
     let ev : Do a op ≡ h.event = some_is (sym g ∙ h.is_event) in
     let en : Ended end ≡ h.event_end = some_is (sym k ∙ h.has_ended) in
-    let t : ◌≡◌ {A = ActorEnd} (record { actor = a; end = end }) (record { actor = b; end = e }) = told_one (record { actor = a; end = end }) h.place (record { actor = b; end = e }) ((λ i. slice_get (told (ev i) (en i)) h.place) ∙ h.told_there) in
-    let is : c ≡ d = some_is (sym does ∙ (λ i. (after_event script (past script (take j the_ends)) (ev i) (en i)).doing (t i).actor) ∙ h.doing) in
-    subst (Due j b d e) (sym h.entries_are) (subst (λ (x : Actor × Doing × OpEnd). Due j x.0 x.1 x.2 (since x.1.since (by_actor x.0 (until (j + 1) journal)))) (λ i. ((t i).actor, is i, (t i).end)) good)
+    let t : ◌≡◌ {A = ActorEnd} (record { actor = a; end = end }) (record { actor = b; end = e }) = told_one
+    (record { actor = a; end = end }) h.place (record { actor = b; end = e })
+    ((λ i. slice_get (told (ev i) (en i)) h.place) ∙ h.told_there) in
+    let is : c ≡ d = some_is (sym does ∙ (λ i. (after_event script (past script (take j the_ends)) (ev i) (en i)).doing (t i).actor) ∙
+    h.doing) in
+    subst (Due j b d e) (sym h.entries_are) (subst (λ (x : Actor × Doing × OpEnd). Due j x.0 x.1 x.2
+    (since x.1.since (by_actor x.0 (until (j + 1) journal)))) (λ i. ((t i).actor, is i, (t i).end)) good)
 
 -- ---- the set-up
 
 is_free : IsFree script opening
-is_free = subst (λ c. IsFree script c) opening_is (subst (λ o. IsSome o) (sym (at_bucket empty_book)) refl, objects_at empty_book (codes "out"))
+is_free = subst (λ c. IsFree script c) opening_is (
+  subst (λ o. IsSome o) (sym (at_bucket empty_book)) refl,
+  objects_at empty_book
+      (codes "out"),
+)
 
 -- ---- the attempt
 
 the_published : WasPublished script opening journal 0 0 3
 unfolding digits
-the_published = record { m = 9; entry = the_publishing; is_entry = refl; by = refl; until = omega arith; effective = refl; publishes = refl }
+the_published = record {
+  m = 9;
+  entry = the_publishing;
+  is_entry = refl;
+  by = refl;
+  until = omega arith;
+  effective = refl;
+  publishes = refl;
+}
 
 -- ---- the commit
 
@@ -67,7 +121,8 @@ is_marked_last = subst (λ c. is_marked script (seen script (commits_at 4) c jou
     )
 
 -- what the commit was answered: its read gave the set, and its completion was not refused
-each_at : (P : Entry → Type 0) (es : List Entry) → AllByRecursion P es → (before : List Entry) (e : Entry) (later : List Entry) → es ≡ before ++ e ∷ later → P e
+each_at : (P : Entry → Type 0) (es : List Entry) → AllByRecursion P es → (before : List Entry) (e : Entry) (later : List Entry)
+    → es ≡ before ++ e ∷ later → P e
 each_at P (y ∷ ys) h [] e later q = let is : y ≡ e = cc in subst P is h.0
 each_at P (y ∷ ys) h (x ∷ before) e later q = let rest : ys ≡ before ++ e ∷ later = cc in each_at P ys h.1 before e later rest
 each_at P [] h [] e later q = absurd (cc)
@@ -105,9 +160,12 @@ commit_so = record {
 
 due : (j : ℕ) (b : Actor) (d : Doing) (e : OpEnd) (es : List Entry) → EndedIn script the_ends journal j b d e es → Due j b d e es
 unfolding digits escape_byte
-due zero = due_at 0 Driver ops.Setup (ends.Setup setups.Done) setup_doing refl refl refl (inr (None, worn_none (since 1 (by_actor Driver (until 1 journal))) refl, (is_free, λ k. absurd (cc))))
-due (suc zero) = due_at 1 worker ops.Write (ends.Task tasks.Done) write_doing refl refl refl (inr (None, worn_none (since 2 (by_actor worker (until 2 journal))) refl, tt), λ op. absurd (cc))
-due (suc (suc zero)) = due_at 2 worker ops.Commit (ends.Task tasks.Done) task_doing refl refl refl (inr (None, worn_none (since 3 (by_actor worker (until 3 journal))) refl, tt), λ op. the_published)
+due zero = due_at 0 Driver ops.Setup (ends.Setup setups.Done) setup_doing refl refl refl
+    (inr (None, worn_none (since 1 (by_actor Driver (until 1 journal))) refl, (is_free, λ k. absurd (cc))))
+due (suc zero) = due_at 1 worker ops.Write (ends.Task tasks.Done) write_doing refl refl refl
+    (inr (None, worn_none (since 2 (by_actor worker (until 2 journal))) refl, tt), λ op. absurd (cc))
+due (suc (suc zero)) = due_at 2 worker ops.Commit (ends.Task tasks.Done) task_doing refl refl refl
+    (inr (None, worn_none (since 3 (by_actor worker (until 3 journal))) refl, tt), λ op. the_published)
 due (suc (suc (suc zero))) = due_at 3 Driver ops.Commit (ends.Commit commits.Committed) commit_doing refl refl refl commit_so
 due (suc (suc (suc (suc j)))) = λ b d e es h. absurd (none_some refl h.is_event)
 

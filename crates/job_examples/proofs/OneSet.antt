@@ -1,13 +1,24 @@
 -- Sets are read as they were put.
-use Rattle.job_examples.proofs.Common.{AllByRecursion, Bool, IsAscii, IsAscii-cons, IsAscii-nil, IsPending, IsUtf8-from_ascii, List, Ok, Pending, PendingSet, [], and_parts, arith, compact_text, is_key_path, is_utf8, is_utf8-from_IsUtf8, list_all, nat_lt, pending_tree, refl, set_tree, the_set, true, ℕ, ◌&&◌, ◌^◌, ◌∷◌, ◌≡◌}
 use Rattle.basics.proofs.Naturals.{below_is}
-use Rattle.pending_json.specs.Prelude.{are_tags, are_sizes, is_bucket}
-use Rattle.std.specs.Fmt.{digits}
-use Rattle.json.specs.Print.{escape_byte}
 use Rattle.basics.specs.Parts.{parts_from}
-use Rattle.pending_json.specs.Reading.{pending_of, set_of as read}
-use Rattle.pending_json.proofs.RoundTrip.{pending_text, set_text}
 use Rattle.job_examples.specs.Modes.{staged_set, staged_text}
+use Rattle.job_examples.specs.OneFile.{the_set}
+use Rattle.json.specs.Print.{escape_byte}
+use Rattle.pending_json.proofs.RoundTrip.{pending_text, set_text}
+use Rattle.pending_json.specs.Pending.{Pending, are_sizes, are_tags}
+use Rattle.pending_json.specs.Reading.{pending_of, set_of as read}
+use Rattle.pending_json.specs.Records.{IsPending}
+use Rattle.pending_json.specs.Trees.{pending_tree, set_tree}
+use Rattle.pending_json.specs.declared.records.PendingSet.{PendingSet}
+use Rattle.s3_types.specs.Names.{is_bucket, is_key_path}
+use Rattle.serde_json.specs.Written.{compact_text}
+use Rattle.std.proofs.Common.{Bool, List, Ok, arith, nat_lt, refl, true, ℕ, [], ◌&&◌, ◌^◌, ◌∷◌, ◌≡◌}
+use Rattle.std.proofs.lemmas.Bool.{and_parts}
+use Rattle.std.proofs.lemmas.Str.{IsUtf8-from_ascii, is_utf8-from_IsUtf8}
+use Rattle.std.proofs.lemmas.Str.Ascii.{IsAscii-cons, IsAscii-nil}
+use Rattle.std.specs.Fmt.{digits}
+use Rattle.std.specs.List.{AllByRecursion, list_all}
+use Rattle.std.specs.Str.{IsAscii, is_utf8}
 
 abbrev pub is_small : List ℕ → Bool
 is_small bs = list_all (λ b. nat_lt b 128) bs
@@ -23,7 +34,8 @@ small_utf8 bs h = is_utf8-from_IsUtf8 bs (IsUtf8-from_ascii bs (all_small bs h))
 abbrev pub is_fit : Pending → Bool
 is_fit p =
     (nat_lt p.task (2 ^ 32) && nat_lt p.attempt (2 ^ 32)) && ((nat_lt p.upload (2 ^ 64) && nat_lt p.length (2 ^ 64))
-    && ((is_small p.destination && is_key_path p.destination) && (is_bucket p.bucket && (are_tags p.tags && are_sizes p.sizes p.tags p.length))))
+    && ((is_small p.destination && is_key_path p.destination) && (is_bucket p.bucket &&
+    (are_tags p.tags && are_sizes p.sizes p.tags p.length))))
 
 fits : (p : Pending) → is_fit p ≡ true → IsPending p
 fits p h = grind (arith, and_parts, below_is, small_utf8)

@@ -1,8 +1,20 @@
 -- What is seen of a job, over a store as lists.
-use Rattle.job_examples.proofs.Common.{Actor, Bool, Content, Entry, List, None, Object, Option, Outcome, Picks, Request, Script, Seen, Times, [], and_parts, ap, arith, effect, false, nothing_seen, opening, refl, see, see_all, see_by, true, ℕ, ◌∙◌, ◌∷◌, ◌≡◌}
+use Rattle.job_examples.proofs.Books.{Book, content_of, is_ours, scene_of}
+use Rattle.job_examples.proofs.Checks.{are_ours, effect_is, effect_on, without_files}
 use Rattle.job_examples.proofs.MapLists.{map_of}
-use Rattle.job_examples.proofs.Books.{Book, content_of, scene_of, is_ours}
-use Rattle.job_examples.proofs.Checks.{effect_on, effect_is, are_ours, without_files}
+use Rattle.job_examples.specs.OneFile.{opening}
+use Rattle.job_model.specs.JobScript.{Script}
+use Rattle.job_protocol.specs.Outputs.{Picks}
+use Rattle.job_protocol.specs.Seen.{Seen, Times, nothing_seen, see, see_all, see_by}
+use Rattle.s3_types.specs.Moment.{effect}
+use Rattle.s3_types.specs.Store.{Content}
+use Rattle.s3_types.specs.declared.journal.Entry.{Entry}
+use Rattle.s3_types.specs.declared.journal.Outcome.{Outcome}
+use Rattle.s3_types.specs.declared.object.Object.{Object}
+use Rattle.s3_types.specs.declared.request.Actor.{Actor}
+use Rattle.s3_types.specs.declared.request.Request.{Request}
+use Rattle.std.proofs.Common.{Bool, List, None, Option, ap, arith, false, refl, true, ℕ, [], ◌∙◌, ◌∷◌, ◌≡◌}
+use Rattle.std.proofs.lemmas.Bool.{and_parts}
 
 -- ---- what is seen
 
@@ -18,9 +30,17 @@ seen_of x = record { scene = scene_of x.book; begun = x.begun; last = x.last; pi
 
 -- after one more entry, by what is seen in the scene of the book
 abbrev pub saw : Script → Times → Saw → Entry → Saw
-saw w k x e = let s = see w k (seen_of x) e in record { book = effect_on x.book e.request e.outcome; begun = s.begun; last = s.last; picks = s.picks; put_mark = s.put_mark }
+saw w k x e = let s = see w k (seen_of x) e in record {
+  book = effect_on x.book e.request e.outcome;
+  begun = s.begun;
+  last = s.last;
+  picks =
+      s.picks;
+  put_mark = s.put_mark;
+}
 
-pub scene_by : (w : Script) (k : Times) (s : Seen) (n : ℕ) (r : Request) (a : Actor) (o : Outcome) → (see_by w k s n r o a).scene ≡ effect s.scene r o
+pub scene_by : (w : Script) (k : Times) (s : Seen) (n : ℕ) (r : Request) (a : Actor) (o : Outcome)
+    → (see_by w k s n r o a).scene ≡ effect s.scene r o
 scene_by w k s n r a o = grind arith
 
 pub sees_by : (w : Script) (k : Times) (x : Saw) (e : Entry) → is_ours e.request ≡ true → see w k (seen_of x) e ≡ seen_of (saw w k x e)
@@ -30,7 +50,8 @@ abbrev pub saw_all : Script → Times → Saw → List Entry → Saw
 saw_all w k x [] = x
 saw_all w k x (e ∷ es) = saw_all w k (saw w k x e) es
 
-pub sees : (w : Script) (k : Times) (x : Saw) (es : List Entry) → are_ours es ≡ true → see_all w k (seen_of x) es ≡ seen_of (saw_all w k x es)
+pub sees : (w : Script) (k : Times) (x : Saw) (es : List Entry) → are_ours es ≡ true
+    → see_all w k (seen_of x) es ≡ seen_of (saw_all w k x es)
 sees w k x [] h = refl
 sees w k x (e ∷ es) h =
     let p = and_parts (is_ours e.request) _ h in

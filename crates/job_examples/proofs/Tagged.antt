@@ -1,14 +1,20 @@
 -- Tags of short contents, computed.
-use Rattle.job_examples.proofs.Common.{Bool, List, Spelled, ap, codes, cond, drop, encode_lower, false, hello_tag, refl, slice_index, suc, take, text_eq, text_is, true, zero, ℕ, ◌∙◌, ◌≡◌}
-use Rattle.hex.specs.Hex.{encode_with}
-use Rattle.md5.specs.Md5.{md5, initial_hash, round, rounds, step_fn, step_constants, step_shifts, word_place, compress, add_state, block_words, hash_after, digest_bytes, padded_message}
-use Rattle.s3_types.specs.Tags.{plain_tag}
+use Rattle.basics.proofs.Members.{text_is}
+use Rattle.basics.specs.Order.{text_eq}
+use Rattle.hex.specs.Hex.{encode_lower, encode_with}
+use Rattle.job_examples.specs.Jobs.{hello_tag}
 use Rattle.job_examples.specs.TwoAttempts.{world}
+use Rattle.md5.specs.Md5.{add_state, block_words, compress, digest_bytes, hash_after, initial_hash, md5, padded_message, round, rounds}
+use Rattle.md5.specs.Md5.{step_constants, step_fn, step_shifts, word_place}
+use Rattle.s3_types.specs.Tags.{Spelled, plain_tag}
+use Rattle.std.proofs.Common.{Bool, List, ap, codes, cond, drop, false, refl, suc, take, true, zero, ℕ, ◌∙◌, ◌≡◌}
+use Rattle.std.specs.Prelude.{slice_index}
 
 -- ---- a digest, step by step: as `md5` says it, but that each step is worked out once
 
 abbrev turn : List ℕ → ℕ → List ℕ → List ℕ
-turn w t v = round v (step_fn t (slice_index v 1) (slice_index v 2) (slice_index v 3)) (slice_index step_constants t) (slice_index w (word_place t)) (slice_index step_shifts t)
+turn w t v = round v (step_fn t (slice_index v 1) (slice_index v 2) (slice_index v 3)) (slice_index step_constants t)
+    (slice_index w (word_place t)) (slice_index step_shifts t)
 
 abbrev turned : List ℕ → List ℕ → ℕ → List ℕ
 turned v w zero = v
@@ -43,7 +49,8 @@ told_tag bytes = cond (text_eq bytes (codes "hello")) hello_tag (cond (text_eq b
 pub told_is : (bytes : List ℕ) → plain_tag bytes ≡ told_tag bytes
 told_is bytes = by (text_eq bytes (codes "hello")) (text_eq bytes (codes "world")) refl refl
   where
-    by : (h g : Bool) → text_eq bytes (codes "hello") ≡ h → text_eq bytes (codes "world") ≡ g → plain_tag bytes ≡ cond h hello_tag (cond g world.tag (plain_tag bytes))
+    by : (h g : Bool) → text_eq bytes (codes "hello") ≡ h → text_eq bytes (codes "world") ≡ g
+        → plain_tag bytes ≡ cond h hello_tag (cond g world.tag (plain_tag bytes))
     by true g e f = ap plain_tag (text_is bytes (codes "hello") e) ∙ hello_is
     by false true e f = ap plain_tag (text_is bytes (codes "world") f) ∙ world_is
     by false false e f = refl

@@ -1,22 +1,37 @@
 -- Runs of which a last put or a set's put wears out, of tasks that share a path, of a taken partition, and of two attempts of one task.
-use Rattle.job_examples.proofs.Common.{After, Bool, Entry, Event, Keeps, List, Magic, NothingLeft, Ok, [], begins, codes, commits_at, compact_text, moment, none_some, not, not_so, opening, refl, set_key, set_of, set_tree, sym, ℕ, ◌∙◌, ◌∷◌, ◌≡◌}
-use Rattle.std.specs.Fmt.{digits}
-use Rattle.json.specs.Print.{escape_byte}
+use Rattle.basics.proofs.Bools.{not_so}
+use Rattle.basics.proofs.Members.{none_some}
 use Rattle.basics.specs.Parts.{parts_from}
+use Rattle.job_examples.proofs.Books.{content_of}
+use Rattle.job_examples.proofs.Checks.{visible}
+use Rattle.job_examples.proofs.Kept.{always_kept, book_at, files_then, honours, keeps, key_found, object_then, shows_as, upload_then}
+use Rattle.job_examples.proofs.MapLists.{map_of}
+use Rattle.job_examples.proofs.OneSet.{set_by}
+use Rattle.job_examples.proofs.Sights.{Start, book_with, nothing}
+use Rattle.job_examples.specs.Jobs.{commits_at, set_key}
+use Rattle.job_examples.specs.OneFile.{opening}
+use Rattle.job_examples.specs.Runs.{Keeps}
+use Rattle.job_model.specs.declared.events.Event.{Event}
+use Rattle.job_protocol.specs.Scope.{NothingLeft}
+use Rattle.json.specs.Print.{escape_byte}
+use Rattle.pending_json.specs.Reading.{set_of}
+use Rattle.pending_json.specs.Trees.{set_tree}
 use Rattle.s3_types.specs.Blocks.{block_of, parts_of}
+use Rattle.s3_types.specs.Moment.{moment}
+use Rattle.s3_types.specs.Pages.{begins}
+use Rattle.s3_types.specs.declared.fates.Fate.TheVariants.{After}
+use Rattle.s3_types.specs.declared.journal.Entry.{Entry}
+use Rattle.s3_types.specs.declared.request.Committer.TheVariants.{Magic}
+use Rattle.serde_json.specs.Written.{compact_text}
+use Rattle.std.proofs.Common.{Bool, List, Ok, codes, not, refl, sym, ℕ, [], ◌∙◌, ◌∷◌, ◌≡◌}
+use Rattle.std.specs.Fmt.{digits}
 use Rattle.job_examples.specs.LostMark as mark
 use Rattle.job_examples.specs.LostSet as lost
 use Rattle.job_examples.specs.SharedPath as shared
 use Rattle.job_examples.specs.Taken as taken
 use Rattle.job_examples.specs.TwoAttempts as two
 use Rattle.job_examples.specs.NewDriver as anew
-use Rattle.job_examples.proofs.OneSet.{set_by}
 use Rattle.job_examples.proofs.OneSet as one
-use Rattle.job_examples.proofs.MapLists.{map_of}
-use Rattle.job_examples.proofs.Books.{content_of}
-use Rattle.job_examples.proofs.Checks.{visible}
-use Rattle.job_examples.proofs.Sights.{Start, book_with, nothing}
-use Rattle.job_examples.proofs.Kept.{book_at, always_kept, honours, keeps, files_then, shows_as, object_then, upload_then, key_found}
 
 pub lost_mark : mark.LostMark
 unfolding digits escape_byte
@@ -44,7 +59,14 @@ pub shared_path : shared.SharedPath
 unfolding digits escape_byte block_of parts_of parts_from
 shared_path =
     let live = upload_then nothing shared.journal refl 19 in
-    search (set_by shared.first_set refl, set_by shared.second_set refl, shared_kept, shows_as nothing shared.journal refl [] refl, live 1, live 2)
+    search (
+      set_by shared.first_set refl,
+      set_by shared.second_set refl,
+      shared_kept,
+      shows_as nothing shared.journal refl [] refl,
+      live 1,
+      live 2,
+    )
 
 -- ---- a partition that has a file already
 
@@ -63,7 +85,12 @@ pub taken_run : taken.Taken
 unfolding digits
 taken_run =
     let file = files_then start taken.journal refl 0 in
-    search (taken_kept, λ (m : ℕ) (p : List ℕ). shows_as start taken.journal refl (visible start.book.objects) refl m p ∙ sym (file p), file (codes "d=1/a"))
+    search (
+      taken_kept,
+      λ (m : ℕ) (p : List ℕ). shows_as start taken.journal refl (visible start.book.objects) refl m p ∙ sym (file p),
+      file
+          (codes "d=1/a"),
+    )
 
 -- ---- two attempts of one task, and a clean
 
@@ -81,7 +108,11 @@ module _ (events : List Event) (write task commit clean : ℕ) where
 
   nothing_left : NothingLeft Magic (two.with_events events) (moment opening run 24)
   unfolding digits
-  nothing_left = (λ id u h. absurd (none_some (upload_then nothing run refl 24 id) h), λ k o h. not_so _ (key_found is_outside (book_at nothing run 24).objects refl k o (sym (object_then nothing run refl 24 k) ∙ h)))
+  nothing_left = (
+    λ id u h. absurd (none_some (upload_then nothing run refl 24 id) h),
+    λ k o h. not_so _
+        (key_found is_outside (book_at nothing run 24).objects refl k o (sym (object_then nothing run refl 24 k) ∙ h)),
+  )
 
 two_kept : Keeps two.script (commits_at 6) opening two.journal
 unfolding digits escape_byte

@@ -1,25 +1,42 @@
--- Two jobs at one destination, of which the first is of the directory committer with the mode fail: the other's file is there before its commit.
-use Rattle.std.specs.Prelude.{List, None, Option, Some, [], codes, false, length, true, ℕ, ◌++◌, ◌∷◌, ◌≡◌}
-use Rattle.job_protocol.specs.Prelude.{Answered, ClusterPut, ClusterRename, CreateUpload, DeleteObject, Directory, Do, Driver, Entry, Fail, HeadObject, IsHonest, ListPage, NoSuchKey, OpEnd, Operation, Page, Part, PendingSet, Refused, Reply, Script, Setting, UploadPart, asks, commit_of, compact_text, over, set_tree, tells, who}
-use Rattle.job_spec.specs.Prelude.{ClusterDone, Deleted}
-use Rattle.s3_types.specs.declared.reply.Reply.TheVariants.{Upload}
-use Rattle.job_traces.specs.Runs.{nothing_learnt}
+-- Two jobs at one destination, of which the first is of the directory committer with the mode fail: the other's file is there before its
+-- commit.
+use Rattle.job_examples.specs.FourFileLanes.{completes, out}
 use Rattle.job_examples.specs.Jobs.{attempt, commits_at, hello_tag, job, lake, said, setting, worker}
 use Rattle.job_examples.specs.OneFile.{opening}
 use Rattle.job_examples.specs.Runs.{hello, set_of, upload}
-use Rattle.job_examples.specs.FourFileLanes.{completes, out}
 use Rattle.job_examples.specs.TwoJobs.{below_attempt, jb, mark_bytes, marks, mine, pending, prepares, reads, set_bytes, set_key}
+use Rattle.job_examples.specs.TwoMagic.{AllStrange, drew_first, drew_second, sided}
+use Rattle.job_model.specs.JobScript.{Script}
 use Rattle.job_model.specs.declared.ends.CheckEnd.TheVariants.{Conflict}
+use Rattle.job_model.specs.declared.ends.OpEnd.{OpEnd}
+use Rattle.job_model.specs.declared.events.Event.TheVariants.{Do}
+use Rattle.job_protocol.specs.Operations.{Operation, Setting, asks, commit_of, over, tells, who}
+use Rattle.job_traces.specs.Runs.{nothing_learnt}
+use Rattle.pending_json.specs.Trees.{set_tree}
+use Rattle.pending_json.specs.declared.records.PendingSet.{PendingSet}
+use Rattle.s3_types.specs.Moment.{IsHonest}
+use Rattle.s3_types.specs.declared.journal.Entry.{Entry}
+use Rattle.s3_types.specs.declared.journal.Outcome.TheVariants.{Answered}
+use Rattle.s3_types.specs.declared.reply.PageEntry.TheVariants.{Object as Listed}
+use Rattle.s3_types.specs.declared.reply.Refusal.TheVariants.{NoSuchKey}
+use Rattle.s3_types.specs.declared.reply.Reply.{Reply}
+use Rattle.s3_types.specs.declared.reply.Reply.TheVariants.{ClusterDone, Deleted, Page, Part, Refused, Upload}
+use Rattle.s3_types.specs.declared.request.Actor.TheVariants.{Driver}
+use Rattle.s3_types.specs.declared.request.Committer.TheVariants.{Directory}
+use Rattle.s3_types.specs.declared.request.Mode.TheVariants.{Fail}
+use Rattle.s3_types.specs.declared.request.Request.TheVariants.{ClusterPut, ClusterRename, CreateUpload, DeleteObject, HeadObject, ListPage}
+use Rattle.s3_types.specs.declared.request.Request.TheVariants.{UploadPart}
+use Rattle.serde_json.specs.Written.{compact_text}
+use Rattle.std.specs.Prelude.{List, None, Option, Some, codes, false, length, true, ℕ, [], ◌++◌, ◌∷◌, ◌≡◌}
+use Rattle.twin_facts.specs.Events.{AtMoment}
 use Rattle.twin_facts.specs.Sides.{Second, TwinEntry}
 use Rattle.twin_facts.specs.TwinLaws.{is_marked_by}
-use Rattle.twin_facts.specs.Events.{AtMoment}
-use Rattle.job_examples.specs.TwoMagic.{AllStrange, drew_first, drew_second, sided}
 use Rattle.job_model.specs.declared.events.Op.TheVariants as ops
 use Rattle.job_model.specs.declared.ends.OpEnd.TheVariants as ends
-use Rattle.s3_types.specs.declared.reply.PageEntry.TheVariants.{Object as Listed}
 
 abbrev pub ja : Script
-ja = record (job Directory Fail 1 3 1 (attempt 0 0 ((codes "x", codes "hello") ∷ []) ∷ []) (Do Driver ops.Setup ∷ Do worker ops.Write ∷ Do worker ops.Commit ∷ Do Driver ops.Commit ∷ [])) { job = codes "ja" }
+ja = record (job Directory Fail 1 3 1 (attempt 0 0 ((codes "x", codes "hello") ∷ []) ∷ [])
+    (Do Driver ops.Setup ∷ Do worker ops.Write ∷ Do worker ops.Commit ∷ Do Driver ops.Commit ∷ [])) { job = codes "ja" }
 
 -- its set tells no sizes
 abbrev pub the_set : PendingSet
@@ -51,7 +68,8 @@ journal =
     ∷ said 3 worker (UploadPart lake (out (codes "x")) 1 1 (codes "hello")) (Part hello_tag)
     ∷ said 3 worker (ClusterPut temporary bytes) ClusterDone
     ∷ said 3 worker (ClusterRename temporary (codes "jobs/ja/sets/task_0.pendingset")) ClusterDone
-    ∷ (prepares (codes "jb") (codes "y") 2 4 ++ reads (codes "jb") (codes "y") 2 7 ∷ completes 7 (codes "y") 2 ∷ marks (codes "jb") (codes "y") 7 ∷ said 8 Driver (ListPage lake (codes "out/") false [] 1000) page ∷ [])
+    ∷ (prepares (codes "jb") (codes "y") 2 4 ++ reads (codes "jb") (codes "y") 2 7 ∷ completes 7 (codes "y") 2 ∷ marks (codes "jb")
+    (codes "y") 7 ∷ said 8 Driver (ListPage lake (codes "out/") false [] 1000) page ∷ [])
 
 abbrev pub entries : List TwinEntry
 entries = sided mine journal

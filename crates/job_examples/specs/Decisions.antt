@@ -1,14 +1,21 @@
 -- The verdict on runs, and what a restart changes.
-use Rattle.std.specs.Prelude.{◌≡◌, List, [], ◌∷◌, Some, None, codes}
-use Rattle.job_spec.specs.Prelude.{Driver, Magic, Append, Script, Abort, Event, Do, Start, Kill, Restart, Recover, EventEnd, Done, Ended, past, missing, refusal, commit_event, verdict, idle, dead}
-use Rattle.job_model.specs.declared.events.Op.TheVariants.{Setup, Write, Commit}
+use Rattle.job_examples.specs.Jobs.{attempt, done_setup, done_task, job, worker}
+use Rattle.job_model.specs.JobScript.{Script}
+use Rattle.job_model.specs.declared.ends.EventEnd.{EventEnd}
+use Rattle.job_model.specs.declared.ends.EventEnd.TheVariants.{Done, Ended, Refused}
+use Rattle.job_model.specs.declared.events.Event.{Event}
+use Rattle.job_model.specs.declared.events.Event.TheVariants.{Do, Kill, Recover, Restart, Start}
+use Rattle.job_model.specs.declared.events.Op.TheVariants.{Abort, Commit, Setup, Write}
+use Rattle.job_spec.specs.States.{commit_event, dead, idle, missing, past, refusal, verdict}
+use Rattle.s3_types.specs.declared.request.Actor.TheVariants.{Driver}
+use Rattle.s3_types.specs.declared.request.Committer.TheVariants.{Magic}
+use Rattle.s3_types.specs.declared.request.Mode.TheVariants.{Append}
+use Rattle.std.specs.Prelude.{List, None, Some, codes, [], ◌∷◌, ◌≡◌}
 use Rattle.job_model.specs.declared.ends.SetupEnd.TheVariants as setups
 use Rattle.job_model.specs.declared.ends.CommitEnd.TheVariants as commits
 use Rattle.job_model.specs.declared.ends.OpEnd.TheVariants as ends
-use Rattle.job_model.specs.declared.ends.EventEnd.TheVariants.{Refused}
 use Rattle.job_model.specs.declared.ends.EventFault.TheVariants as faults
 use Rattle.job_model.specs.declared.states.ActorStage.TheVariants as stage
-use Rattle.job_examples.specs.Jobs.{job, attempt, worker, done_setup, done_task}
 
 -- one attempt with one file, and these events
 abbrev pub script : List Event → Script
@@ -36,7 +43,8 @@ refused_commit = script (Do Driver Setup ∷ Do Driver Commit ∷ [])
 
 -- a driver that is killed in its commit and restarted
 abbrev pub killed_commit : Script
-killed_commit = script (Do Driver Setup ∷ Do worker Write ∷ Do worker Commit ∷ Start Driver Commit ∷ Kill Driver ∷ Restart ∷ Restart ∷ Recover worker ∷ Do Driver Commit ∷ Do Driver Abort ∷ [])
+killed_commit = script (Do Driver Setup ∷ Do worker Write ∷ Do worker Commit ∷ Start Driver Commit ∷ Kill Driver ∷ Restart ∷ Restart ∷
+    Recover worker ∷ Do Driver Commit ∷ Do Driver Abort ∷ [])
 
 -- the ends of a run whose driver is killed in its commit and restarted
 abbrev pub killed_commit_ends : List EventEnd

@@ -1,16 +1,39 @@
 -- A job of one attempt with four files in lanes: its scripts, the entries of its commits, and what is said of its runs.
-use Rattle.std.specs.Prelude.{◌≡◌, ℕ, List, [], ◌∷◌, ◌++◌, Option, Some, None, codes}
-use Rattle.job_spec.specs.Prelude.{lookup, text_eq, moment, FateMap, Actor, Driver, Request, CompleteUpload, Completed, Refused, NoSuchUpload, Magic, Append, ReplyLost, Entry, File, Script, Op, Event, Do, OpEnd, view, until, by_actor, OpFollows, op_over}
-use Rattle.job_protocol.specs.Prelude.{compact_text, pending_tree, success_tree}
+use Rattle.basics.specs.Order.{text_eq}
+use Rattle.job_examples.specs.FourFiles.{attempt_entries, of_file, the_set}
+use Rattle.job_examples.specs.Jobs.{attempt, directory, doing, entry, hello_tag, job, lake, said, set_key, setting, worker}
+use Rattle.job_examples.specs.OneFile.{opening}
+use Rattle.job_examples.specs.Runs.{reads_set}
+use Rattle.job_model.specs.Files.{File}
+use Rattle.job_model.specs.JobScript.{Script}
+use Rattle.job_model.specs.declared.ends.OpEnd.{OpEnd}
+use Rattle.job_model.specs.declared.events.Event.{Event}
+use Rattle.job_model.specs.declared.events.Event.TheVariants.{Do}
+use Rattle.job_model.specs.declared.events.Op.{Op}
+use Rattle.job_protocol.specs.View.{view}
+use Rattle.job_spec.specs.Follows.{OpFollows, op_over}
+use Rattle.job_spec.specs.Turns.{by_actor, until}
+use Rattle.pending_json.specs.Trees.{pending_tree, success_tree}
+use Rattle.s3_types.specs.Fates.{FateMap}
+use Rattle.s3_types.specs.Moment.{moment}
 use Rattle.s3_types.specs.Tags.{joined_tag}
+use Rattle.s3_types.specs.declared.journal.Entry.{Entry}
+use Rattle.s3_types.specs.declared.journal.Outcome.TheVariants.{ReplyLost}
+use Rattle.s3_types.specs.declared.reply.Refusal.TheVariants.{NoSuchUpload}
+use Rattle.s3_types.specs.declared.reply.Reply.TheVariants.{Completed, Refused}
+use Rattle.s3_types.specs.declared.request.Actor.{Actor}
+use Rattle.s3_types.specs.declared.request.Actor.TheVariants.{Driver}
+use Rattle.s3_types.specs.declared.request.Committer.TheVariants.{Magic}
+use Rattle.s3_types.specs.declared.request.Mode.TheVariants.{Append}
+use Rattle.s3_types.specs.declared.request.Request.{Request}
+use Rattle.s3_types.specs.declared.request.Request.TheVariants.{CompleteUpload}
+use Rattle.serde_json.specs.Written.{compact_text}
+use Rattle.std.specs.Map.{lookup}
+use Rattle.std.specs.Prelude.{List, None, Option, Some, codes, ℕ, [], ◌++◌, ◌∷◌, ◌≡◌}
 use Rattle.job_model.specs.declared.events.Op.TheVariants as ops
 use Rattle.job_model.specs.declared.ends.SetupEnd.TheVariants as setups
 use Rattle.job_model.specs.declared.ends.TaskEnd.TheVariants as tasks
 use Rattle.job_model.specs.declared.ends.OpEnd.TheVariants as ends
-use Rattle.job_examples.specs.Jobs.{lake, job, attempt, worker, entry, said, hello_tag, directory, set_key, setting, doing}
-use Rattle.job_examples.specs.OneFile.{opening}
-use Rattle.job_examples.specs.Runs.{reads_set}
-use Rattle.job_examples.specs.FourFiles.{of_file, the_set, attempt_entries}
 
 -- ---- the job
 
@@ -20,7 +43,8 @@ four = (codes "a", codes "hello") ∷ (codes "b", codes "hello") ∷ (codes "c",
 
 -- the job's script with so many retries and lanes and these losses
 abbrev pub script : ℕ → ℕ → FateMap → List Event → Script
-script retries lanes fates events = record (job Magic Append 1 retries lanes (attempt 0 0 four ∷ []) (Do Driver ops.Setup ∷ Do worker ops.Write ∷ Do worker ops.Commit ∷ events)) { fates = fates }
+script retries lanes fates events = record (job Magic Append 1 retries lanes (attempt 0 0 four ∷ [])
+    (Do Driver ops.Setup ∷ Do worker ops.Write ∷ Do worker ops.Commit ∷ events)) { fates = fates }
 
 -- ---- keys and records
 
@@ -42,7 +66,13 @@ record_bytes name id = compact_text (pending_tree (of_file name id))
 
 -- the text of `_SUCCESS`
 abbrev pub mark_bytes : List ℕ
-mark_bytes = compact_text (success_tree (record { job = codes "j1"; committer = Magic; files = codes "a" ∷ codes "b" ∷ codes "c" ∷ codes "d" ∷ []; stamp = None }))
+mark_bytes = compact_text (success_tree (record {
+  job = codes "j1";
+  committer = Magic;
+  files = codes "a" ∷ codes "b" ∷ codes "c" ∷ codes "d"
+      ∷ [];
+  stamp = None;
+}))
 
 -- ---- of a commit
 
@@ -79,7 +109,8 @@ hellos (n ∷ ns) = (n, codes "hello") ∷ hellos ns
 
 -- the actor's entries up to event `upto` are what its operation asks, which began in event k, and lead to this end
 abbrev pub Goes : Script → List Entry → Actor → Op → ℕ → Option ℕ → ℕ → Option OpEnd → Type 0
-Goes w journal a op k missing upto end = OpFollows (setting w) a (doing op k missing) (by_actor a (until upto journal)) × (op_over (setting w) a (doing op k missing) (by_actor a (until upto journal)) ≡ end)
+Goes w journal a op k missing upto end = OpFollows (setting w) a (doing op k missing) (by_actor a (until upto journal))
+    × (op_over (setting w) a (doing op k missing) (by_actor a (until upto journal)) ≡ end)
 
 -- the set-up, the write and the task's commit go so and are done, whatever retries, lanes and later events the job has
 pub record Prepared (w : Script) (journal : List Entry) : Type 0 where

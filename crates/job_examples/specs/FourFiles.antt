@@ -1,22 +1,38 @@
 -- The run of one attempt with four files whose job's commit is killed after two completions.
-use Rattle.std.specs.Prelude.{List, None, Some, [], codes, false, length, take, true, ℕ, ◌++◌, ◌∷◌, ◌≡◌}
-use Rattle.job_protocol.specs.Prelude.{Append, Do, Done, Driver, Ended, Entry, EventEnd, Kill, Magic, PageEntry, Pending, PendingSet, Script, Seen, Start, Step, moment, seen, upload_at, view}
-use Rattle.job_spec.specs.Prelude.{OpFollows, Turns, by_actor, commit_event, dead, of_event, op_over, past, refusal, verdict}
-use Rattle.job_model.specs.declared.events.Op.TheVariants.{Commit, Setup, Write}
-use Rattle.job_protocol.specs.View.{object_at}
+use Rattle.job_examples.specs.Jobs.{attempt, commits_at, directory, doing as begun_so, job, lake, set_key, setting, worker}
 use Rattle.job_examples.specs.OneFile.{opening, setup_entries}
 use Rattle.job_examples.specs.Runs.{Goes, Keeps, completes, held, hello, lists, puts_set, reads_record, reads_set, set_of, upload, writes}
+use Rattle.job_model.specs.JobScript.{Script}
+use Rattle.job_model.specs.declared.ends.EventEnd.{EventEnd}
+use Rattle.job_model.specs.declared.ends.EventEnd.TheVariants.{Done, Ended}
+use Rattle.job_model.specs.declared.events.Event.TheVariants.{Do, Kill, Start, Step}
+use Rattle.job_model.specs.declared.events.Op.TheVariants.{Commit, Setup, Write}
+use Rattle.job_protocol.specs.Scope.{upload_at}
+use Rattle.job_protocol.specs.Seen.{Seen, seen}
+use Rattle.job_protocol.specs.View.{object_at, view}
+use Rattle.job_spec.specs.Follows.{OpFollows, op_over}
+use Rattle.job_spec.specs.States.{commit_event, dead, past, refusal, verdict}
+use Rattle.job_spec.specs.Turns.{Turns, by_actor, of_event}
+use Rattle.pending_json.specs.Pending.{Pending}
+use Rattle.pending_json.specs.declared.records.PendingSet.{PendingSet}
+use Rattle.s3_types.specs.Moment.{moment}
+use Rattle.s3_types.specs.declared.journal.Entry.{Entry}
+use Rattle.s3_types.specs.declared.reply.PageEntry.{PageEntry}
+use Rattle.s3_types.specs.declared.reply.PageEntry.TheVariants.{Object as Listed}
+use Rattle.s3_types.specs.declared.request.Actor.TheVariants.{Driver}
+use Rattle.s3_types.specs.declared.request.Committer.TheVariants.{Magic}
+use Rattle.s3_types.specs.declared.request.Mode.TheVariants.{Append}
+use Rattle.std.specs.Prelude.{List, None, Some, codes, false, length, take, true, ℕ, [], ◌++◌, ◌∷◌, ◌≡◌}
 use Rattle.job_model.specs.declared.ends.SetupEnd.TheVariants as setups
 use Rattle.job_model.specs.declared.ends.TaskEnd.TheVariants as tasks
 use Rattle.job_model.specs.declared.ends.OpEnd.TheVariants as ends
 use Rattle.job_model.specs.declared.states.ActorStage.TheVariants as stage
-use Rattle.job_examples.specs.Jobs.{lake, job, attempt, worker, directory, set_key, setting, doing as begun_so, commits_at}
-use Rattle.s3_types.specs.declared.reply.PageEntry.TheVariants.{Object as Listed}
 
 -- the job's script
 abbrev pub script : Script
 script = job Magic Append 1 3 1
-    (attempt 0 0 ((codes "a", codes "hello") ∷ (codes "b", codes "hello") ∷ (codes "c", codes "hello") ∷ (codes "d", codes "hello") ∷ []) ∷ [])
+    (attempt 0 0 ((codes "a", codes "hello") ∷ (codes "b", codes "hello") ∷ (codes "c", codes "hello") ∷ (codes "d", codes "hello") ∷ []) ∷
+    [])
     (Do Driver Setup ∷ Do worker Write ∷ Do worker Commit ∷ Start Driver Commit ∷ Step Driver 3 ∷ Kill Driver ∷ [])
 
 -- the upload of a file

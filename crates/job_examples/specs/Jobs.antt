@@ -1,10 +1,30 @@
 -- The job that the runs are of, and entries of its journals.
-use Rattle.std.specs.Prelude.{List, None, Option, Some, [], codes, false, ℕ, ◌∷◌}
-use Rattle.job_spec.specs.Prelude.{Actor, Answered, Attempt, Committer, Declared, Doing, Ended, Entry, Event, EventEnd, File, Known, Mode, Op, OpEnd, Operation, Outcome, Reply, Reports, Request, Running, Script, Setting, Spelled, Times, advance, over, wants}
+use Rattle.job_model.specs.Attempts.{Declared}
+use Rattle.job_model.specs.Files.{File}
+use Rattle.job_model.specs.JobScript.{Script, plain_script}
+use Rattle.job_model.specs.Known.{Known}
+use Rattle.job_model.specs.declared.ends.EventEnd.{EventEnd}
+use Rattle.job_model.specs.declared.ends.EventEnd.TheVariants.{Ended}
+use Rattle.job_model.specs.declared.ends.OpEnd.{OpEnd}
+use Rattle.job_model.specs.declared.events.Event.{Event}
+use Rattle.job_model.specs.declared.events.Op.{Op}
+use Rattle.job_protocol.specs.Operations.{Operation, Reports, Running, Setting, advance, over, wants}
+use Rattle.job_protocol.specs.Seen.{Times}
+use Rattle.job_spec.specs.States.{Doing}
+use Rattle.s3_types.specs.Tags.{Spelled}
+use Rattle.s3_types.specs.declared.journal.Entry.{Entry}
+use Rattle.s3_types.specs.declared.journal.Outcome.{Outcome}
+use Rattle.s3_types.specs.declared.journal.Outcome.TheVariants.{Answered}
+use Rattle.s3_types.specs.declared.reply.Reply.{Reply}
+use Rattle.s3_types.specs.declared.request.Actor.{Actor}
+use Rattle.s3_types.specs.declared.request.Actor.TheVariants.{Attempt}
+use Rattle.s3_types.specs.declared.request.Committer.{Committer}
+use Rattle.s3_types.specs.declared.request.Mode.{Mode}
+use Rattle.s3_types.specs.declared.request.Request.{Request}
+use Rattle.std.specs.Prelude.{List, None, Option, Some, codes, false, ℕ, [], ◌∷◌}
 use Rattle.job_model.specs.declared.ends.SetupEnd.TheVariants as setups
 use Rattle.job_model.specs.declared.ends.TaskEnd.TheVariants as tasks
 use Rattle.job_model.specs.declared.ends.OpEnd.TheVariants as ends
-use Rattle.job_model.specs.JobScript.{plain_script}
 
 -- the bucket
 abbrev pub lake : List ℕ
@@ -13,7 +33,8 @@ lake = codes "lake"
 -- a job at s3a://lake/out that names no fate
 abbrev pub job : Committer → Mode → ℕ → ℕ → ℕ → List Declared → List Event → Script
 job committer mode tasks retries lanes attempts events =
-    record (plain_script (codes "j1") (record { bucket = lake; key = codes "out" }) committer mode tasks) { retries = retries; lanes = lanes; attempts = attempts; events = events }
+    record (plain_script (codes "j1") (record { bucket = lake; key = codes "out" }) committer mode tasks)
+    { retries = retries; lanes = lanes; attempts = attempts; events = events }
 
 -- an attempt that writes files
 abbrev pub attempt : ℕ → ℕ → List File → Declared

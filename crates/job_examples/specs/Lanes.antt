@@ -1,15 +1,29 @@
 -- A job's commit that completes four uploads, in one lane and in two, and its revert.
-use Rattle.std.specs.Prelude.{◌≡◌, ℕ, List, [], ◌∷◌, Option, Some, None, codes, false}
-use Rattle.job_spec.specs.Prelude.{Driver, Request, CompleteUpload, DeleteObject, AbortUpload, PutObject, Stored, Deleted, Completed, Aborted, Refused, NoSuchUpload, Outcome, Answered, Slow, ReplyLost, Magic, Append, Script, nothing_known, Sets, replacing, picks_of, mark_text, TheCommit}
+use Rattle.job_examples.specs.FourFiles.{the_set}
+use Rattle.job_examples.specs.Jobs.{Course, attempt, course_of, hello_tag, job, lake}
+use Rattle.job_model.specs.JobScript.{Script}
+use Rattle.job_model.specs.Known.{nothing_known}
+use Rattle.job_protocol.specs.JobCommits.{Sets, picks_of, replacing}
+use Rattle.job_protocol.specs.Operations.{TheCommit}
+use Rattle.job_protocol.specs.Records.{mark_text}
+use Rattle.s3_types.specs.declared.journal.Outcome.{Outcome}
+use Rattle.s3_types.specs.declared.journal.Outcome.TheVariants.{Answered, ReplyLost, Slow}
+use Rattle.s3_types.specs.declared.reply.Refusal.TheVariants.{NoSuchUpload}
+use Rattle.s3_types.specs.declared.reply.Reply.TheVariants.{Aborted, Completed, Deleted, Refused, Stored}
+use Rattle.s3_types.specs.declared.request.Actor.TheVariants.{Driver}
+use Rattle.s3_types.specs.declared.request.Committer.TheVariants.{Magic}
+use Rattle.s3_types.specs.declared.request.Mode.TheVariants.{Append}
+use Rattle.s3_types.specs.declared.request.Request.{Request}
+use Rattle.s3_types.specs.declared.request.Request.TheVariants.{AbortUpload, CompleteUpload, DeleteObject, PutObject}
+use Rattle.std.specs.Prelude.{List, None, Option, Some, codes, false, ℕ, [], ◌∷◌, ◌≡◌}
 use Rattle.job_model.specs.declared.ends.CommitEnd.TheVariants as commits
 use Rattle.job_model.specs.declared.ends.Stage.TheVariants as stages
 use Rattle.job_model.specs.declared.ends.OpEnd.TheVariants as ends
-use Rattle.job_examples.specs.Jobs.{lake, job, attempt, hello_tag, Course, course_of}
-use Rattle.job_examples.specs.FourFiles.{the_set}
 
 -- the job's script
 abbrev pub script : ℕ → ℕ → Script
-script retries lanes = job Magic Append 1 retries lanes (attempt 0 0 ((codes "a", codes "hello") ∷ (codes "b", codes "hello") ∷ (codes "c", codes "hello") ∷ (codes "d", codes "hello") ∷ []) ∷ []) []
+script retries lanes = job Magic Append 1 retries lanes (attempt 0 0
+    ((codes "a", codes "hello") ∷ (codes "b", codes "hello") ∷ (codes "c", codes "hello") ∷ (codes "d", codes "hello") ∷ []) ∷ []) []
 
 -- the set that was read: four uploads
 abbrev pub sets : Sets
@@ -41,22 +55,49 @@ put_done = Answered (Stored hello_tag)
 
 -- the commit once its set is read, over these outcomes
 abbrev pub goes : ℕ → ℕ → List Outcome → Course
-goes retries lanes os = course_of (record { script = script retries lanes; minimum = 5242880; shared = false }) Driver (record { operation = TheCommit (replacing (script retries lanes) sets []); known = nothing_known }) os
+goes retries lanes os = course_of (record { script = script retries lanes; minimum = 5242880; shared = false }) Driver
+    (record { operation = TheCommit (replacing (script retries lanes) sets []); known = nothing_known }) os
 
 -- what a commit sends in one lane and in two, and what its revert takes back
 pub record LanesRun : Type 0 where
   -- in one lane one after the other; a lost one is sent again at once
   pub one : goes 3 1 (ReplyLost ∷ Answered (Refused NoSuchUpload) ∷ done ∷ done ∷ done ∷ put_done ∷ [])
-      ≡ record { requests = completes (codes "out/a") 1 ∷ completes (codes "out/a") 1 ∷ completes (codes "out/b") 2 ∷ completes (codes "out/c") 3 ∷ completes (codes "out/d") 4 ∷ marks (script 3 1) ∷ []; end = Some (ends.Commit commits.Committed) }
+      ≡ record {
+        requests = completes (codes "out/a") 1 ∷ completes (codes "out/a") 1 ∷ completes (codes "out/b") 2 ∷ completes
+            (codes "out/c") 3 ∷ completes (codes "out/d") 4 ∷ marks (script 3 1) ∷ [];
+        end = Some (ends.Commit commits.Committed);
+      }
   -- in two lanes by turns; a lost one is sent again at its lane's next turn
   pub two : goes 3 2 (ReplyLost ∷ done ∷ Answered (Refused NoSuchUpload) ∷ done ∷ done ∷ put_done ∷ [])
-      ≡ record { requests = completes (codes "out/a") 1 ∷ completes (codes "out/b") 2 ∷ completes (codes "out/a") 1 ∷ completes (codes "out/d") 4 ∷ completes (codes "out/c") 3 ∷ marks (script 3 2) ∷ []; end = Some (ends.Commit commits.Committed) }
-  -- a completion that wears out is aborted and its key deleted, then the completed key, and then the uploads that were never sent are aborted
-  pub reverts : goes 0 1 (done ∷ ReplyLost ∷ Answered Aborted ∷ Answered Deleted ∷ Answered Deleted ∷ Answered Aborted ∷ Answered Aborted ∷ [])
-      ≡ record { requests = completes (codes "out/a") 1 ∷ completes (codes "out/b") 2 ∷ aborts (codes "out/b") 2 ∷ deletes (codes "out/b") ∷ deletes (codes "out/a") ∷ aborts (codes "out/c") 3 ∷ aborts (codes "out/d") 4 ∷ []; end = Some (ends.Commit (commits.StoreFault stages.Complete)) }
-  -- with lanes, so is each other one that was sent and got no answer, also where it was merely slow; what wears out in a revert is passed over
-  pub reverts_tried : goes 1 2 (ReplyLost ∷ Slow ∷ ReplyLost ∷ Answered Aborted ∷ Answered Deleted ∷ Answered Aborted ∷ ReplyLost ∷ ReplyLost ∷ Answered Aborted ∷ Answered Aborted ∷ [])
-      ≡ record { requests = completes (codes "out/a") 1 ∷ completes (codes "out/b") 2 ∷ completes (codes "out/a") 1 ∷ aborts (codes "out/a") 1 ∷ deletes (codes "out/a") ∷ aborts (codes "out/b") 2 ∷ deletes (codes "out/b") ∷ deletes (codes "out/b") ∷ aborts (codes "out/c") 3 ∷ aborts (codes "out/d") 4 ∷ []; end = Some (ends.Commit (commits.StoreFault stages.Complete)) }
+      ≡ record {
+        requests = completes (codes "out/a") 1 ∷ completes (codes "out/b") 2 ∷ completes (codes "out/a") 1 ∷ completes
+            (codes "out/d") 4 ∷ completes (codes "out/c") 3 ∷ marks (script 3 2) ∷ [];
+        end = Some (ends.Commit commits.Committed);
+      }
+  -- a completion that wears out is aborted and its key deleted, then the completed key, and then the uploads that were never sent are
+  -- aborted
+  pub reverts : goes 0 1 (done ∷ ReplyLost ∷ Answered Aborted ∷ Answered Deleted ∷ Answered Deleted ∷ Answered Aborted ∷ Answered Aborted ∷
+      [])
+      ≡ record {
+        requests = completes (codes "out/a") 1 ∷ completes (codes "out/b") 2 ∷ aborts (codes "out/b") 2 ∷ deletes (codes "out/b") ∷
+            deletes (codes "out/a") ∷ aborts (codes "out/c") 3 ∷ aborts (codes "out/d") 4 ∷ [];
+        end = Some
+            (ends.Commit (commits.StoreFault stages.Complete));
+      }
+  -- with lanes, so is each other one that was sent and got no answer, also where it was merely slow; what wears out in a revert is passed
+  -- over
+  pub reverts_tried : goes 1 2 (ReplyLost ∷ Slow ∷ ReplyLost ∷ Answered Aborted ∷ Answered Deleted ∷ Answered Aborted ∷ ReplyLost ∷
+      ReplyLost ∷ Answered Aborted ∷ Answered Aborted ∷ [])
+      ≡ record {
+        requests = completes (codes "out/a") 1 ∷ completes (codes "out/b") 2 ∷ completes (codes "out/a") 1 ∷ aborts (codes "out/a")
+            1 ∷ deletes (codes "out/a") ∷ aborts (codes "out/b") 2 ∷ deletes (codes "out/b") ∷ deletes (codes "out/b") ∷ aborts
+            (codes "out/c") 3 ∷ aborts (codes "out/d") 4 ∷ [];
+        end = Some (ends.Commit (commits.StoreFault stages.Complete));
+      }
   -- a put of the marker that wears out reverts nothing
   pub marker : goes 1 4 (done ∷ done ∷ done ∷ done ∷ ReplyLost ∷ Slow ∷ [])
-      ≡ record { requests = completes (codes "out/a") 1 ∷ completes (codes "out/b") 2 ∷ completes (codes "out/c") 3 ∷ completes (codes "out/d") 4 ∷ marks (script 1 4) ∷ marks (script 1 4) ∷ []; end = Some (ends.Commit (commits.StoreFault stages.Success)) }
+      ≡ record {
+        requests = completes (codes "out/a") 1 ∷ completes (codes "out/b") 2 ∷ completes (codes "out/c") 3 ∷ completes
+            (codes "out/d") 4 ∷ marks (script 1 4) ∷ marks (script 1 4) ∷ [];
+        end = Some (ends.Commit (commits.StoreFault stages.Success));
+      }

@@ -1,14 +1,25 @@
 -- Four files, the reply to the first completion lost, and a commit whose driver is killed after five sendings: in two lanes and in one.
-use Rattle.std.specs.Prelude.{◌≡◌, ℕ, true, false, List, [], ◌∷◌, ◌++◌, length, Some, None, codes}
-use Rattle.job_spec.specs.Prelude.{IsHonest, moment, After, Driver, Entry, Script, Start, Step, Kill, EventEnd, Done, Always, ZeroRename, OutsideStays, Seen, seen, past, dead, verdict}
+use Rattle.job_examples.specs.FourFileLanes.{Goes, Prepared, Shows, completes, finds_none, hellos, loses, read_entries}
+use Rattle.job_examples.specs.Jobs.{before_commit, commits_at, lake}
+use Rattle.job_examples.specs.OneFile.{opening}
+use Rattle.job_model.specs.JobScript.{Script}
+use Rattle.job_model.specs.declared.ends.EventEnd.{EventEnd}
+use Rattle.job_model.specs.declared.ends.EventEnd.TheVariants.{Done}
+use Rattle.job_model.specs.declared.events.Event.TheVariants.{Kill, Start, Step}
+use Rattle.job_protocol.specs.Seen.{Seen, seen}
+use Rattle.job_protocol.specs.View.{object_at}
+use Rattle.job_spec.specs.Entries.{OutsideStays, ZeroRename}
+use Rattle.job_spec.specs.Headline.{Always}
+use Rattle.job_spec.specs.States.{dead, past, verdict}
+use Rattle.s3_types.specs.Moment.{IsHonest, moment}
+use Rattle.s3_types.specs.declared.fates.Fate.TheVariants.{After}
+use Rattle.s3_types.specs.declared.journal.Entry.{Entry}
+use Rattle.s3_types.specs.declared.request.Actor.TheVariants.{Driver}
+use Rattle.std.specs.Prelude.{List, None, Some, codes, false, length, true, ℕ, [], ◌++◌, ◌∷◌, ◌≡◌}
 use Rattle.std.specs.FinMap as fin
 use Rattle.job_model.specs.declared.events.Op.TheVariants as ops
 use Rattle.job_model.specs.declared.states.ActorStage.TheVariants as stage
-use Rattle.job_protocol.specs.View.{object_at}
-use Rattle.job_examples.specs.Jobs.{lake, before_commit, commits_at}
-use Rattle.job_examples.specs.OneFile.{opening}
 use Rattle.job_examples.specs.FourFileLanes as files
-use Rattle.job_examples.specs.FourFileLanes.{read_entries, completes, loses, finds_none, Shows, hellos, Goes, Prepared}
 
 -- the reply of the sending 27 is lost
 abbrev pub script : ℕ → Script

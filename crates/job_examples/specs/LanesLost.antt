@@ -1,16 +1,31 @@
 -- Four files in two lanes: the reply to the first completion is lost, and the commit ends all the same.
-use Rattle.std.specs.Prelude.{◌≡◌, ℕ, true, false, List, [], ◌∷◌, ◌++◌, length, Option, Some, None, codes}
-use Rattle.job_spec.specs.Prelude.{IsHonest, moment, After, Object, Driver, Entry, first_worn, Script, Do, EventEnd, Ended, Always, ZeroRename, OutsideStays, commit_due, is_mark_answered, Seen, seen, verdict, by_actor, since}
+use Rattle.job_examples.specs.FourFileLanes.{Goes, Prepared, Shows, completes, finds_none, hellos, loses, mark_bytes, read_entries}
+use Rattle.job_examples.specs.Jobs.{before_commit, commits_at, lake}
+use Rattle.job_examples.specs.OneFile.{opening}
+use Rattle.job_examples.specs.Runs.{puts}
+use Rattle.job_model.specs.JobScript.{Script}
+use Rattle.job_model.specs.declared.ends.EventEnd.{EventEnd}
+use Rattle.job_model.specs.declared.ends.EventEnd.TheVariants.{Ended}
+use Rattle.job_model.specs.declared.events.Event.TheVariants.{Do}
+use Rattle.job_protocol.specs.Seen.{Seen, seen}
+use Rattle.job_protocol.specs.View.{object_at}
+use Rattle.job_spec.specs.Ends.{commit_due, is_mark_answered}
+use Rattle.job_spec.specs.Entries.{OutsideStays, ZeroRename}
+use Rattle.job_spec.specs.Headline.{Always}
+use Rattle.job_spec.specs.States.{verdict}
+use Rattle.job_spec.specs.Turns.{by_actor, since}
+use Rattle.retries.specs.Worn.{first_worn}
+use Rattle.s3_types.specs.Moment.{IsHonest, moment}
+use Rattle.s3_types.specs.declared.fates.Fate.TheVariants.{After}
+use Rattle.s3_types.specs.declared.journal.Entry.{Entry}
+use Rattle.s3_types.specs.declared.object.Object.{Object}
+use Rattle.s3_types.specs.declared.request.Actor.TheVariants.{Driver}
+use Rattle.std.specs.Prelude.{List, None, Option, Some, codes, false, length, true, ℕ, [], ◌++◌, ◌∷◌, ◌≡◌}
 use Rattle.std.specs.FinMap as fin
 use Rattle.job_model.specs.declared.events.Op.TheVariants as ops
 use Rattle.job_model.specs.declared.ends.CommitEnd.TheVariants as commits
 use Rattle.job_model.specs.declared.ends.OpEnd.TheVariants as ends
-use Rattle.job_protocol.specs.View.{object_at}
-use Rattle.job_examples.specs.Jobs.{lake, before_commit, commits_at}
-use Rattle.job_examples.specs.OneFile.{opening}
-use Rattle.job_examples.specs.Runs.{puts}
 use Rattle.job_examples.specs.FourFileLanes as files
-use Rattle.job_examples.specs.FourFileLanes.{read_entries, completes, loses, finds_none, mark_bytes, Shows, hellos, Goes, Prepared}
 
 -- the reply of the sending 27 is lost
 abbrev pub script : Script
@@ -20,7 +35,8 @@ script = files.script 3 2 (fin.insert fin.empty 27 After) (Do Driver ops.Commit 
 abbrev pub journal : List Entry
 journal =
     read_entries 4
-    ++ loses 4 (codes "a") 1 ∷ completes 4 (codes "b") 2 ∷ finds_none 4 (codes "a") 1 ∷ completes 4 (codes "d") 4 ∷ completes 4 (codes "c") 3 ∷ puts 4 Driver (codes "out/_SUCCESS") mark_bytes ∷ []
+    ++ loses 4 (codes "a") 1 ∷ completes 4 (codes "b") 2 ∷ finds_none 4 (codes "a") 1 ∷ completes 4 (codes "d") 4 ∷ completes 4 (codes "c")
+    3 ∷ puts 4 Driver (codes "out/_SUCCESS") mark_bytes ∷ []
 
 -- the ends of the run's events
 abbrev pub the_ends : List EventEnd

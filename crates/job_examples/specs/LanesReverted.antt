@@ -1,15 +1,32 @@
 -- Four files in one lane: the second completion takes effect and its reply is lost, so it wears out, and the commit is reverted.
-use Rattle.std.specs.Prelude.{◌≡◌, ℕ, true, false, List, [], ◌∷◌, ◌++◌, length, Some, None, codes}
-use Rattle.job_spec.specs.Prelude.{IsHonest, After, Driver, AbortUpload, DeleteObject, Deleted, Aborted, Refused, NoSuchUpload, Entry, first_worn, Script, Do, EventEnd, Ended, Always, ZeroRename, OutsideStays, commit_due, Seen, seen, verdict, by_actor, since}
+use Rattle.job_examples.specs.FourFileLanes.{Goes, Prepared, Shows, completes, completion, hellos, loses, out, read_entries}
+use Rattle.job_examples.specs.Jobs.{before_commit, commits_at, lake, said}
+use Rattle.job_examples.specs.OneFile.{opening}
+use Rattle.job_model.specs.JobScript.{Script}
+use Rattle.job_model.specs.declared.ends.EventEnd.{EventEnd}
+use Rattle.job_model.specs.declared.ends.EventEnd.TheVariants.{Ended}
+use Rattle.job_model.specs.declared.events.Event.TheVariants.{Do}
+use Rattle.job_protocol.specs.Seen.{Seen, seen}
+use Rattle.job_spec.specs.Ends.{commit_due}
+use Rattle.job_spec.specs.Entries.{OutsideStays, ZeroRename}
+use Rattle.job_spec.specs.Headline.{Always}
+use Rattle.job_spec.specs.States.{verdict}
+use Rattle.job_spec.specs.Turns.{by_actor, since}
+use Rattle.retries.specs.Worn.{first_worn}
+use Rattle.s3_types.specs.Moment.{IsHonest}
+use Rattle.s3_types.specs.declared.fates.Fate.TheVariants.{After}
+use Rattle.s3_types.specs.declared.journal.Entry.{Entry}
+use Rattle.s3_types.specs.declared.reply.Refusal.TheVariants.{NoSuchUpload}
+use Rattle.s3_types.specs.declared.reply.Reply.TheVariants.{Aborted, Deleted, Refused}
+use Rattle.s3_types.specs.declared.request.Actor.TheVariants.{Driver}
+use Rattle.s3_types.specs.declared.request.Request.TheVariants.{AbortUpload, DeleteObject}
+use Rattle.std.specs.Prelude.{List, None, Some, codes, false, length, true, ℕ, [], ◌++◌, ◌∷◌, ◌≡◌}
 use Rattle.std.specs.FinMap as fin
 use Rattle.job_model.specs.declared.events.Op.TheVariants as ops
 use Rattle.job_model.specs.declared.ends.CommitEnd.TheVariants as commits
 use Rattle.job_model.specs.declared.ends.Stage.TheVariants as stages
 use Rattle.job_model.specs.declared.ends.OpEnd.TheVariants as ends
-use Rattle.job_examples.specs.Jobs.{lake, said, before_commit, commits_at}
-use Rattle.job_examples.specs.OneFile.{opening}
 use Rattle.job_examples.specs.FourFileLanes as files
-use Rattle.job_examples.specs.FourFileLanes.{out, read_entries, completion, completes, loses, Shows, hellos, Goes, Prepared}
 
 -- no request is sent again, and the reply of the sending 28 is lost
 abbrev pub script : Script

@@ -1,15 +1,33 @@
 -- The run of one file in which both sendings of the last put lose their replies: the commit ends at fault, the file and the marker stand.
-use Rattle.std.specs.Prelude.{◌≡◌, List, [], ◌∷◌, ◌++◌, Some, None, codes, false}
-use Rattle.job_protocol.specs.Prelude.{compact_text, success_tree}
-use Rattle.job_spec.specs.Prelude.{IsHonest, After, Driver, PutObject, ReplyLost, Entry, first_worn, Script, EventEnd, Ended, Setting, Always, ZeroRename, OutsideStays, commit_due, OpFollows, op_over, seen, verdict, by_actor, since}
+use Rattle.job_examples.specs.Jobs.{before_commit, commits_at, doing, entry, lake}
+use Rattle.job_examples.specs.OneFile.{attempt_entries, opening, the_completion, the_mark, the_read}
+use Rattle.job_model.specs.JobScript.{Script}
+use Rattle.job_model.specs.declared.ends.EventEnd.{EventEnd}
+use Rattle.job_model.specs.declared.ends.EventEnd.TheVariants.{Ended}
+use Rattle.job_protocol.specs.Operations.{Setting}
+use Rattle.job_protocol.specs.Seen.{seen}
+use Rattle.job_spec.specs.Ends.{commit_due}
+use Rattle.job_spec.specs.Entries.{OutsideStays, ZeroRename}
+use Rattle.job_spec.specs.Follows.{OpFollows, op_over}
+use Rattle.job_spec.specs.Headline.{Always}
+use Rattle.job_spec.specs.States.{verdict}
+use Rattle.job_spec.specs.Turns.{by_actor, since}
+use Rattle.pending_json.specs.Trees.{success_tree}
+use Rattle.retries.specs.Worn.{first_worn}
+use Rattle.s3_types.specs.Moment.{IsHonest}
+use Rattle.s3_types.specs.declared.fates.Fate.TheVariants.{After}
+use Rattle.s3_types.specs.declared.journal.Entry.{Entry}
+use Rattle.s3_types.specs.declared.journal.Outcome.TheVariants.{ReplyLost}
+use Rattle.s3_types.specs.declared.request.Actor.TheVariants.{Driver}
+use Rattle.s3_types.specs.declared.request.Request.TheVariants.{PutObject}
+use Rattle.serde_json.specs.Written.{compact_text}
+use Rattle.std.specs.Prelude.{List, None, Some, codes, false, [], ◌++◌, ◌∷◌, ◌≡◌}
 use Rattle.std.specs.FinMap as fin
 use Rattle.job_model.specs.declared.events.Op.TheVariants as ops
 use Rattle.job_model.specs.declared.ends.CommitEnd.TheVariants as commits
 use Rattle.job_model.specs.declared.ends.Stage.TheVariants as stages
 use Rattle.job_model.specs.declared.ends.OpEnd.TheVariants as ends
-use Rattle.job_examples.specs.Jobs.{lake, entry, before_commit, doing, commits_at}
 use Rattle.job_examples.specs.OneFile as one
-use Rattle.job_examples.specs.OneFile.{opening, attempt_entries, the_read, the_completion, the_mark}
 
 -- each request may be sent twice, and the replies of the sendings 13 and 14 are lost
 abbrev pub script : Script
@@ -40,7 +58,10 @@ pub record LostMark : Type 0 where
   pub outside : OutsideStays script opening journal
   -- the put wears out with its second sending, and its stage is the end that is due
   pub follows : OpFollows setting Driver (doing ops.Commit 4 None) (by_actor Driver journal)
-  pub over : op_over setting Driver (doing ops.Commit 4 None) (by_actor Driver journal) ≡ Some (ends.Commit (commits.StoreFault stages.Success))
-  pub worn : first_worn 1 (since 4 (by_actor Driver journal)) ≡ Some (PutObject lake (codes "out/_SUCCESS") (compact_text (success_tree the_mark)) None)
-  pub due : commit_due script (seen script (commits_at 4) opening journal 14).picks None (first_worn 1 (since 4 (by_actor Driver journal))) ≡ commits.StoreFault stages.Success
+  pub over : op_over setting Driver (doing ops.Commit 4 None) (by_actor Driver journal) ≡ Some
+      (ends.Commit (commits.StoreFault stages.Success))
+  pub worn : first_worn 1 (since 4 (by_actor Driver journal)) ≡ Some (PutObject lake (codes "out/_SUCCESS")
+      (compact_text (success_tree the_mark)) None)
+  pub due : commit_due script (seen script (commits_at 4) opening journal 14).picks None (first_worn 1 (since 4 (by_actor Driver journal)))
+      ≡ commits.StoreFault stages.Success
   pub verdict : verdict script the_ends ≡ 8

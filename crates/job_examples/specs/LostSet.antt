@@ -1,19 +1,36 @@
 -- The run of one file in which both sendings of the set's put lose their replies: the task is not reported, and the job's commit misses it.
-use Rattle.std.specs.Prelude.{List, None, Some, [], codes, false, length, ℕ, ◌++◌, ◌∷◌, ◌≡◌}
-use Rattle.job_protocol.specs.Prelude.{Abort, Do, Driver, Ended, Entry, EventEnd, PutObject, ReplyLost, Request, Script, Seen, compact_text, moment, seen, set_tree, upload_at, view}
-use Rattle.job_spec.specs.Prelude.{After, by_actor, commit_due, commit_event, first_worn, since, verdict}
-use Rattle.job_model.specs.declared.events.Op.TheVariants.{Commit, Setup, Write}
-use Rattle.job_protocol.specs.View.{object_at}
 use Rattle.job_examples.specs.Jobs.{commits_at, directory, entry, lake, worker}
 use Rattle.job_examples.specs.OneFile.{opening, setup_entries, the_record, the_set, write_entries}
 use Rattle.job_examples.specs.Runs.{Goes, Keeps, held, lists, reads_record}
+use Rattle.job_model.specs.JobScript.{Script}
+use Rattle.job_model.specs.declared.ends.EventEnd.{EventEnd}
+use Rattle.job_model.specs.declared.ends.EventEnd.TheVariants.{Ended}
+use Rattle.job_model.specs.declared.events.Event.TheVariants.{Do}
+use Rattle.job_model.specs.declared.events.Op.TheVariants.{Abort, Commit, Setup, Write}
+use Rattle.job_protocol.specs.Scope.{upload_at}
+use Rattle.job_protocol.specs.Seen.{Seen, seen}
+use Rattle.job_protocol.specs.View.{object_at, view}
+use Rattle.job_spec.specs.Ends.{commit_due}
+use Rattle.job_spec.specs.States.{commit_event, verdict}
+use Rattle.job_spec.specs.Turns.{by_actor, since}
+use Rattle.pending_json.specs.Trees.{set_tree}
+use Rattle.retries.specs.Worn.{first_worn}
+use Rattle.s3_types.specs.Moment.{moment}
+use Rattle.s3_types.specs.declared.fates.Fate.TheVariants.{After}
+use Rattle.s3_types.specs.declared.journal.Entry.{Entry}
+use Rattle.s3_types.specs.declared.journal.Outcome.TheVariants.{ReplyLost}
+use Rattle.s3_types.specs.declared.reply.PageEntry.TheVariants.{Object as Listed}
+use Rattle.s3_types.specs.declared.request.Actor.TheVariants.{Driver}
+use Rattle.s3_types.specs.declared.request.Request.{Request}
+use Rattle.s3_types.specs.declared.request.Request.TheVariants.{PutObject}
+use Rattle.serde_json.specs.Written.{compact_text}
+use Rattle.std.specs.Prelude.{List, None, Some, codes, false, length, ℕ, [], ◌++◌, ◌∷◌, ◌≡◌}
 use Rattle.std.specs.FinMap as fin
 use Rattle.job_model.specs.declared.ends.SetupEnd.TheVariants as setups
 use Rattle.job_model.specs.declared.ends.TaskEnd.TheVariants as tasks
 use Rattle.job_model.specs.declared.ends.CommitEnd.TheVariants as commits
 use Rattle.job_model.specs.declared.ends.OpEnd.TheVariants as ends
 use Rattle.job_examples.specs.OneFile as one
-use Rattle.s3_types.specs.declared.reply.PageEntry.TheVariants.{Object as Listed}
 
 -- each request may be sent twice, and the replies of the sendings 10 and 11 are lost
 abbrev pub script : Script
@@ -44,7 +61,8 @@ journal =
 
 -- the ends of the run's events
 abbrev pub the_ends : List EventEnd
-the_ends = Ended (ends.Setup setups.Done) ∷ Ended (ends.Task tasks.Done) ∷ Ended (ends.Task tasks.StoreFault) ∷ Ended (ends.Task tasks.Kept) ∷ Ended (ends.Commit (commits.Missing 0)) ∷ []
+the_ends = Ended (ends.Setup setups.Done) ∷ Ended (ends.Task tasks.Done) ∷ Ended (ends.Task tasks.StoreFault) ∷ Ended (ends.Task tasks.Kept)
+    ∷ Ended (ends.Commit (commits.Missing 0)) ∷ []
 
 -- what is seen after the first m entries
 abbrev pub at : ℕ → Seen
@@ -63,7 +81,8 @@ pub record LostSet : Type 0 where
   -- the set was published all the same, so the abort keeps it, without a request
   pub published : (at 10).last 0 ≡ Some 0
   pub abort : Goes script the_ends journal worker Abort 4 (Some 0) (ends.Task tasks.Kept)
-  pub stands : object_at (moment opening journal 11).content lake (codes "out/__magic/job-j1/sets/task_0.pendingset") ≡ Some (record { bytes = compact_text (set_tree the_set); header = None })
+  pub stands : object_at (moment opening journal 11).content lake (codes "out/__magic/job-j1/sets/task_0.pendingset") ≡ Some
+      (record { bytes = compact_text (set_tree the_set); header = None })
   pub live : upload_at (moment opening journal 11).content lake 1 ≡ Some (held (codes "part-00000"))
   -- the task was not reported, so the job's commit misses it, without a request, and its end is the one that is due
   pub commit : Goes script the_ends journal Driver Commit 5 (Some 0) (ends.Commit (commits.Missing 0))

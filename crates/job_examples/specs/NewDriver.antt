@@ -1,19 +1,33 @@
--- The run of one task with two attempts whose driver is killed and restarted between them: the new driver knows no report of the first one, and that of the second counts.
-use Rattle.std.specs.Prelude.{◌≡◌, ℕ, false, List, [], ◌∷◌, ◌++◌, length, take, Some, None}
-use Rattle.job_protocol.specs.Prelude.{compact_text, set_tree}
-use Rattle.job_spec.specs.Prelude.{moment, Driver, Entry, first_worn, Script, Do, Kill, Restart, EventEnd, Done, Ended, view, commit_due, all_picks, Seen, seen, past, refusal, missing, idle, dead, commit_event, verdict, Turns, of_event, by_actor, since}
-use Rattle.job_model.specs.declared.events.Op.TheVariants.{Setup, Write, Commit, Clean}
+-- The run of one task with two attempts whose driver is killed and restarted between them: the new driver knows no report of the first one,
+-- and that of the second counts.
+use Rattle.job_examples.specs.Jobs.{commits_at, done_task, lake, other, set_key, worker}
+use Rattle.job_examples.specs.OneFile.{opening}
+use Rattle.job_examples.specs.Runs.{Goes, Keeps}
+use Rattle.job_examples.specs.TwoAttempts.{Replaces, first_entries, first_set, journal_of, with_events}
+use Rattle.job_model.specs.JobScript.{Script}
+use Rattle.job_model.specs.declared.ends.EventEnd.{EventEnd}
+use Rattle.job_model.specs.declared.ends.EventEnd.TheVariants.{Done, Ended}
+use Rattle.job_model.specs.declared.events.Event.TheVariants.{Do, Kill, Restart}
+use Rattle.job_model.specs.declared.events.Op.TheVariants.{Clean, Commit, Setup, Write}
+use Rattle.job_protocol.specs.Seen.{Seen, seen}
+use Rattle.job_protocol.specs.View.{object_at, view}
+use Rattle.job_spec.specs.Ends.{commit_due}
+use Rattle.job_spec.specs.Promise.{all_picks}
+use Rattle.job_spec.specs.States.{commit_event, dead, idle, missing, past, refusal, verdict}
+use Rattle.job_spec.specs.Turns.{Turns, by_actor, of_event, since}
+use Rattle.pending_json.specs.Trees.{set_tree}
+use Rattle.retries.specs.Worn.{first_worn}
+use Rattle.s3_types.specs.Moment.{moment}
+use Rattle.s3_types.specs.declared.journal.Entry.{Entry}
+use Rattle.s3_types.specs.declared.request.Actor.TheVariants.{Driver}
+use Rattle.serde_json.specs.Written.{compact_text}
+use Rattle.std.specs.Prelude.{List, None, Some, false, length, take, ℕ, [], ◌++◌, ◌∷◌, ◌≡◌}
 use Rattle.job_model.specs.declared.ends.SetupEnd.TheVariants as setups
 use Rattle.job_model.specs.declared.ends.TaskEnd.TheVariants as tasks
 use Rattle.job_model.specs.declared.ends.CommitEnd.TheVariants as commits
 use Rattle.job_model.specs.declared.ends.CleanEnd.TheVariants as cleans
 use Rattle.job_model.specs.declared.ends.OpEnd.TheVariants as ends
 use Rattle.job_model.specs.declared.states.ActorStage.TheVariants as stage
-use Rattle.job_protocol.specs.View.{object_at}
-use Rattle.job_examples.specs.Jobs.{lake, worker, other, set_key, done_task, commits_at}
-use Rattle.job_examples.specs.OneFile.{opening}
-use Rattle.job_examples.specs.Runs.{Goes, Keeps}
-use Rattle.job_examples.specs.TwoAttempts.{with_events, first_set, first_entries, journal_of, Replaces}
 
 -- the ends of the set-up, the first attempt's write and commit, the death and the restart
 abbrev pub restart_ends : List EventEnd
@@ -23,7 +37,8 @@ restart_ends = Ended (ends.Setup setups.Done) ∷ done_task ∷ done_task ∷ Do
 
 -- the job's script
 abbrev pub script : Script
-script = with_events (Do Driver Setup ∷ Do worker Write ∷ Do worker Commit ∷ Kill Driver ∷ Restart ∷ Do other Write ∷ Do other Commit ∷ Do Driver Commit ∷ Do Driver Clean ∷ [])
+script = with_events (Do Driver Setup ∷ Do worker Write ∷ Do worker Commit ∷ Kill Driver ∷ Restart ∷ Do other Write ∷ Do other Commit ∷ Do
+    Driver Commit ∷ Do Driver Clean ∷ [])
 
 -- the run's journal
 abbrev pub journal : List Entry
@@ -85,11 +100,13 @@ pub record Forgotten : Type 0 where
   pub task : Goes early_script early_ends first_entries worker Commit 3 (Some 0) (ends.Task tasks.Done)
   -- the attempt has published, and its set stands
   pub published : (early_at 10).last 0 ≡ Some 0
-  pub stands : object_at (moment opening first_entries 10).content lake set_key ≡ Some (record { bytes = compact_text (set_tree first_set); header = None })
+  pub stands : object_at (moment opening first_entries 10).content lake set_key ≡ Some
+      (record { bytes = compact_text (set_tree first_set); header = None })
   -- the commit misses its task all the same, without a request, and its end is the one that is due
   pub commit : Goes early_script early_ends first_entries Driver Commit 6 (Some 0) (ends.Commit (commits.Missing 0))
   pub not_begun : (early_at 10).begun ≡ false
-  pub due : commit_due early_script (early_at 10).picks (Some 0) (first_worn 3 (since 6 (by_actor Driver first_entries))) ≡ commits.Missing 0
+  pub due : commit_due early_script (early_at 10).picks (Some 0) (first_worn 3 (since 6 (by_actor Driver first_entries))) ≡ commits.Missing
+      0
   pub picks : all_picks early_script opening first_entries early_ends ≡ []
   -- no file is ever shown
   pub shows : (m : ℕ) (p : List ℕ) → view early_script.dest (moment opening first_entries m).content p ≡ None

@@ -1,26 +1,60 @@
 -- A job of one attempt with one file, from its set-up to its commit.
-use Rattle.std.specs.Prelude.{◌≡◌, ℕ, true, false, List, [], ◌∷◌, ◌++◌, Option, Some, None, codes}
-use Rattle.job_protocol.specs.Prelude.{compact_text, Pending, set_tree, success_tree, PendingSet, SuccessMark}
-use Rattle.job_spec.specs.Prelude.{Actor, Driver, PutObject, GetObject, HeadObject, DeleteObject, ListPage, CompleteUpload, Stored, Deleted, Page, Completed, Refused, NoSuchKey, Magic, Append, Entry, Script, Op, Do, OpEnd, Setting, wanted_at, is_decided, keeps_of, Seen, seen, commit_due, in_eyes, Content, new_bucket, until, by_actor, OpFollows, op_over}
-use Rattle.s3_types.specs.Tags.{plain_tag, joined_tag}
-use Rattle.s3_types.specs.declared.reply.Reply.TheVariants.{Object}
-use Rattle.job_model.specs.declared.events.Op.TheVariants.{Setup, Write, Commit}
+use Rattle.job_examples.specs.Jobs.{attempt, commits_at, directory, doing, hello_tag, job, lake, said, worker}
+use Rattle.job_examples.specs.Runs.{hello, lists, reads_record, writes}
+use Rattle.job_model.specs.JobScript.{Script}
+use Rattle.job_model.specs.declared.ends.OpEnd.{OpEnd}
+use Rattle.job_model.specs.declared.events.Event.TheVariants.{Do}
+use Rattle.job_model.specs.declared.events.Op.{Op}
+use Rattle.job_model.specs.declared.events.Op.TheVariants.{Commit, Setup, Write}
+use Rattle.job_protocol.specs.Conflicts.{keeps_of}
+use Rattle.job_protocol.specs.Operations.{Setting}
+use Rattle.job_protocol.specs.Outputs.{is_decided, wanted_at}
+use Rattle.job_protocol.specs.Seen.{Seen, seen}
+use Rattle.job_spec.specs.Ends.{commit_due}
+use Rattle.job_spec.specs.Eyes.{in_eyes}
+use Rattle.job_spec.specs.Follows.{OpFollows, op_over}
+use Rattle.job_spec.specs.Turns.{by_actor, until}
+use Rattle.pending_json.specs.Pending.{Pending}
+use Rattle.pending_json.specs.Trees.{set_tree, success_tree}
+use Rattle.pending_json.specs.declared.records.PendingSet.{PendingSet}
+use Rattle.pending_json.specs.declared.records.SuccessMark.{SuccessMark}
+use Rattle.s3_types.specs.Store.{Content, new_bucket}
+use Rattle.s3_types.specs.Tags.{joined_tag, plain_tag}
+use Rattle.s3_types.specs.declared.journal.Entry.{Entry}
+use Rattle.s3_types.specs.declared.reply.PageEntry.TheVariants.{Object as Listed}
+use Rattle.s3_types.specs.declared.reply.Refusal.TheVariants.{NoSuchKey}
+use Rattle.s3_types.specs.declared.reply.Reply.TheVariants.{Completed, Deleted, Object, Page, Refused, Stored}
+use Rattle.s3_types.specs.declared.request.Actor.{Actor}
+use Rattle.s3_types.specs.declared.request.Actor.TheVariants.{Driver}
+use Rattle.s3_types.specs.declared.request.Committer.TheVariants.{Magic}
+use Rattle.s3_types.specs.declared.request.Mode.TheVariants.{Append}
+use Rattle.s3_types.specs.declared.request.Request.TheVariants.{CompleteUpload, DeleteObject, GetObject, HeadObject, ListPage, PutObject}
+use Rattle.serde_json.specs.Written.{compact_text}
+use Rattle.std.specs.Prelude.{List, None, Option, Some, codes, false, true, ℕ, [], ◌++◌, ◌∷◌, ◌≡◌}
 use Rattle.job_model.specs.declared.ends.SetupEnd.TheVariants as setups
 use Rattle.job_model.specs.declared.ends.TaskEnd.TheVariants as tasks
 use Rattle.job_model.specs.declared.ends.CommitEnd.TheVariants as commits
 use Rattle.job_model.specs.declared.ends.OpEnd.TheVariants as ends
 use Rattle.std.specs.FinMap as fin
-use Rattle.job_examples.specs.Jobs.{lake, job, attempt, worker, said, hello_tag, directory, doing, commits_at}
-use Rattle.job_examples.specs.Runs.{hello, writes, lists, reads_record}
-use Rattle.s3_types.specs.declared.reply.PageEntry.TheVariants.{Object as Listed}
 
 -- the job's script
 abbrev pub script : Script
-script = job Magic Append 1 3 1 (attempt 0 0 ((codes "part-00000", codes "hello") ∷ []) ∷ []) (Do Driver Setup ∷ Do worker Write ∷ Do worker Commit ∷ Do Driver Commit ∷ [])
+script = job Magic Append 1 3 1 (attempt 0 0 ((codes "part-00000", codes "hello") ∷ []) ∷ [])
+    (Do Driver Setup ∷ Do worker Write ∷ Do worker Commit ∷ Do Driver Commit ∷ [])
 
 -- the upload's record, the task's set and the job's marker
 abbrev pub the_record : Pending
-the_record = record { task = 0; attempt = 0; bucket = lake; destination = codes "out/part-00000"; upload = 1; length = 5; tags = hello_tag ∷ []; sizes = Some (5 ∷ []) }
+the_record = record {
+  task = 0;
+  attempt = 0;
+  bucket = lake;
+  destination = codes "out/part-00000";
+  upload = 1;
+  length = 5;
+  tags = hello_tag ∷
+      [];
+  sizes = Some (5 ∷ []);
+}
 
 -- the task's set
 abbrev pub the_set : PendingSet
@@ -44,7 +78,8 @@ write_entries = writes hello 2 worker directory (codes "part-00000") the_record
 
 -- the attempt's put of its task's set
 abbrev pub the_publishing : Entry
-the_publishing = said 3 worker (PutObject lake (codes "out/__magic/job-j1/sets/task_0.pendingset") (compact_text (set_tree the_set)) None) (Stored (plain_tag (compact_text (set_tree the_set))))
+the_publishing = said 3 worker (PutObject lake (codes "out/__magic/job-j1/sets/task_0.pendingset") (compact_text (set_tree the_set)) None)
+    (Stored (plain_tag (compact_text (set_tree the_set))))
 
 -- the entries of the task's commit
 abbrev pub task_entries : List Entry
@@ -60,15 +95,18 @@ attempt_entries = setup_entries ++ write_entries ++ task_entries
 
 -- the commit's read of the set, its completion of the upload and its put of the marker
 abbrev pub the_read : Entry
-the_read = said 4 Driver (GetObject lake (codes "out/__magic/job-j1/sets/task_0.pendingset")) (Object (compact_text (set_tree the_set)) None)
+the_read = said 4 Driver (GetObject lake (codes "out/__magic/job-j1/sets/task_0.pendingset"))
+    (Object (compact_text (set_tree the_set)) None)
 
 -- the completion of the upload
 abbrev pub the_completion : ℕ → Entry
-the_completion k = said k Driver (CompleteUpload lake (codes "out/part-00000") 1 (record { number = 1; tag = hello_tag } ∷ [])) (Completed (joined_tag (hello_tag ∷ [])))
+the_completion k = said k Driver (CompleteUpload lake (codes "out/part-00000") 1 (record { number = 1; tag = hello_tag } ∷ []))
+    (Completed (joined_tag (hello_tag ∷ [])))
 
 -- the put of `_SUCCESS`
 abbrev pub the_marking : Entry
-the_marking = said 4 Driver (PutObject lake (codes "out/_SUCCESS") (compact_text (success_tree the_mark)) None) (Stored (plain_tag (compact_text (success_tree the_mark))))
+the_marking = said 4 Driver (PutObject lake (codes "out/_SUCCESS") (compact_text (success_tree the_mark)) None)
+    (Stored (plain_tag (compact_text (success_tree the_mark))))
 
 -- the entries of the job's commit
 abbrev pub commit_entries : List Entry
@@ -84,7 +122,8 @@ setting = record { script = script; minimum = 5242880; shared = false }
 
 -- the actor's entries up to its event are what its operation asks, and lead to this end
 abbrev pub Goes : Actor → Op → ℕ → Option ℕ → OpEnd → Type 0
-Goes a op k missing end = OpFollows setting a (doing op k missing) (by_actor a (until k journal)) × (op_over setting a (doing op k missing) (by_actor a (until k journal)) ≡ Some end)
+Goes a op k missing end = OpFollows setting a (doing op k missing) (by_actor a (until k journal))
+    × (op_over setting a (doing op k missing) (by_actor a (until k journal)) ≡ Some end)
 
 -- each operation asks what it should, and ends so
 pub record OneFileRuns : Type 0 where

@@ -1,10 +1,18 @@
 -- Journals that a job's promise refuses, each by the part of it that is named.
-use Rattle.std.specs.Prelude.{ℕ, List, [], ◌∷◌, ◌++◌, None, codes}
-use Rattle.job_spec.specs.Prelude.{Content, Driver, PutObject, DeleteObject, Stored, Deleted, Entry, Pick, Always, Promised}
-use Rattle.std.specs.FinMap as fin
+use Rattle.job_examples.specs.Jobs.{before_commit, commits_at, lake, said}
+use Rattle.job_examples.specs.OneFile.{attempt_entries, opening, script, setup_entries, the_completion, the_marking, the_read}
+use Rattle.job_examples.specs.OneFile.{write_entries}
+use Rattle.job_model.specs.declared.ends.Pick.{Pick}
+use Rattle.job_spec.specs.Headline.{Always}
+use Rattle.job_spec.specs.Promise.{Promised}
+use Rattle.s3_types.specs.Store.{Content}
 use Rattle.s3_types.specs.Tags.{plain_tag}
-use Rattle.job_examples.specs.Jobs.{lake, said, before_commit, commits_at}
-use Rattle.job_examples.specs.OneFile.{script, opening, setup_entries, write_entries, attempt_entries, the_read, the_completion, the_marking}
+use Rattle.s3_types.specs.declared.journal.Entry.{Entry}
+use Rattle.s3_types.specs.declared.reply.Reply.TheVariants.{Deleted, Stored}
+use Rattle.s3_types.specs.declared.request.Actor.TheVariants.{Driver}
+use Rattle.s3_types.specs.declared.request.Request.TheVariants.{DeleteObject, PutObject}
+use Rattle.std.specs.Prelude.{List, None, codes, ℕ, [], ◌++◌, ◌∷◌}
+use Rattle.std.specs.FinMap as fin
 
 -- the driver puts an object while its commit goes on
 abbrev pub puts : List ℕ → List ℕ → Entry
@@ -33,7 +41,11 @@ marked_early = attempt_entries ++ the_read ∷ the_marking ∷ []
 -- a store that shows one file already
 abbrev pub old_opening : Content
 old_opening = record {
-  buckets = fin.insert fin.empty lake (record { objects = fin.insert fin.empty (codes "out/old") (record { bytes = codes "old"; header = None }); uploads = fin.empty });
+  buckets = fin.insert fin.empty lake (record {
+    objects = fin.insert fin.empty (codes "out/old")
+        (record { bytes = codes "old"; header = None });
+    uploads = fin.empty;
+  });
   next = 1;
   minimum = 5242880;
 }

@@ -1,18 +1,35 @@
 -- Ends that are not those that are due, and a run that shows two attempts of one task.
-use Rattle.std.specs.Prelude.{ℕ, List, [], ◌∷◌, ◌++◌, None, codes}
-use Rattle.job_protocol.specs.Prelude.{compact_text, set_tree, success_tree, PendingSet, SuccessMark}
-use Rattle.job_spec.specs.Prelude.{Actor, Driver, PutObject, GetObject, CreateUpload, UploadPart, CompleteUpload, AbortUpload, DeleteObject, Stored, Deleted, Part, Aborted, Magic, Append, ReplyLost, Entry, Script, Do, Kill, Restart, EventEnd, Done, Ended, Plays, Always, CommitsEnd}
+use Rattle.job_examples.specs.Jobs.{attempt, commits_at, done_setup, done_task, entry, hello_tag, job, lake, other, said, worker}
+use Rattle.job_examples.specs.OneFile.{attempt_entries, journal, opening, setting}
+use Rattle.job_examples.specs.OneFinished.{the_ends}
+use Rattle.job_examples.specs.Runs.{completes, hello, set_of, upload}
+use Rattle.job_model.specs.JobScript.{Script}
+use Rattle.job_model.specs.declared.ends.EventEnd.{EventEnd}
+use Rattle.job_model.specs.declared.ends.EventEnd.TheVariants.{Done, Ended}
+use Rattle.job_model.specs.declared.events.Event.TheVariants.{Do, Kill, Restart}
+use Rattle.job_spec.specs.Follows.{Plays}
+use Rattle.job_spec.specs.Headline.{Always}
+use Rattle.job_spec.specs.Promise.{CommitsEnd}
+use Rattle.pending_json.specs.Trees.{set_tree, success_tree}
+use Rattle.pending_json.specs.declared.records.PendingSet.{PendingSet}
+use Rattle.pending_json.specs.declared.records.SuccessMark.{SuccessMark}
 use Rattle.s3_types.specs.Tags.{plain_tag}
-use Rattle.s3_types.specs.declared.reply.Reply.TheVariants.{Object, Upload}
+use Rattle.s3_types.specs.declared.journal.Entry.{Entry}
+use Rattle.s3_types.specs.declared.journal.Outcome.TheVariants.{ReplyLost}
+use Rattle.s3_types.specs.declared.reply.Reply.TheVariants.{Aborted, Deleted, Object, Part, Stored, Upload}
+use Rattle.s3_types.specs.declared.request.Actor.{Actor}
+use Rattle.s3_types.specs.declared.request.Actor.TheVariants.{Driver}
+use Rattle.s3_types.specs.declared.request.Committer.TheVariants.{Magic}
+use Rattle.s3_types.specs.declared.request.Mode.TheVariants.{Append}
+use Rattle.s3_types.specs.declared.request.Request.TheVariants.{AbortUpload, CompleteUpload, CreateUpload, DeleteObject, GetObject}
+use Rattle.s3_types.specs.declared.request.Request.TheVariants.{PutObject, UploadPart}
+use Rattle.serde_json.specs.Written.{compact_text}
+use Rattle.std.specs.Prelude.{List, None, codes, ℕ, [], ◌++◌, ◌∷◌}
 use Rattle.job_model.specs.declared.events.Op.TheVariants as ops
 use Rattle.job_model.specs.declared.ends.CommitEnd.TheVariants as commits
 use Rattle.job_model.specs.declared.ends.CleanEnd.TheVariants as cleans
 use Rattle.job_model.specs.declared.ends.Stage.TheVariants as stages
 use Rattle.job_model.specs.declared.ends.OpEnd.TheVariants as ends
-use Rattle.job_examples.specs.Jobs.{lake, job, attempt, worker, other, entry, said, hello_tag, done_setup, done_task, commits_at}
-use Rattle.job_examples.specs.Runs.{hello, upload, set_of, completes}
-use Rattle.job_examples.specs.OneFile.{opening, journal, setting, attempt_entries}
-use Rattle.job_examples.specs.OneFinished.{the_ends}
 
 -- an upload of `hello` by an attempt, and its completion by the driver
 abbrev pub drafts : ℕ → Actor → List ℕ → ℕ → List Entry
@@ -24,7 +41,8 @@ drafts k a key id = said k a (CreateUpload lake key) (Upload id) ∷ said k a (U
 abbrev pub both_script : Script
 both_script = job Magic Append 1 3 1
     (attempt 0 0 ((codes "a", codes "hello") ∷ []) ∷ attempt 0 1 ((codes "b", codes "hello") ∷ []) ∷ [])
-    (Do Driver ops.Setup ∷ Do worker ops.Write ∷ Do worker ops.Commit ∷ Do other ops.Write ∷ Do other ops.Commit ∷ Do Driver ops.Commit ∷ [])
+    (Do Driver ops.Setup ∷ Do worker ops.Write ∷ Do worker ops.Commit ∷ Do other ops.Write ∷ Do other ops.Commit ∷ Do Driver ops.Commit ∷
+    [])
 
 -- the second attempt's set
 abbrev pub b_set : PendingSet
@@ -39,18 +57,21 @@ abbrev pub both_attempts : List Entry
 both_attempts =
     drafts 2 worker (codes "out/a") 1
     ++ drafts 4 other (codes "out/b") 2
-    ++ said 5 other (PutObject lake (codes "out/__magic/job-j1/sets/task_0.pendingset") (compact_text (set_tree b_set)) None) (Stored (plain_tag (compact_text (set_tree b_set))))
+    ++ said 5 other (PutObject lake (codes "out/__magic/job-j1/sets/task_0.pendingset") (compact_text (set_tree b_set)) None)
+    (Stored (plain_tag (compact_text (set_tree b_set))))
     ∷ said 6 Driver (GetObject lake (codes "out/__magic/job-j1/sets/task_0.pendingset")) (Object (compact_text (set_tree b_set)) None)
     ∷ completes 6 (codes "out/a") 1
     ∷ completes 6 (codes "out/b") 2
-    ∷ said 6 Driver (PutObject lake (codes "out/_SUCCESS") (compact_text (success_tree b_mark)) None) (Stored (plain_tag (compact_text (success_tree b_mark))))
+    ∷ said 6 Driver (PutObject lake (codes "out/_SUCCESS") (compact_text (success_tree b_mark)) None)
+    (Stored (plain_tag (compact_text (success_tree b_mark))))
     ∷ []
 
 -- ---- a revert
 
 -- no request is sent again, and the job's commit is the event 4
 abbrev pub revert_script : Script
-revert_script = job Magic Append 1 0 1 (attempt 0 0 ((codes "a", codes "hello") ∷ (codes "b", codes "hello") ∷ []) ∷ []) (Do Driver ops.Setup ∷ Do worker ops.Write ∷ Do worker ops.Commit ∷ Do Driver ops.Commit ∷ [])
+revert_script = job Magic Append 1 0 1 (attempt 0 0 ((codes "a", codes "hello") ∷ (codes "b", codes "hello") ∷ []) ∷ [])
+    (Do Driver ops.Setup ∷ Do worker ops.Write ∷ Do worker ops.Commit ∷ Do Driver ops.Commit ∷ [])
 
 -- `out/a` is completed, the completion of `out/b` is lost, and its revert leaves out the deletion of `out/a`
 abbrev pub half_reverted : List Entry

@@ -1,14 +1,30 @@
 -- Four files, and a driver that is killed in its commit after two whole files and restarted: its abort leaves these two and no live upload.
-use Rattle.std.specs.Prelude.{List, None, Some, [], codes, false, length, true, ℕ, ◌++◌, ◌∷◌, ◌≡◌}
-use Rattle.job_protocol.specs.Prelude.{AbortUpload, DeleteObjects, Do, Done, Driver, Ended, Entry, EventEnd, IsHonest, Kill, ListPage, Object, Page, Recover, Restart, Script, Seen, Start, Step, compact_text, lookup, moment, seen, set_tree, text_eq, upload_at}
-use Rattle.job_spec.specs.Prelude.{Aborted, Always, Deleted, ListUploads, OutsideStays, ZeroRename, commit_event, idle, past, refusal, verdict}
-use Rattle.s3_types.specs.declared.reply.Reply.TheVariants.{Uploads}
-use Rattle.job_model.specs.declared.ends.EventEnd.TheVariants.{Refused}
-use Rattle.job_protocol.specs.View.{object_at}
+use Rattle.basics.specs.Order.{text_eq}
+use Rattle.job_examples.specs.FourFileLanes.{Goes, Prepared, Shows, below_attempt, completes, hellos, out, pending, read_entries}
+use Rattle.job_examples.specs.FourFiles.{the_set}
 use Rattle.job_examples.specs.Jobs.{before_commit, commits_at, lake, said, set_key, worker}
 use Rattle.job_examples.specs.OneFile.{opening}
-use Rattle.job_examples.specs.FourFiles.{the_set}
-use Rattle.job_examples.specs.FourFileLanes.{Goes, Prepared, Shows, below_attempt, completes, hellos, out, pending, read_entries}
+use Rattle.job_model.specs.JobScript.{Script}
+use Rattle.job_model.specs.declared.ends.EventEnd.{EventEnd}
+use Rattle.job_model.specs.declared.ends.EventEnd.TheVariants.{Done, Ended, Refused}
+use Rattle.job_model.specs.declared.events.Event.TheVariants.{Do, Kill, Recover, Restart, Start, Step}
+use Rattle.job_protocol.specs.Scope.{upload_at}
+use Rattle.job_protocol.specs.Seen.{Seen, seen}
+use Rattle.job_protocol.specs.View.{object_at}
+use Rattle.job_spec.specs.Entries.{OutsideStays, ZeroRename}
+use Rattle.job_spec.specs.Headline.{Always}
+use Rattle.job_spec.specs.States.{commit_event, idle, past, refusal, verdict}
+use Rattle.pending_json.specs.Trees.{set_tree}
+use Rattle.s3_types.specs.Moment.{IsHonest, moment}
+use Rattle.s3_types.specs.declared.journal.Entry.{Entry}
+use Rattle.s3_types.specs.declared.object.Object.{Object}
+use Rattle.s3_types.specs.declared.reply.PageEntry.TheVariants.{Object as Listed}
+use Rattle.s3_types.specs.declared.reply.Reply.TheVariants.{Aborted, Deleted, Page, Uploads}
+use Rattle.s3_types.specs.declared.request.Actor.TheVariants.{Driver}
+use Rattle.s3_types.specs.declared.request.Request.TheVariants.{AbortUpload, DeleteObjects, ListPage, ListUploads}
+use Rattle.serde_json.specs.Written.{compact_text}
+use Rattle.std.specs.Map.{lookup}
+use Rattle.std.specs.Prelude.{List, None, Some, codes, false, length, true, ℕ, [], ◌++◌, ◌∷◌, ◌≡◌}
 use Rattle.std.specs.FinMap as fin
 use Rattle.job_model.specs.declared.events.Op.TheVariants as ops
 use Rattle.job_model.specs.declared.ends.CleanEnd.TheVariants as cleans
@@ -16,11 +32,11 @@ use Rattle.job_model.specs.declared.ends.OpEnd.TheVariants as ends
 use Rattle.job_model.specs.declared.ends.EventFault.TheVariants as faults
 use Rattle.job_model.specs.declared.states.ActorStage.TheVariants as stage
 use Rattle.job_examples.specs.FourFileLanes as files
-use Rattle.s3_types.specs.declared.reply.PageEntry.TheVariants.{Object as Listed}
 
 -- three retries are the default, and one lane
 abbrev pub script : Script
-script = files.script 3 1 fin.empty (Start Driver ops.Commit ∷ Step Driver 3 ∷ Kill Driver ∷ Restart ∷ Do Driver ops.Commit ∷ Do Driver ops.Abort ∷ Restart ∷ Recover worker ∷ [])
+script = files.script 3 1 fin.empty (Start Driver ops.Commit ∷ Step Driver 3 ∷ Kill Driver ∷ Restart ∷ Do Driver ops.Commit ∷ Do Driver
+    ops.Abort ∷ Restart ∷ Recover worker ∷ [])
 
 -- what stands below the job's magic directory
 abbrev pub magic_keys : List (List ℕ)
@@ -35,7 +51,8 @@ magic_keys =
 -- the abort is event 9: the two live uploads are aborted, and the magic directory is emptied
 abbrev pub abort_entries : List Entry
 abort_entries =
-    said 9 Driver (ListUploads lake (codes "out/") None 1000) (Uploads (record { key = out (codes "c"); upload = 3 } ∷ record { key = out (codes "d"); upload = 4 } ∷ []) false)
+    said 9 Driver (ListUploads lake (codes "out/") None 1000) (Uploads
+    (record { key = out (codes "c"); upload = 3 } ∷ record { key = out (codes "d"); upload = 4 } ∷ []) false)
     ∷ said 9 Driver (AbortUpload lake (out (codes "c")) 3) Aborted
     ∷ said 9 Driver (AbortUpload lake (out (codes "d")) 4) Aborted
     ∷ said 9 Driver (ListPage lake (codes "out/__magic/job-j1/") false [] 1000) (Page (
@@ -70,7 +87,8 @@ at m = seen script (commits_at 4) opening journal m
 
 -- the two objects that are left
 abbrev pub two_objects : List (List ℕ × Object)
-two_objects = (out (codes "a"), record { bytes = codes "hello"; header = None }) ∷ (out (codes "b"), record { bytes = codes "hello"; header = None }) ∷ []
+two_objects = (out (codes "a"), record { bytes = codes "hello"; header = None }) ∷
+    (out (codes "b"), record { bytes = codes "hello"; header = None }) ∷ []
 
 -- the abort leaves two whole files, and no live upload
 pub record Restarted : Type 0 where

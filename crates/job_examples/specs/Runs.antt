@@ -1,13 +1,33 @@
 -- What attempts and the driver of a job send for files of five bytes, and what whole runs of them keep.
-use Rattle.std.specs.Prelude.{◌≡◌, ℕ, ◌-◌, false, List, [], ◌∷◌, ◌++◌, take, slice_get, Option, Some, None, codes}
-use Rattle.job_protocol.specs.Prelude.{compact_text, Pending, pending_tree, set_tree, PendingSet}
-use Rattle.job_spec.specs.Prelude.{Content, Spelled, Actor, Driver, PutObject, GetObject, ListPage, CreateUpload, UploadPart, CompleteUpload, Stored, Page, Part, Completed, PageEntry, Entry, Script, Op, Do, OpEnd, EventEnd, Ended, Always, ZeroRename, OutsideStays, Sent, OpFollows, op_over, past, refusal, until, of_event, by_actor, AllBy, Times, reports}
-use Rattle.std.specs.FinMap as fin
-use Rattle.s3_types.specs.Tags.{plain_tag, joined_tag}
-use Rattle.s3_types.specs.declared.reply.Reply.TheVariants.{Object, Upload}
-use Rattle.job_examples.specs.Jobs.{lake, said, hello_tag, setting, begun_with}
-use Rattle.s3_types.specs.Store.{Upload as Live}
+use Rattle.job_examples.specs.Jobs.{begun_with, hello_tag, lake, said, setting}
+use Rattle.job_model.specs.JobScript.{Script}
+use Rattle.job_model.specs.declared.ends.EventEnd.{EventEnd}
+use Rattle.job_model.specs.declared.ends.EventEnd.TheVariants.{Ended}
+use Rattle.job_model.specs.declared.ends.OpEnd.{OpEnd}
+use Rattle.job_model.specs.declared.events.Event.TheVariants.{Do}
+use Rattle.job_model.specs.declared.events.Op.{Op}
+use Rattle.job_protocol.specs.Seen.{Times}
+use Rattle.job_spec.specs.Entries.{OutsideStays, ZeroRename}
+use Rattle.job_spec.specs.Follows.{OpFollows, op_over}
+use Rattle.job_spec.specs.Headline.{Always}
+use Rattle.job_spec.specs.Promise.{Sent}
+use Rattle.job_spec.specs.States.{past, refusal, reports}
+use Rattle.job_spec.specs.Turns.{AllBy, by_actor, of_event, until}
+use Rattle.pending_json.specs.Pending.{Pending}
+use Rattle.pending_json.specs.Trees.{pending_tree, set_tree}
+use Rattle.pending_json.specs.declared.records.PendingSet.{PendingSet}
+use Rattle.s3_types.specs.Store.{Content, Upload as Live}
+use Rattle.s3_types.specs.Tags.{Spelled, joined_tag, plain_tag}
+use Rattle.s3_types.specs.declared.journal.Entry.{Entry}
+use Rattle.s3_types.specs.declared.reply.PageEntry.{PageEntry}
 use Rattle.s3_types.specs.declared.reply.PageEntry.TheVariants.{Object as Listed}
+use Rattle.s3_types.specs.declared.reply.Reply.TheVariants.{Completed, Object, Page, Part, Stored, Upload}
+use Rattle.s3_types.specs.declared.request.Actor.{Actor}
+use Rattle.s3_types.specs.declared.request.Actor.TheVariants.{Driver}
+use Rattle.s3_types.specs.declared.request.Request.TheVariants.{CompleteUpload, CreateUpload, GetObject, ListPage, PutObject, UploadPart}
+use Rattle.serde_json.specs.Written.{compact_text}
+use Rattle.std.specs.Prelude.{List, None, Option, Some, codes, false, slice_get, take, ℕ, [], ◌++◌, ◌-◌, ◌∷◌, ◌≡◌}
+use Rattle.std.specs.FinMap as fin
 
 -- ---- requests
 
@@ -22,7 +42,16 @@ hello = record { bytes = codes "hello"; tag = hello_tag }
 
 -- the pending upload of a task's attempt for a file that has this text
 abbrev pub upload : Text → ℕ → ℕ → List ℕ → ℕ → Pending
-upload text task attempt path id = record { task = task; attempt = attempt; bucket = lake; destination = codes "out/" ++ path; upload = id; length = 5; tags = text.tag ∷ []; sizes = Some (5 ∷ []) }
+upload text task attempt path id = record {
+  task = task;
+  attempt = attempt;
+  bucket = lake;
+  destination = codes "out/" ++ path;
+  upload = id;
+  length = 5;
+  tags = text.tag ∷ [];
+  sizes = Some (5 ∷ []);
+}
 
 -- an attempt's set of such uploads
 abbrev pub set_of : ℕ → ℕ → List Pending → PendingSet
@@ -75,20 +104,23 @@ commits_task k a directory u key s =
 
 -- the completion of an upload by the driver
 abbrev pub completes : ℕ → List ℕ → ℕ → Entry
-completes k key id = said k Driver (CompleteUpload lake key id (record { number = 1; tag = hello_tag } ∷ [])) (Completed (joined_tag (hello_tag ∷ [])))
+completes k key id = said k Driver (CompleteUpload lake key id (record { number = 1; tag = hello_tag } ∷ []))
+    (Completed (joined_tag (hello_tag ∷ [])))
 
 -- ---- runs
 
 -- Event k, where the events had these ends: it has the actor do a whole operation, as it may, with this task missing then.
 -- Its entries are the actor's; the actor's entries up to there are what the operation asks, they lead to this end, and the event has it.
-pub record Goes (w : Script) (xs : List EventEnd) (journal : List Entry) (a : Actor) (op : Op) (k : ℕ) (missing : Option ℕ) (end : OpEnd) : Type 0 where
+pub record Goes (w : Script) (xs : List EventEnd) (journal : List Entry) (a : Actor) (op : Op) (k : ℕ) (missing : Option ℕ) (end : OpEnd) :
+    Type 0 where
   pub event : slice_get w.events (k - 1) ≡ Some (Do a op)
   pub may : refusal (past w (take (k - 1) xs)).state (Do a op) ≡ None
   pub missing_is : (reports w (past w (take (k - 1) xs)).reported).missing ≡ missing
   pub doing : (past w (take k xs)).doing a ≡ Some (begun_with op k (reports w (past w (take (k - 1) xs)).reported))
   pub turns : AllBy a (of_event k journal)
   pub follows : OpFollows (setting w) a (begun_with op k (reports w (past w (take (k - 1) xs)).reported)) (by_actor a (until k journal))
-  pub over : op_over (setting w) a (begun_with op k (reports w (past w (take (k - 1) xs)).reported)) (by_actor a (until k journal)) ≡ Some end
+  pub over : op_over (setting w) a (begun_with op k (reports w (past w (take (k - 1) xs)).reported)) (by_actor a (until k journal)) ≡ Some
+      end
   pub has_ended : slice_get xs (k - 1) ≡ Some (Ended end)
 
 -- What is kept of a run with these times.

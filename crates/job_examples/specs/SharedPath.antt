@@ -1,11 +1,28 @@
 -- The run of two tasks that both write the file `p`: the job's commit finds that they share it, and shows nothing.
-use Rattle.std.specs.Prelude.{List, None, Some, [], codes, false, length, true, ℕ, ◌++◌, ◌∷◌, ◌≡◌}
-use Rattle.job_protocol.specs.Prelude.{Actor, Append, Attempt, Do, Driver, Ended, Entry, EventEnd, Magic, Pending, PendingSet, Script, Seen, moment, seen, upload_at, view}
-use Rattle.job_spec.specs.Prelude.{by_actor, commit_due, commit_event, first_worn, since, verdict}
-use Rattle.job_model.specs.declared.events.Op.TheVariants.{Commit, Setup, Write}
 use Rattle.job_examples.specs.Jobs.{attempt, commits_at, directory, done_task, job, lake, worker}
 use Rattle.job_examples.specs.OneFile.{opening, setup_entries}
 use Rattle.job_examples.specs.Runs.{Goes, Keeps, commits_task, held, hello, reads_set, set_of, upload, writes}
+use Rattle.job_model.specs.JobScript.{Script}
+use Rattle.job_model.specs.declared.ends.EventEnd.{EventEnd}
+use Rattle.job_model.specs.declared.ends.EventEnd.TheVariants.{Ended}
+use Rattle.job_model.specs.declared.events.Event.TheVariants.{Do}
+use Rattle.job_model.specs.declared.events.Op.TheVariants.{Commit, Setup, Write}
+use Rattle.job_protocol.specs.Scope.{upload_at}
+use Rattle.job_protocol.specs.Seen.{Seen, seen}
+use Rattle.job_protocol.specs.View.{view}
+use Rattle.job_spec.specs.Ends.{commit_due}
+use Rattle.job_spec.specs.States.{commit_event, verdict}
+use Rattle.job_spec.specs.Turns.{by_actor, since}
+use Rattle.pending_json.specs.Pending.{Pending}
+use Rattle.pending_json.specs.declared.records.PendingSet.{PendingSet}
+use Rattle.retries.specs.Worn.{first_worn}
+use Rattle.s3_types.specs.Moment.{moment}
+use Rattle.s3_types.specs.declared.journal.Entry.{Entry}
+use Rattle.s3_types.specs.declared.request.Actor.{Actor}
+use Rattle.s3_types.specs.declared.request.Actor.TheVariants.{Attempt, Driver}
+use Rattle.s3_types.specs.declared.request.Committer.TheVariants.{Magic}
+use Rattle.s3_types.specs.declared.request.Mode.TheVariants.{Append}
+use Rattle.std.specs.Prelude.{List, None, Some, codes, false, length, true, ℕ, [], ◌++◌, ◌∷◌, ◌≡◌}
 use Rattle.job_model.specs.declared.ends.SetupEnd.TheVariants as setups
 use Rattle.job_model.specs.declared.ends.TaskEnd.TheVariants as tasks
 use Rattle.job_model.specs.declared.ends.CommitEnd.TheVariants as commits
@@ -55,7 +72,8 @@ journal =
 
 -- the ends of the run's events
 abbrev pub the_ends : List EventEnd
-the_ends = Ended (ends.Setup setups.Done) ∷ done_task ∷ done_task ∷ done_task ∷ done_task ∷ Ended (ends.Commit (commits.SamePath (codes "p") 0 1)) ∷ []
+the_ends = Ended (ends.Setup setups.Done) ∷ done_task ∷ done_task ∷ done_task ∷ done_task ∷ Ended
+    (ends.Commit (commits.SamePath (codes "p") 0 1)) ∷ []
 
 -- what is seen after the first m entries
 abbrev pub at : ℕ → Seen

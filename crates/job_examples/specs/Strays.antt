@@ -1,9 +1,14 @@
 -- Entries that are nobody's turn.
-use Rattle.std.specs.Prelude.{ℕ, List, [], ◌∷◌, None, codes}
-use Rattle.job_spec.specs.Prelude.{Actor, Driver, Attempt, PutObject, Stored, Entry, Plays}
-use Rattle.job_examples.specs.Jobs.{lake, said, worker, hello_tag}
+use Rattle.job_examples.specs.Jobs.{hello_tag, lake, said, worker}
 use Rattle.job_examples.specs.OneFile.{setting}
 use Rattle.job_examples.specs.OneFinished.{the_ends}
+use Rattle.job_spec.specs.Follows.{Plays}
+use Rattle.s3_types.specs.declared.journal.Entry.{Entry}
+use Rattle.s3_types.specs.declared.reply.Reply.TheVariants.{Stored}
+use Rattle.s3_types.specs.declared.request.Actor.{Actor}
+use Rattle.s3_types.specs.declared.request.Actor.TheVariants.{Attempt, Driver}
+use Rattle.s3_types.specs.declared.request.Request.TheVariants.{PutObject}
+use Rattle.std.specs.Prelude.{List, None, codes, ℕ, [], ◌∷◌}
 
 -- a put of the task's set, by this actor in this event
 abbrev pub stray : ℕ → Actor → List Entry

@@ -1,15 +1,35 @@
--- The run of a staging attempt whose partition has a file already, in the mode fail: its task's commit finds the conflict, and nothing changes.
-use Rattle.std.specs.Prelude.{◌≡◌, ℕ, false, List, [], ◌∷◌, length, Some, None, codes}
-use Rattle.job_spec.specs.Prelude.{moment, Content, Object, Driver, HeadObject, DeleteObject, ListPage, Deleted, Page, Refused, NoSuchKey, Partitioned, Fail, Entry, first_worn, Script, Abort, Do, EventEnd, Ended, view, commit_due, Same, Seen, seen, commit_event, verdict, by_actor, since}
+-- The run of a staging attempt whose partition has a file already, in the mode fail: its task's commit finds the conflict, and nothing
+-- changes.
+use Rattle.job_examples.specs.Jobs.{attempt, commits_at, job, lake, said, worker}
+use Rattle.job_examples.specs.Runs.{Goes, Keeps}
+use Rattle.job_model.specs.JobScript.{Script}
+use Rattle.job_model.specs.declared.ends.EventEnd.{EventEnd}
+use Rattle.job_model.specs.declared.ends.EventEnd.TheVariants.{Ended}
+use Rattle.job_model.specs.declared.events.Event.TheVariants.{Do}
+use Rattle.job_model.specs.declared.events.Op.TheVariants.{Abort, Commit, Setup, Write}
+use Rattle.job_protocol.specs.Seen.{Seen, seen}
+use Rattle.job_protocol.specs.View.{Same, view}
+use Rattle.job_spec.specs.Ends.{commit_due}
+use Rattle.job_spec.specs.States.{commit_event, verdict}
+use Rattle.job_spec.specs.Turns.{by_actor, since}
+use Rattle.retries.specs.Worn.{first_worn}
+use Rattle.s3_types.specs.Moment.{moment}
+use Rattle.s3_types.specs.Store.{Content}
+use Rattle.s3_types.specs.declared.journal.Entry.{Entry}
+use Rattle.s3_types.specs.declared.object.Object.{Object}
+use Rattle.s3_types.specs.declared.reply.PageEntry.TheVariants.{Object as Listed}
+use Rattle.s3_types.specs.declared.reply.Refusal.TheVariants.{NoSuchKey}
+use Rattle.s3_types.specs.declared.reply.Reply.TheVariants.{Deleted, Page, Refused}
+use Rattle.s3_types.specs.declared.request.Actor.TheVariants.{Driver}
+use Rattle.s3_types.specs.declared.request.Committer.TheVariants.{Partitioned}
+use Rattle.s3_types.specs.declared.request.Mode.TheVariants.{Fail}
+use Rattle.s3_types.specs.declared.request.Request.TheVariants.{DeleteObject, HeadObject, ListPage}
+use Rattle.std.specs.Prelude.{List, None, Some, codes, false, length, ℕ, [], ◌∷◌, ◌≡◌}
 use Rattle.std.specs.FinMap as fin
-use Rattle.job_model.specs.declared.events.Op.TheVariants.{Setup, Write, Commit}
 use Rattle.job_model.specs.declared.ends.SetupEnd.TheVariants as setups
 use Rattle.job_model.specs.declared.ends.TaskEnd.TheVariants as tasks
 use Rattle.job_model.specs.declared.ends.CommitEnd.TheVariants as commits
 use Rattle.job_model.specs.declared.ends.OpEnd.TheVariants as ends
-use Rattle.job_examples.specs.Jobs.{lake, job, attempt, worker, said, commits_at}
-use Rattle.job_examples.specs.Runs.{Goes, Keeps}
-use Rattle.s3_types.specs.declared.reply.PageEntry.TheVariants.{Object as Listed}
 
 -- the job's script
 abbrev pub script : Script
@@ -38,7 +58,8 @@ journal =
 
 -- the ends of the run's events
 abbrev pub the_ends : List EventEnd
-the_ends = Ended (ends.Setup setups.Done) ∷ Ended (ends.Task tasks.Done) ∷ Ended (ends.Task (tasks.Conflict (codes "d=1"))) ∷ Ended (ends.Task tasks.Done) ∷ Ended (ends.Commit (commits.Missing 0)) ∷ []
+the_ends = Ended (ends.Setup setups.Done) ∷ Ended (ends.Task tasks.Done) ∷ Ended (ends.Task (tasks.Conflict (codes "d=1"))) ∷ Ended
+    (ends.Task tasks.Done) ∷ Ended (ends.Commit (commits.Missing 0)) ∷ []
 
 -- what is seen after the first m entries
 abbrev pub at : ℕ → Seen

@@ -1,20 +1,43 @@
--- The run of one task with two attempts that commit one after the other: the job's commit picks and shows the later one, and a clean leaves nothing behind.
-use Rattle.std.specs.Prelude.{◌≡◌, ℕ, true, false, List, [], ◌∷◌, ◌++◌, length, Some, None, codes}
-use Rattle.job_protocol.specs.Prelude.{compact_text, Pending, success_tree, PendingSet, SuccessMark}
-use Rattle.job_spec.specs.Prelude.{moment, Driver, DeleteObjects, CompleteUpload, AbortUpload, ListUploads, Deleted, Completed, Aborted, Magic, Append, Entry, first_worn, Script, Event, Do, Pick, EventEnd, Ended, view, commit_due, all_picks, NothingLeft, seen, commit_event, verdict, by_actor, since, until}
+-- The run of one task with two attempts that commit one after the other: the job's commit picks and shows the later one, and a clean leaves
+-- nothing behind.
+use Rattle.job_examples.specs.Jobs.{attempt, commits_at, directory, done_task, job, lake, other, said, set_key, worker}
+use Rattle.job_examples.specs.OneFile.{opening, setup_entries}
+use Rattle.job_examples.specs.Runs.{Goes, Keeps, Text, commits_task, hello, lists, puts, reads_set, set_of, upload, writes}
+use Rattle.job_model.specs.JobScript.{Script}
+use Rattle.job_model.specs.declared.ends.EventEnd.{EventEnd}
+use Rattle.job_model.specs.declared.ends.EventEnd.TheVariants.{Ended}
+use Rattle.job_model.specs.declared.ends.Pick.{Pick}
+use Rattle.job_model.specs.declared.events.Event.{Event}
+use Rattle.job_model.specs.declared.events.Event.TheVariants.{Do}
+use Rattle.job_model.specs.declared.events.Op.TheVariants.{Clean, Commit, Setup, Write}
+use Rattle.job_protocol.specs.Scope.{NothingLeft}
+use Rattle.job_protocol.specs.Seen.{seen}
+use Rattle.job_protocol.specs.View.{object_at, view}
+use Rattle.job_spec.specs.Ends.{commit_due}
+use Rattle.job_spec.specs.Promise.{all_picks}
+use Rattle.job_spec.specs.States.{commit_event, verdict}
+use Rattle.job_spec.specs.Turns.{by_actor, since, until}
+use Rattle.pending_json.specs.Pending.{Pending}
+use Rattle.pending_json.specs.Trees.{success_tree}
+use Rattle.pending_json.specs.declared.records.PendingSet.{PendingSet}
+use Rattle.pending_json.specs.declared.records.SuccessMark.{SuccessMark}
+use Rattle.retries.specs.Worn.{first_worn}
+use Rattle.s3_types.specs.Moment.{moment}
 use Rattle.s3_types.specs.Tags.{joined_tag}
-use Rattle.s3_types.specs.declared.reply.Reply.TheVariants.{Uploads}
-use Rattle.job_model.specs.declared.events.Op.TheVariants.{Setup, Write, Commit, Clean}
+use Rattle.s3_types.specs.declared.journal.Entry.{Entry}
+use Rattle.s3_types.specs.declared.reply.PageEntry.TheVariants.{Object as Listed}
+use Rattle.s3_types.specs.declared.reply.Reply.TheVariants.{Aborted, Completed, Deleted, Uploads}
+use Rattle.s3_types.specs.declared.request.Actor.TheVariants.{Driver}
+use Rattle.s3_types.specs.declared.request.Committer.TheVariants.{Magic}
+use Rattle.s3_types.specs.declared.request.Mode.TheVariants.{Append}
+use Rattle.s3_types.specs.declared.request.Request.TheVariants.{AbortUpload, CompleteUpload, DeleteObjects, ListUploads}
+use Rattle.serde_json.specs.Written.{compact_text}
+use Rattle.std.specs.Prelude.{List, None, Some, codes, false, length, true, ℕ, [], ◌++◌, ◌∷◌, ◌≡◌}
 use Rattle.job_model.specs.declared.ends.SetupEnd.TheVariants as setups
 use Rattle.job_model.specs.declared.ends.TaskEnd.TheVariants as tasks
 use Rattle.job_model.specs.declared.ends.CommitEnd.TheVariants as commits
 use Rattle.job_model.specs.declared.ends.CleanEnd.TheVariants as cleans
 use Rattle.job_model.specs.declared.ends.OpEnd.TheVariants as ends
-use Rattle.job_protocol.specs.View.{object_at}
-use Rattle.job_examples.specs.Jobs.{lake, job, attempt, worker, other, said, directory, set_key, done_task, commits_at}
-use Rattle.job_examples.specs.OneFile.{opening, setup_entries}
-use Rattle.job_examples.specs.Runs.{Text, hello, upload, set_of, writes, lists, puts, reads_set, commits_task, Goes, Keeps}
-use Rattle.s3_types.specs.declared.reply.PageEntry.TheVariants.{Object as Listed}
 
 -- the text `world`
 abbrev pub world : Text
@@ -22,11 +45,13 @@ world = record { bytes = codes "world"; tag = record { digits = codes "7d793037a
 
 -- both attempts write the file `p`
 abbrev pub with_events : List Event → Script
-with_events events = job Magic Append 1 3 1 (attempt 0 0 ((codes "p", codes "hello") ∷ []) ∷ attempt 0 1 ((codes "p", codes "world") ∷ []) ∷ []) events
+with_events events = job Magic Append 1 3 1 (attempt 0 0 ((codes "p", codes "hello") ∷ []) ∷ attempt 0 1 ((codes "p", codes "world") ∷ []) ∷
+    []) events
 
 -- the job's script
 abbrev pub script : Script
-script = with_events (Do Driver Setup ∷ Do worker Write ∷ Do worker Commit ∷ Do other Write ∷ Do other Commit ∷ Do Driver Commit ∷ Do Driver Clean ∷ [])
+script = with_events (Do Driver Setup ∷ Do worker Write ∷ Do worker Commit ∷ Do other Write ∷ Do other Commit ∷ Do Driver Commit ∷ Do Driver
+    Clean ∷ [])
 
 -- the second attempt's magic directory
 abbrev pub second_directory : List ℕ
@@ -56,7 +81,8 @@ the_mark = record { job = codes "j1"; committer = Magic; files = codes "p" ∷ [
 abbrev pub commit_entries : ℕ → List Entry
 commit_entries k =
     reads_set k set_key second_set
-    ∷ said k Driver (CompleteUpload lake (codes "out/p") 2 (record { number = 1; tag = world.tag } ∷ [])) (Completed (joined_tag (world.tag ∷ [])))
+    ∷ said k Driver (CompleteUpload lake (codes "out/p") 2 (record { number = 1; tag = world.tag } ∷ []))
+    (Completed (joined_tag (world.tag ∷ [])))
     ∷ puts k Driver (codes "out/_SUCCESS") (compact_text (success_tree the_mark))
     ∷ []
 
@@ -72,7 +98,8 @@ clean_entries k =
     ∷ Listed (second_directory ++ codes "p") 0
     ∷ Listed (second_directory ++ codes "p.pending") 168
     ∷ [])
-    ∷ said k Driver (DeleteObjects lake (set_key ∷ (directory ++ codes "p") ∷ (directory ++ codes "p.pending") ∷ (second_directory ++ codes "p") ∷ (second_directory ++ codes "p.pending") ∷ [])) Deleted
+    ∷ said k Driver (DeleteObjects lake (set_key ∷ (directory ++ codes "p") ∷ (directory ++ codes "p.pending") ∷
+    (second_directory ++ codes "p") ∷ (second_directory ++ codes "p.pending") ∷ [])) Deleted
     ∷ []
 
 -- up to the end of the first attempt's commit
@@ -97,13 +124,15 @@ journal = journal_of 4 5 6 7
 
 -- the ends of the run's events
 abbrev pub the_ends : List EventEnd
-the_ends = Ended (ends.Setup setups.Done) ∷ done_task ∷ done_task ∷ done_task ∷ done_task ∷ Ended (ends.Commit commits.Committed) ∷ Ended (ends.Clean cleans.Done) ∷ []
+the_ends = Ended (ends.Setup setups.Done) ∷ done_task ∷ done_task ∷ done_task ∷ done_task ∷ Ended (ends.Commit commits.Committed) ∷ Ended
+    (ends.Clean cleans.Done) ∷ []
 
 -- the picks that are told
 abbrev pub the_picks : List Pick
 the_picks = record { task = 0; attempt = 1 } ∷ []
 
--- Of a journal of both attempts whose commit is event k: the later set replaces the earlier one, the job's commit picks and shows that one, and a clean leaves nothing behind.
+-- Of a journal of both attempts whose commit is event k: the later set replaces the earlier one, the job's commit picks and shows that one,
+-- and a clean leaves nothing behind.
 pub record Replaces (w : Script) (k : ℕ) (xs : List EventEnd) (journal : List Entry) : Type 0 where
   pub sent : length journal ≡ 24
   pub event : commit_event w xs ≡ Some k
@@ -119,11 +148,13 @@ pub record Replaces (w : Script) (k : ℕ) (xs : List EventEnd) (journal : List 
   -- the marker is put by its last entry, and its end is the one that is due
   pub unmarked : (seen w (commits_at k) opening journal 19).put_mark ≡ false
   pub marked : (seen w (commits_at k) opening journal 20).put_mark ≡ true
-  pub due : commit_due w (seen w (commits_at k) opening journal 20).picks None (first_worn 3 (since k (by_actor Driver (until k journal)))) ≡ commits.Committed
+  pub due : commit_due w (seen w (commits_at k) opening journal 20).picks None (first_worn 3 (since k (by_actor Driver (until k journal))))
+      ≡ commits.Committed
   -- no live upload is left, and no key in the job's magic directory; the file and the marker stand
   pub nothing_left : NothingLeft Magic w (moment opening journal 24)
   pub shown : view w.dest (moment opening journal 24).content (codes "p") ≡ Some (codes "world")
-  pub stands : object_at (moment opening journal 24).content lake (codes "out/_SUCCESS") ≡ Some (record { bytes = compact_text (success_tree the_mark); header = None })
+  pub stands : object_at (moment opening journal 24).content lake (codes "out/_SUCCESS") ≡ Some
+      (record { bytes = compact_text (success_tree the_mark); header = None })
   pub verdict : verdict w xs ≡ 0
 
 -- the later attempt is picked and shown, and a clean leaves nothing of the job

@@ -1,26 +1,50 @@
 -- Two jobs at one destination, one file each, in one journal: what each of them sees.
-use Rattle.std.specs.Prelude.{◌≡◌, ℕ, ◌+◌, ◌||◌, not, nat_le, Bool, true, false, List, [], ◌∷◌, ◌++◌, length, Option, Some, None, codes}
-use Rattle.job_protocol.specs.Prelude.{compact_text, set_tree, success_tree, PendingSet}
-use Rattle.job_spec.specs.Prelude.{IsHonest, moment, Object, Driver, PutObject, GetObject, HeadObject, DeleteObject, DeleteObjects, ListPage, AbortUpload, Stored, Deleted, Page, Refused, NoSuchKey, NoSuchUpload, Magic, Append, Entry, first_worn, Script, Event, Do, EventEnd, Ended, ZeroRename, commit_due, in_eyes, OpFollows, Seen, seen, verdict, until, since, by_actor}
+use Rattle.job_examples.specs.FourFileLanes.{Goes, Prepared, Shows, completes, hellos, out, record_bytes}
+use Rattle.job_examples.specs.FourFiles.{of_file}
+use Rattle.job_examples.specs.Jobs.{attempt, before_commit, commits_at, doing, job, lake, said, setting, worker}
+use Rattle.job_examples.specs.OneFile.{opening}
+use Rattle.job_examples.specs.Runs.{hello, writes}
+use Rattle.job_model.specs.JobScript.{Script}
+use Rattle.job_model.specs.declared.ends.EventEnd.{EventEnd}
+use Rattle.job_model.specs.declared.ends.EventEnd.TheVariants.{Ended}
+use Rattle.job_model.specs.declared.events.Event.{Event}
+use Rattle.job_model.specs.declared.events.Event.TheVariants.{Do}
+use Rattle.job_protocol.specs.Seen.{Seen, seen}
+use Rattle.job_protocol.specs.View.{object_at}
+use Rattle.job_spec.specs.Ends.{commit_due}
+use Rattle.job_spec.specs.Entries.{ZeroRename}
+use Rattle.job_spec.specs.Eyes.{in_eyes}
+use Rattle.job_spec.specs.Follows.{OpFollows}
+use Rattle.job_spec.specs.States.{verdict}
+use Rattle.job_spec.specs.Turns.{by_actor, since, until}
+use Rattle.pending_json.specs.Trees.{set_tree, success_tree}
+use Rattle.pending_json.specs.declared.records.PendingSet.{PendingSet}
+use Rattle.retries.specs.Worn.{first_worn}
+use Rattle.s3_types.specs.Moment.{IsHonest, moment}
 use Rattle.s3_types.specs.Tags.{plain_tag}
+use Rattle.s3_types.specs.declared.journal.Entry.{Entry}
+use Rattle.s3_types.specs.declared.object.Object.{Object}
+use Rattle.s3_types.specs.declared.reply.PageEntry.TheVariants.{Object as Listed}
+use Rattle.s3_types.specs.declared.reply.Refusal.TheVariants.{NoSuchKey, NoSuchUpload}
+use Rattle.s3_types.specs.declared.reply.Reply.TheVariants.{Deleted, Object as Read, Page, Refused, Stored}
+use Rattle.s3_types.specs.declared.request.Actor.TheVariants.{Driver}
+use Rattle.s3_types.specs.declared.request.Committer.TheVariants.{Magic}
+use Rattle.s3_types.specs.declared.request.Mode.TheVariants.{Append}
+use Rattle.s3_types.specs.declared.request.Request.TheVariants.{AbortUpload, DeleteObject, DeleteObjects, GetObject, HeadObject, ListPage}
+use Rattle.s3_types.specs.declared.request.Request.TheVariants.{PutObject}
+use Rattle.serde_json.specs.Written.{compact_text}
+use Rattle.std.specs.Prelude.{Bool, List, None, Option, Some, codes, false, length, nat_le, not, true, ℕ, [], ◌++◌, ◌+◌, ◌||◌, ◌∷◌, ◌≡◌}
 use Rattle.job_model.specs.declared.events.Op.TheVariants as ops
 use Rattle.job_model.specs.declared.ends.CommitEnd.TheVariants as commits
 use Rattle.job_model.specs.declared.ends.CleanEnd.TheVariants as cleans
 use Rattle.job_model.specs.declared.ends.OpEnd.TheVariants as ends
-use Rattle.job_protocol.specs.View.{object_at}
-use Rattle.job_examples.specs.Jobs.{lake, job, attempt, worker, said, setting, doing, before_commit, commits_at}
-use Rattle.job_examples.specs.OneFile.{opening}
-use Rattle.job_examples.specs.Runs.{hello, writes}
-use Rattle.job_examples.specs.FourFiles.{of_file}
-use Rattle.job_examples.specs.FourFileLanes.{out, completes, record_bytes, Shows, hellos, Goes, Prepared}
-use Rattle.s3_types.specs.declared.reply.Reply.TheVariants.{Object as Read}
-use Rattle.s3_types.specs.declared.reply.PageEntry.TheVariants.{Object as Listed}
 
 -- ---- the jobs
 
 -- the script of a job with one file
 abbrev pub script : List ℕ → List ℕ → List Event → Script
-script id name later = record (job Magic Append 1 3 1 (attempt 0 0 ((name, codes "hello") ∷ []) ∷ []) (Do Driver ops.Setup ∷ Do worker ops.Write ∷ Do worker ops.Commit ∷ Do Driver ops.Commit ∷ later)) { job = id }
+script id name later = record (job Magic Append 1 3 1 (attempt 0 0 ((name, codes "hello") ∷ []) ∷ [])
+    (Do Driver ops.Setup ∷ Do worker ops.Write ∷ Do worker ops.Commit ∷ Do Driver ops.Commit ∷ later)) { job = id }
 
 -- the first job, with the file `x`
 abbrev pub ja : Script
@@ -69,7 +93,8 @@ prepares id name upload k =
     ∷ said k Driver (DeleteObject lake (codes "out/_SUCCESS")) Deleted
     ∷ said k Driver (ListPage lake (magic id) false [] 1000) (Page [] false)
     ∷ (writes hello (k + 1) worker (below_attempt id []) name (of_file name upload) ++
-    said (k + 2) worker (ListPage lake (below_attempt id []) false [] 1000) (Page (Listed (below_attempt id name) 0 ∷ Listed (pending id name) 168 ∷ []) false)
+    said (k + 2) worker (ListPage lake (below_attempt id []) false [] 1000) (Page
+    (Listed (below_attempt id name) 0 ∷ Listed (pending id name) 168 ∷ []) false)
     ∷ said (k + 2) worker (GetObject lake (pending id name)) (Read (record_bytes name upload) None)
     ∷ said (k + 2) worker (PutObject lake (set_key id) (set_bytes id name upload) None) (Stored (plain_tag (set_bytes id name upload)))
     ∷ [])
@@ -93,7 +118,8 @@ clean_entries =
     ∷ []) false)
     ∷ said 9 Driver (GetObject lake (pending (codes "ja") (codes "x"))) (Read (record_bytes (codes "x") 1) None)
     ∷ said 9 Driver (AbortUpload lake (out (codes "x")) 1) (Refused NoSuchUpload)
-    ∷ said 9 Driver (DeleteObjects lake (set_key (codes "ja") ∷ below_attempt (codes "ja") (codes "x") ∷ pending (codes "ja") (codes "x") ∷ [])) Deleted
+    ∷ said 9 Driver (DeleteObjects lake (set_key (codes "ja") ∷ below_attempt (codes "ja") (codes "x") ∷ pending (codes "ja") (codes "x") ∷
+    [])) Deleted
     ∷ []
 
 -- ---- the run: three events of ja, four of jb, two of ja

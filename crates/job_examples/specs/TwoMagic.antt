@@ -1,16 +1,22 @@
 -- Two jobs of the magic committer at one destination, one file each: three events of the first, four of the second, two of the first.
-use Rattle.std.specs.Prelude.{Bool, List, Some, [], codes, cond, false, length, nat_eq, take, true, ℕ, ◌++◌, ◌∷◌, ◌≡◌}
-use Rattle.job_spec.specs.Prelude.{Script, Times}
-use Rattle.retries.specs.Prelude.{AbortUpload, Entry, Follows, Outcome, Request, Retried, fresh, run, step, wants_of}
+use Rattle.job_examples.specs.FourFileLanes.{out}
 use Rattle.job_examples.specs.Jobs.{commits_at, lake}
 use Rattle.job_examples.specs.OneFile.{opening}
-use Rattle.job_examples.specs.FourFileLanes.{out}
 use Rattle.job_examples.specs.TwoJobs.{clean_entries, ja, jb, journal, marks, mine, quiet_entries}
+use Rattle.job_model.specs.JobScript.{Script}
+use Rattle.job_protocol.specs.Seen.{Times}
+use Rattle.job_protocol.specs.Sparing.{Sparing, SparingOver, sparing_after, sparing_asks, sparing_start}
+use Rattle.retries.specs.Operation.{Follows, run}
+use Rattle.retries.specs.Retries.{Retried, fresh, step, wants_of}
+use Rattle.s3_types.specs.declared.journal.Entry.{Entry}
+use Rattle.s3_types.specs.declared.journal.Outcome.{Outcome}
+use Rattle.s3_types.specs.declared.request.Request.{Request}
+use Rattle.s3_types.specs.declared.request.Request.TheVariants.{AbortUpload}
+use Rattle.std.specs.Prelude.{Bool, List, Some, codes, cond, false, length, nat_eq, take, true, ℕ, [], ◌++◌, ◌∷◌, ◌≡◌}
+use Rattle.twin_facts.specs.Events.{AtMoment}
 use Rattle.twin_facts.specs.Names.{Ids, IsStranger}
 use Rattle.twin_facts.specs.Sides.{First, Second, Side, TwinEntry}
 use Rattle.twin_facts.specs.TwinLaws.{is_marked_by}
-use Rattle.job_protocol.specs.Sparing.{Sparing, SparingOver, sparing_after, sparing_asks, sparing_start}
-use Rattle.twin_facts.specs.Events.{AtMoment}
 use Rattle.job_model.specs.declared.ends.CleanEnd.TheVariants as cleans
 
 -- ---- entries that belong to a side by their events

@@ -1,10 +1,33 @@
 -- An attempt's abort of its task keeps the facts with each of its requests, whatever becomes of it, and goes on as it should.
-use Rattle.job_facts.proofs.Common.{AllOwn, Bool, Committer, Deleting, Drawn, Dropping, FitsAbort, Hold, IsAttempt, IsHonestOutcome, IsIn, IsLegal, Known, List, Listing, Outcome, Reply, Request, Retried, Script, Seen, Some, TaskAbort, TaskAbortOver, TaskEnd, Times, Told, Who, [], all_go, answer, arith, as_made, attempt_prefix, begins, deleting, drop, dropping, false, false_true, filter, in_append, in_filter, inl, inr, known, learn, refl, step, subst, suc, sym, take, task_abort_after, task_abort_asks, task_abort_by, task_abort_hears, task_abort_start, true, walked_by, zero, ℕ, ◌∷◌, ◌≡◌}
-use Rattle.job_model.specs.declared.ends.TaskEnd.TheVariants as tasks
-use Rattle.list_walk.specs.Walks.{swept}
-use Rattle.job_protocol.specs.TaskAborts.{Sweeping, Removing, removing, sweeping}
+use Rattle.basics.proofs.Members.{false_true, in_append, in_filter}
+use Rattle.basics.specs.Members.{IsIn}
 use Rattle.job_facts.proofs.Going.{Each, each_so, step_by}
-use Rattle.job_facts.proofs.Shapes.{more_keys, page_is, page_each}
+use Rattle.job_facts.proofs.Shapes.{more_keys, page_each, page_is}
+use Rattle.job_facts.specs.Facts.{Hold, IsAttempt}
+use Rattle.job_facts.specs.Fits.{AllOwn, FitsAbort}
+use Rattle.job_facts.specs.Told.{Told, known}
+use Rattle.job_model.specs.Attempts.{Who}
+use Rattle.job_model.specs.JobScript.{Script}
+use Rattle.job_model.specs.Known.{Drawn, Known}
+use Rattle.job_model.specs.Legal.{IsLegal}
+use Rattle.job_model.specs.declared.ends.TaskEnd.{TaskEnd}
+use Rattle.job_protocol.specs.Knowledge.{as_made, learn}
+use Rattle.job_protocol.specs.Seen.{Seen, Times}
+use Rattle.job_protocol.specs.TaskAborts.{Dropping, Removing, Sweeping, TaskAbort, TaskAbortOver, dropping, removing, sweeping}
+use Rattle.job_protocol.specs.TaskAborts.{task_abort_after, task_abort_asks, task_abort_by, task_abort_hears, task_abort_start}
+use Rattle.job_protocol.specs.TaskCommits.{attempt_prefix}
+use Rattle.list_walk.specs.Walks.{Deleting, Listing, all_go, deleting, swept, walked_by}
+use Rattle.retries.specs.Retries.{Retried, step}
+use Rattle.s3_types.specs.Answer.{answer}
+use Rattle.s3_types.specs.Moment.{IsHonestOutcome}
+use Rattle.s3_types.specs.Pages.{begins}
+use Rattle.s3_types.specs.declared.journal.Outcome.{Outcome}
+use Rattle.s3_types.specs.declared.reply.Reply.{Reply}
+use Rattle.s3_types.specs.declared.request.Committer.{Committer}
+use Rattle.s3_types.specs.declared.request.Request.{Request}
+use Rattle.std.proofs.Common.{Bool, List, Some, arith, drop, false, inl, inr, refl, subst, suc, sym, take, true, zero, ℕ, [], ◌∷◌, ◌≡◌}
+use Rattle.std.specs.List.{filter}
+use Rattle.job_model.specs.declared.ends.TaskEnd.TheVariants as tasks
 
 pub taken : {X : Type 0} (n : ℕ) (xs : List X) (x : X) → IsIn x (take n xs) → IsIn x xs
 taken zero xs x i = absurd i
@@ -28,7 +51,8 @@ module _ (w : Script) (a : Who) (k : Known) (unsent : k.publish_sent ≡ false) 
   fits_removing : (sent : Bool) → FitsAbort w a k (removing sent)
   fits_removing sent = grind arith
 
-  pub fits_dropping : (c : Committer) (sent : Bool) (ds : List Drawn) → ((e : Drawn) → IsIn e ds → IsIn e k.drawn) → FitsAbort w a k (dropping c sent ds)
+  pub fits_dropping : (c : Committer) (sent : Bool) (ds : List Drawn) → ((e : Drawn) → IsIn e ds → IsIn e k.drawn)
+      → FitsAbort w a k (dropping c sent ds)
   fits_dropping c sent ds h = grind arith
 
   fits_deleting : (keys : List (List ℕ)) → AllOwn w a keys → FitsAbort w a k (sweeping (deleting keys))
@@ -42,21 +66,31 @@ module _ (w : Script) (a : Who) (k : Known) (unsent : k.publish_sent ≡ false) 
 -- an abort as it begins
 pub abort_fits : (w : Script) (a : Who) (k : Known) → FitsAbort w a k (task_abort_start w k)
 abort_fits w a k =
-    (elim k.publish_sent as (λ b. k.publish_sent ≡ b → FitsAbort w a k (task_abort_by b w.committer k)) [ true ↦ λ e. (λ h. e, λ h. refl) | false ↦ λ e. fits_dropping w a k e w.committer k.put_sent (as_made k.drawn) (made_in k.drawn) ]) refl
+    (elim k.publish_sent as (λ b. k.publish_sent ≡ b → FitsAbort w a k (task_abort_by b w.committer k))
+    [ true ↦ λ e. (λ h. e, λ h. refl) | false ↦ λ e. fits_dropping w a k e w.committer k.put_sent (as_made k.drawn) (made_in k.drawn) ])
+    refl
   where
     made_in : (ds : List Drawn) (e : Drawn) → IsIn e (as_made ds) → IsIn e ds
     made_in [] e i = absurd i
-    made_in (d ∷ ds) e i = elim (in_append e (as_made ds) (d ∷ []) i) [ inl h ↦ inr (made_in ds e h) | inr h ↦ elim h [ inl is ↦ inl is | inr none ↦ absurd none ] ]
+    made_in (d ∷ ds) e i = elim (in_append e (as_made ds) (d ∷ []) i) [
+      | inl h ↦ inr (made_in ds e h)
+      | inr h ↦ elim h
+          [ inl is ↦ inl is | inr none ↦ absurd none ]
+    ]
 
-module _ (w : Script) (minimum : ℕ) (k : Times) (s : Seen) (m : Told) (a : Who) (n : ℕ) (j : IsLegal w) (d : IsAttempt w a) (h : Hold w minimum s m) where
+module _ (w : Script) (minimum : ℕ) (k : Times) (s : Seen) (m : Told) (a : Who) (n : ℕ) (j : IsLegal w) (d : IsAttempt w a)
+    (h : Hold w minimum s m) where
   -- it goes on as it should
-  heard : (op : TaskAbort) → FitsAbort w a (known m a) op → Each (λ q. (x : Reply) → x ≡ answer s.scene q → FitsAbort w a (known m a) (task_abort_hears w op x)) (task_abort_asks w a op)
+  heard : (op : TaskAbort) → FitsAbort w a (known m a) op
+      → Each (λ q. (x : Reply) → x ≡ answer s.scene q → FitsAbort w a (known m a) (task_abort_hears w op x)) (task_abort_asks w a op)
   heard (Dropping x xs sent) fits = λ y z. fits_dropping w a (known m a) fits.0 w.committer sent xs (λ v i. fits.1 v (inr i))
   heard (Sweeping (Listing keys)) fits = λ x e.
       let p = attempt_prefix w a in
       subst (λ y. FitsAbort w a (known m a) (sweeping (swept all_go y))) (sym (page_is w s.scene h.there p keys x e))
-      (fits_walked w a (known m a) fits.0 _ (more_keys w s.scene h.there p keys) (page_each w s.scene h.there p keys (λ k. begins p k ≡ true) (λ k b. b) fits.1))
-  heard (Sweeping (Deleting q qs)) fits = λ y z. fits_deleting w a (known m a) fits.0 (drop 1000 (q ∷ qs)) (λ x i. fits.1 x (dropped_in 1000 (q ∷ qs) x i))
+      (fits_walked w a (known m a) fits.0 _ (more_keys w s.scene h.there p keys)
+      (page_each w s.scene h.there p keys (λ k. begins p k ≡ true) (λ k b. b) fits.1))
+  heard (Sweeping (Deleting q qs)) fits = λ y z. fits_deleting w a (known m a) fits.0 (drop 1000 (q ∷ qs))
+      (λ x i. fits.1 x (dropped_in 1000 (q ∷ qs) x i))
   heard Removing fits = λ y z. fits_over w a (known m a) fits tasks.Done (λ v. absurd cc)
   heard (TaskAbortOver end) fits = tt
 
@@ -66,10 +100,14 @@ module _ (w : Script) (minimum : ℕ) (k : Times) (s : Seen) (m : Told) (a : Who
   learns : (op : TaskAbort) (o : Outcome) → Each (λ q. learn w a (known m a) q o ≡ known m a) (task_abort_asks w a op)
   learns op o = grind arith
 
-  pub abort_goes : (retries : ℕ) (t : Retried TaskAbort) → FitsAbort w a (known m a) t.operation → (r : Request) → task_abort_asks w a t.operation ≡ Some r → (o : Outcome) → IsHonestOutcome o (answer s.scene r)
+  pub abort_goes : (retries : ℕ) (t : Retried TaskAbort) → FitsAbort w a (known m a) t.operation → (r : Request)
+      → task_abort_asks w a t.operation ≡ Some r → (o : Outcome) → IsHonestOutcome o (answer s.scene r)
       → FitsAbort w a (learn w a (known m a) r o) (step retries (task_abort_after w) t o).operation
   abort_goes retries t fits r e o honest =
-      subst (λ k. FitsAbort w a k (step retries (task_abort_after w) t o).operation) (sym (each_so (λ q. learn w a (known m a) q o ≡ known m a) r e (learns t.operation o)))
+      subst (λ k. FitsAbort w a k (step retries (task_abort_after w) t o).operation)
+      (sym (each_so (λ q. learn w a (known m a) q o ≡ known m a) r e (learns t.operation o)))
       (step_by (λ v. FitsAbort w a (known m a)) retries (task_abort_after w) t (answer s.scene r) o honest
-      (each_so (λ q. (x : Reply) → x ≡ answer s.scene q → FitsAbort w a (known m a) (task_abort_hears w t.operation x)) r e (heard t.operation fits)) (λ none. fits)
-      (λ none. fits_over w a (known m a) (each_so (λ q. m.publish_sent a ≡ false) r e (unsent t.operation fits)) tasks.StoreFault (λ z. absurd cc)))
+      (each_so (λ q. (x : Reply) → x ≡ answer s.scene q → FitsAbort w a (known m a) (task_abort_hears w t.operation x)) r e
+      (heard t.operation fits)) (λ none. fits)
+      (λ none. fits_over w a (known m a) (each_so (λ q. m.publish_sent a ≡ false) r e (unsent t.operation fits)) tasks.StoreFault
+      (λ z. absurd cc)))

@@ -1,32 +1,70 @@
 -- What a request of an attempt leaves standing of another's, and of its own.
-use Rattle.job_facts.proofs.Common.{AbortUpload, Creating, DeleteObjects, Deleting, Dropping, File, FitsAbort, HasBucket, IsAttempt, IsIn, IsLegal, Known, List, Object, Option, Publishing, PutObject, Request, Scene, Script, Sending, Some, TaskAbort, TaskAbortOver, TaskCommit, TaskCommitOver, Uploading, Who, Write, WriteOver, [], ap, append_assoc, append_cancel_left, apply, arith, at_key, attempt_dir, attempt_prefix, begins, begins_back, begins_behind, below_is, bucket_of, changed_keys, changed_paths, codes, cut_once, decimal, decimal_injective, decimal_without, false, false_true, frame, inl, inr, length, length-append, magic_prefix, record_key, refl, same_or_other, some_is, subst, sym, take, task_abort_asks, task_commit_asks, true, true_or_false, upload_asks, write_asks, ℕ, ◌++◌, ◌∙◌, ◌∷◌, ◌≡◌, ◌≤◌}
+use Rattle.basics.proofs.Cuts.{cut_once}
+use Rattle.basics.proofs.Members.{false_true, same_or_other, some_is, true_or_false}
+use Rattle.basics.specs.Members.{IsIn}
+use Rattle.job_facts.proofs.Aborting.{taken_in}
+use Rattle.job_facts.proofs.Legal.{small_attempt, some_dest}
+use Rattle.job_facts.proofs.Owning.{own_directory}
+use Rattle.job_facts.proofs.Shapes.{puts}
+use Rattle.job_facts.proofs.Whose.{who_of}
+use Rattle.job_facts.specs.Facts.{IsAttempt}
+use Rattle.job_facts.specs.Fits.{FitsAbort}
+use Rattle.job_facts.specs.Stores.{at_key}
+use Rattle.job_model.specs.Attempts.{Who}
+use Rattle.job_model.specs.Files.{File}
+use Rattle.job_model.specs.JobScript.{Script}
+use Rattle.job_model.specs.Known.{Known}
+use Rattle.job_model.specs.Legal.{IsLegal}
+use Rattle.job_protocol.specs.Records.{attempt_dir, record_key}
+use Rattle.job_protocol.specs.TaskAborts.{Dropping, Sweeping, TaskAbort, TaskAbortOver, task_abort_asks}
+use Rattle.job_protocol.specs.TaskCommits.{Publishing, TaskCommit, TaskCommitOver, attempt_prefix, task_commit_asks}
+use Rattle.job_protocol.specs.Uploading.{Creating, Sending, Uploading, upload_asks}
+use Rattle.job_protocol.specs.Writes.{Write, WriteOver, write_asks}
+use Rattle.list_walk.specs.Walks.{Deleting}
+use Rattle.magic_paths.proofs.Elements.{decimal_without}
+use Rattle.magic_paths.proofs.Tails.{begins_back, begins_behind, below_is}
+use Rattle.magic_paths.specs.Layout.{magic_prefix}
+use Rattle.s3_types.specs.Answer.{apply, bucket_of}
+use Rattle.s3_types.specs.Pages.{begins}
+use Rattle.s3_types.specs.Store.{Scene}
+use Rattle.s3_types.specs.declared.object.Object.{Object}
+use Rattle.s3_types.specs.declared.request.Request.{Request}
+use Rattle.s3_types.specs.declared.request.Request.TheVariants.{AbortUpload, DeleteObjects, PutObject}
+use Rattle.std.proofs.Common.{List, Option, Some, ap, append_assoc, arith, codes, false, inl, inr, length, length-append, refl, subst, sym}
+use Rattle.std.proofs.Common.{take, true, ℕ, [], ◌++◌, ◌∙◌, ◌∷◌, ◌≡◌, ◌≤◌}
+use Rattle.std.proofs.lemmas.Fmt.{decimal_injective}
+use Rattle.std.proofs.lemmas.List.{append_cancel_left}
+use Rattle.std.specs.Fmt.{decimal}
+use Rattle.store_frame.proofs.Framed.{frame}
+use Rattle.store_frame.specs.Frame.{changed_keys, changed_paths}
+use Rattle.store_frame.specs.Held.{HasBucket}
 use Rattle.std.specs.FinMap as fin
 use Rattle.job_protocol.specs.Writes as writes
 use Rattle.job_protocol.specs.TaskCommits as commits
-use Rattle.job_protocol.specs.TaskAborts.{Sweeping}
-use Rattle.job_facts.proofs.Whose.{who_of}
-use Rattle.job_facts.proofs.Legal.{some_dest, small_attempt}
-use Rattle.job_facts.proofs.Shapes.{puts}
-use Rattle.job_facts.proofs.Aborting.{taken_in}
-use Rattle.job_facts.proofs.Owning.{own_directory}
 
 -- ---- the directories of attempts
 
 abbrev inside : ℕ → ℕ → List ℕ → List ℕ
 inside t n x = decimal t ++ 95 ∷ (decimal n ++ 47 ∷ (codes "__base/" ++ x))
 
-whole : (w : Script) (a : Who) (x : List ℕ) → attempt_dir w a ++ 47 ∷ x ≡ w.dest.key ++ (codes "/__magic/job-" ++ (w.job ++ (codes "/tasks/" ++ inside a.task a.attempt x)))
+whole : (w : Script) (a : Who) (x : List ℕ) → attempt_dir w a ++ 47 ∷ x ≡ w.dest.key ++
+    (codes "/__magic/job-" ++ (w.job ++ (codes "/tasks/" ++ inside a.task a.attempt x)))
 whole w a x = simp append_assoc
 
 -- a key below two attempts' directories is of one attempt
-one_directory : {w : Script} → IsLegal w → (a b : Who) → IsAttempt w a → IsAttempt w b → (x y : List ℕ) → attempt_dir w a ++ 47 ∷ x ≡ attempt_dir w b ++ 47 ∷ y → a ≡ b
+one_directory : {w : Script} → IsLegal w → (a b : Who) → IsAttempt w a → IsAttempt w b → (x y : List ℕ)
+    → attempt_dir w a ++ 47 ∷ x ≡ attempt_dir w b ++ 47 ∷ y → a ≡ b
 one_directory {w = w} j a b d e x y same =
     let p = small_attempt j a d in
     let q = small_attempt j b e in
     let behind = append_cancel_left w.dest.key _ _ (sym (whole w a x) ∙ same ∙ whole w b y) in
-    let tasks = append_cancel_left (codes "/tasks/") (inside a.task a.attempt x) (inside b.task b.attempt y) (append_cancel_left w.job _ _ (append_cancel_left (codes "/__magic/job-") _ _ behind)) in
-    let first = cut_once 95 (decimal a.task) (decimal b.task) (decimal a.attempt ++ 47 ∷ (codes "__base/" ++ x)) (decimal b.attempt ++ 47 ∷ (codes "__base/" ++ y)) (decimal_without 95 a.task refl p.0) (decimal_without 95 b.task refl q.0) tasks in
-    let second = cut_once 47 (decimal a.attempt) (decimal b.attempt) (codes "__base/" ++ x) (codes "__base/" ++ y) (decimal_without 47 a.attempt refl p.1) (decimal_without 47 b.attempt refl q.1) first.back in
+    let tasks = append_cancel_left (codes "/tasks/") (inside a.task a.attempt x) (inside b.task b.attempt y)
+    (append_cancel_left w.job _ _ (append_cancel_left (codes "/__magic/job-") _ _ behind)) in
+    let first = cut_once 95 (decimal a.task) (decimal b.task) (decimal a.attempt ++ 47 ∷ (codes "__base/" ++ x))
+    (decimal b.attempt ++ 47 ∷ (codes "__base/" ++ y)) (decimal_without 95 a.task refl p.0) (decimal_without 95 b.task refl q.0) tasks
+    in
+    let second = cut_once 47 (decimal a.attempt) (decimal b.attempt) (codes "__base/" ++ x) (codes "__base/" ++ y)
+    (decimal_without 47 a.attempt refl p.1) (decimal_without 47 b.attempt refl q.1) first.back in
     who_of a b (decimal_injective a.task b.task p.0 q.0 first.front) (decimal_injective a.attempt b.attempt p.1 q.1 second.front)
 
 record_is : {w : Script} → IsLegal w → (a : Who) (f : File) → record_key w a f ≡ attempt_dir w a ++ 47 ∷ (f.0 ++ codes ".pending")
@@ -36,18 +74,21 @@ record_is {w = w} j a f =
     below_is (attempt_dir w a) (f.0 ++ codes ".pending") long
 
 pub record_own : {w : Script} → IsLegal w → (a : Who) (f : File) → begins (attempt_prefix w a) (record_key w a f) ≡ true
-record_own {w = w} j a f = ap (begins (attempt_prefix w a)) (record_is j a f) ∙ begins_behind (attempt_dir w a) (codes "/") (47 ∷ (f.0 ++ codes ".pending"))
+record_own {w = w} j a f = ap (begins (attempt_prefix w a)) (record_is j a f) ∙ begins_behind (attempt_dir w a) (codes "/")
+    (47 ∷ (f.0 ++ codes ".pending"))
 
 pub record_below : {w : Script} → IsLegal w → (a : Who) (f : File) → begins (magic_prefix w.dest.key w.job) (record_key w a f) ≡ true
 record_below {w = w} j a f = own_directory w a (record_key w a f) (record_own j a f)
 
 -- another attempt's directory has none of its records
-pub another : {w : Script} → IsLegal w → (a b : Who) → IsAttempt w a → IsAttempt w b → (a ≡ b → ⊥) → (f : File) → begins (attempt_prefix w b) (record_key w a f) ≡ false
+pub another : {w : Script} → IsLegal w → (a b : Who) → IsAttempt w a → IsAttempt w b → (a ≡ b → ⊥) → (f : File)
+    → begins (attempt_prefix w b) (record_key w a f) ≡ false
 another {w = w} j a b d e ne f = elim (true_or_false (begins (attempt_prefix w b) (record_key w a f))) [
   | inr out ↦ out
   | inl there ↦
       let r = begins_back (attempt_prefix w b) (record_key w a f) there in
-      absurd (ne (one_directory j a b d e (f.0 ++ codes ".pending") r.0 (sym (record_is j a f) ∙ r.1 ∙ append_assoc (attempt_dir w b) (codes "/") r.0)))
+      absurd (ne (one_directory j a b d e (f.0 ++ codes ".pending") r.0 (sym (record_is j a f) ∙ r.1 ∙ append_assoc (attempt_dir w b)
+      (codes "/") r.0)))
 ]
 
 -- ---- keys and paths that stay
@@ -77,7 +118,10 @@ module _ (w : Script) (s : Scene) (there : HasBucket s.content w.dest.bucket) wh
   key_put : (k key bytes : List ℕ) (header : Option ℕ) → Keeps k (PutObject w.dest.bucket key bytes header)
   key_put k key bytes header h =
       let g = puts w s there.0 there.1 key bytes header in
-      elim (same_or_other k key) [ inl is ↦ (_, ap (at_key w (apply s (PutObject w.dest.bucket key bytes header)).content) is ∙ g.here) | inr ne ↦ (h.0, g.others k ne ∙ h.1) ]
+      elim (same_or_other k key) [
+        | inl is ↦ (_, ap (at_key w (apply s (PutObject w.dest.bucket key bytes header)).content) is ∙ g.here)
+        | inr ne ↦ (h.0, g.others k ne ∙ h.1)
+      ]
 
   upload_keys : (k : Known) (f : File) (u : Uploading) (q : List ℕ) → Keeps q (upload_asks w k f u)
   upload_keys k f Creating q = key_left q (upload_asks w k f Creating) (λ b i. i)
@@ -99,8 +143,11 @@ module _ (w : Script) (s : Scene) (there : HasBucket s.content w.dest.bucket) wh
   commit_keys b k _ r e q = key_still q r (ap changed_keys (sym (some_is e)))
 
   -- an abort deletes keys of its own directory
-  pub abort_keys : (b : Who) (k : Known) (t : TaskAbort) → FitsAbort w b k t → (r : Request) → task_abort_asks w b t ≡ Some r → (q : List ℕ) → begins (attempt_prefix w b) q ≡ false → Keeps q r
-  abort_keys b k (Dropping x xs sent) h r e q out = subst (Keeps q) (some_is e) (key_left q (AbortUpload w.dest.bucket x.key x.upload) (λ b i. i))
-  abort_keys b k (Sweeping (Deleting p ps)) h r e q out = subst (Keeps q) (some_is e) (key_left q (DeleteObjects w.dest.bucket (take 1000 (p ∷ ps))) (λ b i. false_true out (h.1 q (taken_in 1000 (p ∷ ps) q i))))
+  pub abort_keys : (b : Who) (k : Known) (t : TaskAbort) → FitsAbort w b k t → (r : Request) → task_abort_asks w b t ≡ Some r → (q : List ℕ)
+      → begins (attempt_prefix w b) q ≡ false → Keeps q r
+  abort_keys b k (Dropping x xs sent) h r e q out = subst (Keeps q) (some_is e)
+      (key_left q (AbortUpload w.dest.bucket x.key x.upload) (λ b i. i))
+  abort_keys b k (Sweeping (Deleting p ps)) h r e q out = subst (Keeps q) (some_is e)
+      (key_left q (DeleteObjects w.dest.bucket (take 1000 (p ∷ ps))) (λ b i. false_true out (h.1 q (taken_in 1000 (p ∷ ps) q i))))
   abort_keys b k (TaskAbortOver end) h r e q out = absurd cc
   abort_keys b k _ h r e q out = key_still q r (ap changed_keys (sym (some_is e)))

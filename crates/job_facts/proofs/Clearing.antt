@@ -1,32 +1,70 @@
 -- The driver's abort or clean of the job leaves nothing of it, where nobody else sends.
-use Rattle.job_facts.proofs.Common.{AbortUpload, Aborting, Bool, Clean, CleanOver, Clears, ClusterDelete, ClusterList, Committer, Content, Deleting, HasBucket, IsHonestOutcome, IsIn, List, Listing, Magic, Naming, None, NoneLive, NothingLeft, Option, Outcome, Removing, Reply, ReplyLost, Request, Retried, Scene, Script, Some, Sweep, Upload, UploadRef, Walking, [], aborting, all_go, answer, ap, apply, arith, at_id, begins, clean_after, clean_asks, clean_hears, cluster_prefix, dest_prefix, effect, end_left, false, filter, filter_in, in_back, in_front, inl, inr, is_magic, is_staging, last_ref, length, magic_prefix, map_in, naming, nat_lt, none_some, only_reads, reads_nothing, ref_at, refl, refs_append, removing, same_or_not, step, subst, sweep_asks, sweep_hears, sweeping, sym, take, text_cmp, text_exact, text_gone, text_true, true, true_or_false, uploads_after, walked_by, walked_uploads, walking, ℕ, ◌++◌, ◌∙◌, ◌∷◌, ◌≡◌}
+use Rattle.basics.proofs.Members.{filter_in, in_back, in_front, map_in, none_some, same_or_not, text_exact, text_gone, text_true}
+use Rattle.basics.proofs.Members.{true_or_false}
+use Rattle.basics.specs.Members.{IsIn}
+use Rattle.basics.specs.Order.{text_cmp}
+use Rattle.job_facts.proofs.Emptying.{Emptied, still_there, sweep_begins, sweep_empties, sweep_still}
+use Rattle.job_facts.proofs.Going.{Each, each_so, effect_so, step_by}
+use Rattle.job_facts.proofs.Live.{find_in, page_all, page_covers, refs_is, refs_rest}
+use Rattle.job_facts.proofs.Shapes.{abort_turns, id_before}
+use Rattle.job_facts.proofs.Staged.{removed_stood}
+use Rattle.job_facts.proofs.Undone.{deletes_drop}
+use Rattle.job_facts.specs.Clearing.{Clears, FilesIn, LiveIn, LiveOrBehind, ref_at}
+use Rattle.job_facts.specs.Stores.{at_id, end_left}
+use Rattle.job_model.specs.JobScript.{Script}
+use Rattle.job_protocol.specs.Cleanups.{Aborting, Clean, CleanOver, Naming, Removing, Sweeping, Walking, aborting, clean_after, clean_asks}
+use Rattle.job_protocol.specs.Cleanups.{clean_hears, naming, removing, sweeping, walking}
+use Rattle.job_protocol.specs.Scope.{NoneLive, NothingLeft}
+use Rattle.job_protocol.specs.Seen.{is_magic, is_staging}
+use Rattle.job_protocol.specs.Setup.{dest_prefix}
+use Rattle.list_walk.proofs.Uploads.{refs_append}
+use Rattle.list_walk.specs.Walks.{Deleting, Listing, Sweep, all_go, last_ref, sweep_asks, sweep_hears, uploads_after, walked_by}
+use Rattle.list_walk.specs.Walks.{walked_uploads}
+use Rattle.magic_paths.specs.Layout.{cluster_prefix, magic_prefix}
+use Rattle.retries.specs.Retries.{Retried, step}
+use Rattle.s3_types.specs.Answer.{answer, apply}
+use Rattle.s3_types.specs.Moment.{IsHonestOutcome, effect}
+use Rattle.s3_types.specs.Pages.{begins}
+use Rattle.s3_types.specs.Requests.{only_reads}
+use Rattle.s3_types.specs.Store.{Content, Scene, Upload}
+use Rattle.s3_types.specs.declared.journal.Outcome.{Outcome}
+use Rattle.s3_types.specs.declared.journal.Outcome.TheVariants.{ReplyLost}
+use Rattle.s3_types.specs.declared.reply.Reply.{Reply}
+use Rattle.s3_types.specs.declared.request.Committer.{Committer}
+use Rattle.s3_types.specs.declared.request.Committer.TheVariants.{Magic}
+use Rattle.s3_types.specs.declared.request.Request.{Request}
+use Rattle.s3_types.specs.declared.request.Request.TheVariants.{AbortUpload, ClusterDelete, ClusterList}
+use Rattle.s3_types.specs.declared.request.UploadRef.{UploadRef}
+use Rattle.std.proofs.Common.{Bool, List, None, Option, Some, ap, arith, false, inl, inr, length, nat_lt, refl, subst, sym, take, true, ℕ}
+use Rattle.std.proofs.Common.{[], ◌++◌, ◌∙◌, ◌∷◌, ◌≡◌}
+use Rattle.std.specs.List.{filter}
+use Rattle.store_frame.proofs.Reading.{reads_nothing}
+use Rattle.store_frame.specs.Held.{HasBucket}
 use Rattle.std.specs.FinMap as fin
 use Rattle.s3_types.specs.Multipart as multipart
-use Rattle.job_protocol.specs.Cleanups.{Sweeping}
-use Rattle.job_facts.specs.Clearing.{LiveIn, LiveOrBehind, FilesIn}
-use Rattle.job_facts.proofs.Shapes.{id_before, abort_turns}
-use Rattle.job_facts.proofs.Going.{Each, each_so, step_by, effect_so}
-use Rattle.job_facts.proofs.Undone.{deletes_drop}
-use Rattle.job_facts.proofs.Emptying.{still_there, sweep_begins, sweep_empties, sweep_still, Emptied}
-use Rattle.job_facts.proofs.Live.{find_in, page_covers, page_all, refs_rest, refs_is}
-use Rattle.job_facts.proofs.Staged.{removed_stood}
 
 -- ---- as it ends
 
 nothing_staging : (c : Committer) (w : Script) (s : Scene) → is_staging c ≡ true → NoneLive w s.content → FilesIn w s [] → NothingLeft c w s
 nothing_staging Magic w s m none bare = absurd cc
-nothing_staging _ w s m none bare = (none, λ p bytes e. elim (true_or_false (begins (cluster_prefix w.job) p)) [ inl b ↦ absurd (bare p bytes e b) | inr b ↦ b ])
+nothing_staging _ w s m none bare = (
+  none,
+  λ p bytes e. elim (true_or_false (begins (cluster_prefix w.job) p))
+      [ inl b ↦ absurd (bare p bytes e b) | inr b ↦ b ],
+)
 
 none_in : (w : Script) (c : Content) → LiveIn w c [] → NoneLive w c
 none_in w c h id u e = elim (true_or_false (begins (dest_prefix w) u.key)) [ inl b ↦ absurd (h id u e b) | inr b ↦ b ]
 
 module _ (w : Script) (s : Scene) where
-  clears_aborting : (c : Committer) → c ≡ w.committer → (us : List UploadRef) → HasBucket s.content w.dest.bucket → LiveIn w s.content us → Clears w s (aborting c us)
+  clears_aborting : (c : Committer) → c ≡ w.committer → (us : List UploadRef) → HasBucket s.content w.dest.bucket → LiveIn w s.content us
+      → Clears w s (aborting c us)
   clears_aborting c e (u ∷ us) there h = (there, h)
   clears_aborting Magic e [] there h = (ap is_magic (sym e), none_in w s.content h, there, (λ q i. absurd i), sweep_begins w s.content)
   clears_aborting _ e [] there h = (ap is_staging (sym e), none_in w s.content h)
 
-  clears_sweeping : (t : Option Sweep) → is_magic w.committer ≡ true → NoneLive w s.content → HasBucket s.content w.dest.bucket → Emptied w s.content t → Clears w s (sweeping t)
+  clears_sweeping : (t : Option Sweep) → is_magic w.committer ≡ true → NoneLive w s.content → HasBucket s.content w.dest.bucket
+      → Emptied w s.content t → Clears w s (sweeping t)
   clears_sweeping t h g e f = grind arith
 
   clears_removing : (ps : List (List ℕ)) → is_staging w.committer ≡ true → NoneLive w s.content → FilesIn w s ps → Clears w s (removing ps)
@@ -56,7 +94,8 @@ module _ (w : Script) (s : Scene) where
     cover_all : nat_lt 1000 (length rest) ≡ false → LiveIn w s.content (found ++ take 1000 rest)
     cover_all few id u e b = elim (cover id u e b) [
       | inl i ↦ in_front (ref_at id u) found (take 1000 rest) i
-      | inr l ↦ in_back (ref_at id u) found (take 1000 rest) (page_all (dest_prefix w) (last_ref None found) there.0.uploads id u (here id u e) b l 1000 few)
+      | inr l ↦ in_back (ref_at id u) found (take 1000 rest) (page_all (dest_prefix w) (last_ref None found) there.0.uploads id u
+          (here id u e) b l 1000 few)
     ]
 
     paged : (more : Bool) → nat_lt 1000 (length rest) ≡ more → Clears w s (walking w.committer (walked_by more (found ++ take 1000 rest)))
@@ -71,7 +110,8 @@ module _ (w : Script) (s : Scene) where
     left_of : (o : Option Upload) (x : Upload) → end_left u.key o ≡ Some x → (o ≡ Some x) × (x.key ≡ u.key → ⊥)
     left_of o x h = grind (arith, text_true)
 
-    was_live : (id : ℕ) (x : Upload) → at_id w (apply s abort).content id ≡ Some x → (at_id w s.content id ≡ Some x) × (id ≡ u.upload → x.key ≡ u.key → ⊥)
+    was_live : (id : ℕ) (x : Upload) → at_id w (apply s abort).content id ≡ Some x → (at_id w s.content id ≡ Some x)
+        × (id ≡ u.upload → x.key ≡ u.key → ⊥)
     was_live id x h = grind (arith, abort_turns, same_or_not, left_of)
 
     live_less : LiveIn w (apply s abort).content us
@@ -83,13 +123,16 @@ module _ (w : Script) (s : Scene) where
         ]
 
   -- deletions leave uploads alone
-  sweep_live : (t : Sweep) → HasBucket s.content w.dest.bucket → NoneLive w s.content → NoneLive w (apply s (sweep_asks w.dest.bucket (magic_prefix w.dest.key w.job) t)).content
-  sweep_live (Listing keys) there none = subst (λ (u : Scene). NoneLive w u.content) (sym (reads_nothing s (sweep_asks w.dest.bucket (magic_prefix w.dest.key w.job) (Listing keys)) refl)) none
+  sweep_live : (t : Sweep) → HasBucket s.content w.dest.bucket → NoneLive w s.content
+      → NoneLive w (apply s (sweep_asks w.dest.bucket (magic_prefix w.dest.key w.job) t)).content
+  sweep_live (Listing keys) there none = subst (λ (u : Scene). NoneLive w u.content)
+      (sym (reads_nothing s (sweep_asks w.dest.bucket (magic_prefix w.dest.key w.job) (Listing keys)) refl)) none
   sweep_live (Deleting q qs) there none = λ id u e. none id u (sym ((deletes_drop w s (take 1000 (q ∷ qs)) there).uploads id) ∙ e)
 
   -- a cluster file
   named : (p bytes : List ℕ) → fin.get s.files p ≡ Some bytes → IsIn p (fin.keys s.files)
-  named p bytes e = map_in (λ (q : List ℕ × List ℕ). q.0) (p, bytes) (fin.entries s.files) (find_in text_cmp text_exact (fin.entries s.files) p bytes (sym (fin.get-entries s.files p) ∙ e))
+  named p bytes e = map_in (λ (q : List ℕ × List ℕ). q.0) (p, bytes) (fin.entries s.files)
+      (find_in text_cmp text_exact (fin.entries s.files) p bytes (sym (fin.get-entries s.files p) ∙ e))
 
   -- ---- it goes on
 
@@ -100,7 +143,8 @@ module _ (w : Script) (s : Scene) where
     abbrev at : Clean → Retried Clean
     at op = record { operation = op; spare = spare; repeated = repeated }
 
-    heard : (op : Clean) → Clears w s op → Each (λ q. (x : Reply) → x ≡ answer s q → Clears w (apply s q) (clean_hears w op x)) (clean_asks w op)
+    heard : (op : Clean) → Clears w s op → Each (λ q. (x : Reply) → x ≡ answer s q → Clears w (apply s q) (clean_hears w op x))
+        (clean_asks w op)
     heard (Walking found) h = λ x e.
         read_clears (walking w.committer (walked_uploads found x)) (uploads_after w.dest.bucket (dest_prefix w) found) refl
         (subst (λ y. Clears w s (walking w.committer y)) (sym (refs_is w s h.0 found x e)) (paged h.0 found h.1 _ refl))
@@ -109,25 +153,41 @@ module _ (w : Script) (s : Scene) where
         clears_aborting w (apply s q) w.committer refl us (still_there w s q ReplyLost h.0) (live_less h.0 u us h.1)
     heard (Sweeping t) h = λ x e.
         let q = sweep_asks w.dest.bucket (magic_prefix w.dest.key w.job) t in
-        clears_sweeping w (apply s q) (sweep_hears all_go t x) h.0 (sweep_live t h.2 h.1) (still_there w s q ReplyLost h.2) (sweep_empties w s h.2 t h.3 h.4 x e)
+        clears_sweeping w (apply s q) (sweep_hears all_go t x) h.0 (sweep_live t h.2 h.1) (still_there w s q ReplyLost h.2)
+        (sweep_empties w s h.2 t h.3 h.4 x e)
     heard Naming h = λ x e.
         read_clears (naming x) (ClusterList (cluster_prefix w.job)) refl (subst (λ y. Clears w s (naming y)) (sym e)
-        (clears_removing w s (filter (begins (cluster_prefix w.job)) (fin.keys s.files)) h.0 h.1 (λ p bytes g b. filter_in (begins (cluster_prefix w.job)) p (fin.keys s.files) (named p bytes g) b)))
+        (clears_removing w s (filter (begins (cluster_prefix w.job)) (fin.keys s.files)) h.0 h.1
+        (λ p bytes g b. filter_in (begins (cluster_prefix w.job)) p (fin.keys s.files) (named p bytes g) b)))
     heard (Removing p ps) h = λ x e.
         clears_removing w (apply s (ClusterDelete p)) ps h.0 h.1
-        (λ q bytes y b. elim (h.2 q bytes (removed_stood s.files p q bytes y) b) [ inl is ↦ absurd (none_some (text_gone s.files p q is) y) | inr i ↦ i ])
+        (λ q bytes y b. elim (h.2 q bytes (removed_stood s.files p q bytes y) b)
+        [ inl is ↦ absurd (none_some (text_gone s.files p q is) y) | inr i ↦ i ])
     heard (CleanOver end) h = tt
 
     still : (op : Clean) → Clears w s op → Each (λ q. Clears w (apply s q) op) (clean_asks w op)
     still (Walking found) h = read_clears (Walking found) (uploads_after w.dest.bucket (dest_prefix w) found) refl h
-    still (Aborting u us) h = (still_there w s (AbortUpload w.dest.bucket u.key u.upload) ReplyLost h.0, λ id x e b. h.1 id x (was_live h.0 u us h.1 id x e).0 b)
-    still (Sweeping t) h = (h.0, sweep_live t h.2 h.1, still_there w s (sweep_asks w.dest.bucket (magic_prefix w.dest.key w.job) t) ReplyLost h.2, h.3, sweep_still w s h.2 t h.3 h.4 ReplyLost)
+    still (Aborting u us) h = (
+      still_there w s (AbortUpload w.dest.bucket u.key u.upload) ReplyLost h.0,
+      λ id x e b. h.1 id x
+          (was_live h.0 u us h.1 id x e).0 b,
+    )
+    still (Sweeping t) h = (
+      h.0,
+      sweep_live t h.2 h.1,
+      still_there w s (sweep_asks w.dest.bucket (magic_prefix w.dest.key w.job) t)
+          ReplyLost h.2,
+      h.3,
+      sweep_still w s h.2 t h.3 h.4 ReplyLost,
+    )
     still Naming h = read_clears Naming (ClusterList (cluster_prefix w.job)) refl h
     still (Removing p ps) h = (h.0, h.1, λ q bytes e b. h.2 q bytes (removed_stood s.files p q bytes e) b)
     still (CleanOver end) h = tt
 
-    pub clean_clears : (op : Clean) → Clears w s op → (r : Request) → clean_asks w op ≡ Some r → (o : Outcome) → IsHonestOutcome o (answer s r)
+    pub clean_clears : (op : Clean) → Clears w s op → (r : Request) → clean_asks w op ≡ Some r → (o : Outcome)
+        → IsHonestOutcome o (answer s r)
         → Clears w (effect s r o) (step retries (clean_after w) (at op) o).operation
     clean_clears op h r e o honest =
-        step_by (λ v. Clears w (effect s r v)) retries (clean_after w) (at op) (answer s r) o honest (each_so (λ q. (x : Reply) → x ≡ answer s q → Clears w (apply s q) (clean_hears w op x)) r e (heard op h))
+        step_by (λ v. Clears w (effect s r v)) retries (clean_after w) (at op) (answer s r) o honest
+        (each_so (λ q. (x : Reply) → x ≡ answer s q → Clears w (apply s q) (clean_hears w op x)) r e (heard op h))
         (λ none. effect_so (λ u. Clears w u op) s r o h (each_so (λ q. Clears w (apply s q) op) r e (still op h))) (λ none d. absurd cc)

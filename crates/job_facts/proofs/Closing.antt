@@ -1,9 +1,37 @@
 -- Until it cleans up, the driver ends only uploads of attempts that have sent their publishing requests.
-use Rattle.job_facts.proofs.Common.{Bool, Closed, Commit, CommitOver, Completing, Drawn, EndsSent, Facts, Fetching, Fits, FitsJobCommit, Hold, IsIn, IsLegal, IsSent, List, Marking, Operation, Option, Outcome, Pending, Reads, Replacing, Reply, Request, Reverting, Reverts, Scene, Script, Seen, Sets, Setting, Some, Tabled, Told, Who, [], all_commits, and_parts, ap, arith, asks, at_event, commit_asks, commit_hears, commit_start, commit_tells, dealt, ends, eq_nat, false, false_true, follow, inl, inr, is_begun, is_effective, is_no_magic, known, length, nat_eq, nth, or-true, or_parts, refl, revert, reverting, set_read, set_request, some_is, subst, sweep_asks, sweep_hears, sym, tell_attempt, tell_driver, true, true_or_false, ℕ, ◌&&◌, ◌++◌, ◌||◌, ◌∙◌, ◌∷◌, ◌≡◌}
-use Rattle.job_facts.proofs.Held.{nth_of, of_sets, revert_each, missed, worn, tells_so, Course, swept_so, fetched_so, completing_so}
-use Rattle.job_facts.proofs.Beside.{still_sent, still_known}
-use Rattle.job_facts.proofs.Foreign.{set_reads, reads_name}
+use Rattle.basics.proofs.Members.{eq_nat, false_true, some_is, true_or_false}
+use Rattle.basics.specs.Members.{IsIn}
+use Rattle.job_facts.proofs.Beside.{still_known, still_sent}
+use Rattle.job_facts.proofs.Foreign.{reads_name, set_reads}
+use Rattle.job_facts.proofs.Held.{Course, completing_so, fetched_so, missed, nth_of, of_sets, revert_each, swept_so, tells_so, worn}
 use Rattle.job_facts.proofs.Turning.{sweep_none}
+use Rattle.job_facts.specs.Driver.{FitsJobCommit, Reads}
+use Rattle.job_facts.specs.Facts.{Facts, Hold}
+use Rattle.job_facts.specs.Fits.{Fits}
+use Rattle.job_facts.specs.Standing.{Closed, EndsSent, IsSent, Reverts}
+use Rattle.job_facts.specs.Told.{Told, at_event, ends, known, tell_attempt, tell_driver}
+use Rattle.job_model.specs.Attempts.{Who}
+use Rattle.job_model.specs.JobScript.{Script}
+use Rattle.job_model.specs.Known.{Drawn}
+use Rattle.job_model.specs.Legal.{IsLegal}
+use Rattle.job_protocol.specs.JobCommits.{Commit, CommitOver, Completing, Fetching, Marking, Replacing, Reverting, Sets, all_commits}
+use Rattle.job_protocol.specs.JobCommits.{commit_asks, commit_hears, commit_start, commit_tells, is_no_magic, reverting, set_read}
+use Rattle.job_protocol.specs.JobCommits.{set_request}
+use Rattle.job_protocol.specs.LaneTable.{Tabled}
+use Rattle.job_protocol.specs.Lanes.{dealt, follow, nth, revert}
+use Rattle.job_protocol.specs.Operations.{Operation, Setting, asks}
+use Rattle.job_protocol.specs.Seen.{Seen, is_begun}
+use Rattle.list_walk.specs.Walks.{sweep_asks, sweep_hears}
+use Rattle.pending_json.specs.Pending.{Pending}
+use Rattle.s3_types.specs.Moment.{is_effective}
+use Rattle.s3_types.specs.Store.{Scene}
+use Rattle.s3_types.specs.declared.journal.Outcome.{Outcome}
+use Rattle.s3_types.specs.declared.reply.Reply.{Reply}
+use Rattle.s3_types.specs.declared.request.Request.{Request}
+use Rattle.std.proofs.Common.{Bool, List, Option, Some, ap, arith, false, inl, inr, length, nat_eq, refl, subst, sym, true, ℕ, [], ◌&&◌}
+use Rattle.std.proofs.Common.{◌++◌, ◌||◌, ◌∙◌, ◌∷◌, ◌≡◌}
+use Rattle.std.proofs.Math.Bool.{or-true}
+use Rattle.std.proofs.lemmas.Bool.{and_parts, or_parts}
 
 module _ (w : Script) (sent : Who → Bool) (drawn : Who → List Drawn) where
   abbrev EndsOnly : Request → Type 0
@@ -21,7 +49,14 @@ module _ (w : Script) (sent : Who → Bool) (drawn : Who → List Drawn) where
 
   -- of a commit only a revert matters
   reverts_course : Course w (Reverts sent drawn) (λ sets. Unit {0}) (λ sets ps. Unit {0})
-  reverts_course = record { fetches = λ sets l h. tt; clashes = λ sets end e h. tt; decides = λ sets l e h. tt; replaces = λ sets p ps h. tt; completes = λ sets h. completing_so (Reverts sent drawn) sets (dealt w.lanes (length (all_commits sets))) [] tt (λ x xs. tt) }
+  reverts_course = record {
+    fetches = λ sets l h. tt;
+    clashes = λ sets end e h. tt;
+    decides = λ sets l e h. tt;
+    replaces = λ sets p ps h.
+        tt;
+    completes = λ sets h. completing_so (Reverts sent drawn) sets (dealt w.lanes (length (all_commits sets))) [] tt (λ x xs. tt);
+  }
 
   reverts_reverting : (rs : List Request) → EndsSent sent drawn rs → Reverts sent drawn (reverting rs)
   reverts_reverting rs h = grind arith
@@ -35,37 +70,54 @@ module _ (w : Script) (sent : Who → Bool) (drawn : Who → List Drawn) where
 -- ---- the sets that the driver holds are of attempts that have sent
 
 module _ {w : Script} {minimum : ℕ} {s : Scene} {last : ℕ → Option ℕ} {m : Told} (j : IsLegal w) (f : Facts w minimum s last m) where
-  commits_sent : (sets : Sets) → Reads w minimum m.publish_sent m.drawn sets → (p : Pending) → IsIn p (all_commits sets) → IsSent m.publish_sent m.drawn p.upload
-  commits_sent sets h p i = let x = (of_sets j f sets h p i).1.commit in (x.by, x.written.drawn, x.written.known, sym (ap (λ (v : Pending). v.upload) x.is), x.has_sent)
+  commits_sent : (sets : Sets) → Reads w minimum m.publish_sent m.drawn sets → (p : Pending) → IsIn p (all_commits sets)
+      → IsSent m.publish_sent m.drawn p.upload
+  commits_sent sets h p i = let x = (of_sets j f sets h p i).1.commit in (
+    x.by,
+    x.written.drawn,
+    x.written.known,
+    sym
+        (ap (λ (v : Pending). v.upload) x.is),
+    x.has_sent,
+  )
 
-  reverts_heard : (c : Commit) → FitsJobCommit w minimum m.publish_sent m.drawn c → Reverts m.publish_sent m.drawn c → (x : Reply) → Reverts m.publish_sent m.drawn (commit_hears w c x)
+  reverts_heard : (c : Commit) → FitsJobCommit w minimum m.publish_sent m.drawn c → Reverts m.publish_sent m.drawn c → (x : Reply)
+      → Reverts m.publish_sent m.drawn (commit_hears w c x)
   reverts_heard (Fetching sets n) fits h x = fetched_so (reverts_course w m.publish_sent m.drawn) sets (set_read x) fits.0 tt (λ v y. tt)
-  reverts_heard (Replacing sets p ps s n) fits h x = swept_so (reverts_course w m.publish_sent m.drawn) sets p ps (sweep_hears (is_no_magic w) s x) tt (λ t e. tt)
+  reverts_heard (Replacing sets p ps s n) fits h x = swept_so (reverts_course w m.publish_sent m.drawn) sets p ps
+      (sweep_hears (is_no_magic w) s x) tt (λ t e. tt)
   reverts_heard (Completing sets y ys finished) fits h x =
-      completing_so (Reverts m.publish_sent m.drawn) sets (ys ++ follow w.lanes (length (all_commits sets)) y.number) (y.number ∷ finished) tt (λ z zs. tt)
+      completing_so (Reverts m.publish_sent m.drawn) sets (ys ++ follow w.lanes (length (all_commits sets)) y.number) (y.number ∷ finished)
+      tt (λ z zs. tt)
   reverts_heard (Reverting q qs n) fits h x = reverts_reverting w m.publish_sent m.drawn qs h.1
   reverts_heard _ fits h x = tt
 
-  commit_ends : (c : Commit) → FitsJobCommit w minimum m.publish_sent m.drawn c → Reverts m.publish_sent m.drawn c → Tabled w c → (r : Request) → commit_asks w c ≡ Some r → EndsOnly w m.publish_sent m.drawn r
+  commit_ends : (c : Commit) → FitsJobCommit w minimum m.publish_sent m.drawn c → Reverts m.publish_sent m.drawn c → Tabled w c
+      → (r : Request) → commit_asks w c ≡ Some r → EndsOnly w m.publish_sent m.drawn r
   commit_ends (Fetching sets n) fits h t r e =
       let q = set_request w.committer w (length sets) in
-      subst (EndsOnly w m.publish_sent m.drawn) (some_is e) (ends_none w m.publish_sent m.drawn q (reads_name q (set_reads w.committer w (length sets))).ends_none)
+      subst (EndsOnly w m.publish_sent m.drawn) (some_is e) (ends_none w m.publish_sent m.drawn q
+      (reads_name q (set_reads w.committer w (length sets))).ends_none)
   commit_ends (Replacing sets p ps s n) fits h t r e =
-      subst (EndsOnly w m.publish_sent m.drawn) (some_is e) (ends_none w m.publish_sent m.drawn (sweep_asks w.dest.bucket p s) (sweep_none w p s))
+      subst (EndsOnly w m.publish_sent m.drawn) (some_is e) (ends_none w m.publish_sent m.drawn (sweep_asks w.dest.bucket p s)
+      (sweep_none w p s))
   commit_ends (Completing sets x xs finished) fits h t r e =
       let p = nth (all_commits sets) x.number in
-      subst (EndsOnly w m.publish_sent m.drawn) (some_is e) (ends_one w m.publish_sent m.drawn p (commits_sent sets fits p (nth_of (all_commits sets) x.number (t.within x (inl refl)))))
+      subst (EndsOnly w m.publish_sent m.drawn) (some_is e) (ends_one w m.publish_sent m.drawn p
+      (commits_sent sets fits p (nth_of (all_commits sets) x.number (t.within x (inl refl)))))
   commit_ends (Marking sets n) fits h t r e = ends_none w m.publish_sent m.drawn r (λ id. ap (λ q. ends q id) (sym (some_is e)))
   commit_ends (Reverting q qs n) fits h t r e = subst (EndsOnly w m.publish_sent m.drawn) (some_is e) h.0
   commit_ends (CommitOver end) fits h t r e = absurd cc
 
-  reverts_worn : (c : Commit) → FitsJobCommit w minimum m.publish_sent m.drawn c → Reverts m.publish_sent m.drawn c → Tabled w c → Reverts m.publish_sent m.drawn (worn c)
+  reverts_worn : (c : Commit) → FitsJobCommit w minimum m.publish_sent m.drawn c → Reverts m.publish_sent m.drawn c → Tabled w c
+      → Reverts m.publish_sent m.drawn (worn c)
   reverts_worn (Completing sets x xs finished) fits h t =
       let rs = revert (all_commits sets) x.number xs finished in
       reverts_reverting w m.publish_sent m.drawn rs (ends_each w m.publish_sent m.drawn rs (λ r i.
       let o = revert_each (all_commits sets) x.number xs finished (t.within x (inl refl)) t.done_within r i in
       elim o.2 [
-        | inl is ↦ subst (EndsOnly w m.publish_sent m.drawn) (sym is) (ends_one w m.publish_sent m.drawn o.0 (commits_sent sets fits o.0 o.1))
+        | inl is ↦ subst (EndsOnly w m.publish_sent m.drawn) (sym is) (ends_one w m.publish_sent m.drawn o.0
+            (commits_sent sets fits o.0 o.1))
         | inr is ↦ ends_none w m.publish_sent m.drawn r (λ id. ap (λ q. ends q id) is)
       ]))
   reverts_worn (Reverting q qs n) fits h t = reverts_reverting w m.publish_sent m.drawn qs h.1
@@ -74,14 +126,16 @@ module _ {w : Script} {minimum : ℕ} {s : Scene} {last : ℕ → Option ℕ} {m
 -- ---- entries
 
 -- of the driver
-pub driver_closes : (m : Told) (n : ℕ) (r : Request) (o : Outcome) → Closed m → ((id : ℕ) → ends r id ≡ true → IsSent m.publish_sent m.drawn id) → Closed (at_event n (tell_driver m r o))
+pub driver_closes : (m : Told) (n : ℕ) (r : Request) (o : Outcome) → Closed m
+    → ((id : ℕ) → ends r id ≡ true → IsSent m.publish_sent m.drawn id) → Closed (at_event n (tell_driver m r o))
 driver_closes m n r o h only c id e = elim (true_or_false (m.ended id)) [
   | inl g ↦ h (or_parts m.cleaned _ c).0 id g
   | inr g ↦ only id (and_parts (is_effective o) (ends r id) (sym (ap (λ b. b || (is_effective o && ends r id)) g) ∙ e)).1
 ]
 
 -- of an attempt
-module _ (g : Setting) (m : Told) (a : Who) (op : Operation) (fits : Fits g.script g.minimum a m op) (r : Request) (e : asks g a (known m a) op ≡ Some r) (o : Outcome) where
+module _ (g : Setting) (m : Told) (a : Who) (op : Operation) (fits : Fits g.script g.minimum a m op) (r : Request)
+    (e : asks g a (known m a) op ≡ Some r) (o : Outcome) where
   abbrev now : Told
   now = tell_attempt g.script m a r o
 
@@ -100,16 +154,21 @@ module _ (g : Setting) (m : Told) (a : Who) (op : Operation) (fits : Fits g.scri
   attempt_reverts _ h = tt
 
 -- of the driver's commit
-pub commit_closes : (g : Setting) → IsLegal g.script → (s : Seen) (m : Told) → Hold g.script g.minimum s m → Closed m → (c : Commit) → FitsJobCommit g.script g.minimum m.publish_sent m.drawn c → Tabled g.script c → Reverts m.publish_sent m.drawn c
-    → (r : Request) → commit_asks g.script c ≡ Some r → (n : ℕ) (o : Outcome) → Closed (at_event n (tell_driver m r o)) × Reverts m.publish_sent m.drawn (commit_tells g.script c o)
+pub commit_closes : (g : Setting) → IsLegal g.script → (s : Seen) (m : Told) → Hold g.script g.minimum s m → Closed m → (c : Commit)
+    → FitsJobCommit g.script g.minimum m.publish_sent m.drawn c → Tabled g.script c → Reverts m.publish_sent m.drawn c
+    → (r : Request) → commit_asks g.script c ≡ Some r → (n : ℕ) (o : Outcome) → Closed (at_event n (tell_driver m r o))
+    × Reverts m.publish_sent m.drawn (commit_tells g.script c o)
 commit_closes g j s m h closed c f t v r e n o = (
   driver_closes m n r o closed (commit_ends j h c f v t r e),
-  tells_so g.script (Reverts m.publish_sent m.drawn) c o (λ x y. reverts_heard j h c f v x) (reverts_missed g.script m.publish_sent m.drawn c v) (reverts_worn j h c f v t),
+  tells_so g.script (Reverts m.publish_sent m.drawn) c o (λ x y. reverts_heard j h c f v x)
+      (reverts_missed g.script m.publish_sent m.drawn c v) (reverts_worn j h c f v t),
 )
 
 -- and of its abort or clean, which has begun then
-pub clean_begun : (m : Told) (n : ℕ) → is_begun m.cleans_at n ≡ true → (r : Request) (o : Outcome) → (at_event n (tell_driver m r o)).cleaned ≡ true
+pub clean_begun : (m : Told) (n : ℕ) → is_begun m.cleans_at n ≡ true → (r : Request) (o : Outcome)
+    → (at_event n (tell_driver m r o)).cleaned ≡ true
 clean_begun m n timely r o = ap (λ b. m.cleaned || b) timely ∙ or-true m.cleaned
 
-pub clean_closes : (m : Told) (n : ℕ) → is_begun m.cleans_at n ≡ true → (r : Request) (o : Outcome) → Closed (at_event n (tell_driver m r o))
+pub clean_closes : (m : Told) (n : ℕ) → is_begun m.cleans_at n ≡ true → (r : Request) (o : Outcome)
+    → Closed (at_event n (tell_driver m r o))
 clean_closes m n timely r o c id x = absurd (false_true c (clean_begun m n timely r o))

@@ -1,8 +1,21 @@
 -- The parts of a file of a script.
-use Rattle.job_facts.proofs.Common.{Drawn, File, IsHeld, List, NamedPart, Ok, Option, Parts, Script, Some, Spelled, Upload, [], ap, arith, file_parts, flat_map, has_tag, joined, le-leb, length, list_all, lt-ltb, map, named_from, nat_true, plain_tag, refl, slice_get, slice_get_within, some_is, subst, suc, sym, tag_eq, take, text_true, true, zero, ℕ, ◌&&◌, ◌++◌, ◌+◌, ◌-◌, ◌<◌, ◌∙◌, ◌∷◌, ◌≡◌, ◌≤◌}
-use Rattle.s3_types.specs.Blocks.{block_of}
+use Rattle.basics.proofs.Members.{nat_true, some_is, text_true}
+use Rattle.job_facts.specs.Facts.{IsHeld}
+use Rattle.job_model.specs.Files.{File}
+use Rattle.job_model.specs.JobScript.{Script}
+use Rattle.job_model.specs.Known.{Drawn}
+use Rattle.job_protocol.specs.Uploading.{file_parts}
+use Rattle.s3_types.specs.Blocks.{block_of, named_from}
+use Rattle.s3_types.specs.Multipart.{bytes_of, has_tag, is_large, is_sent, joined, rises_from, tag_eq}
+use Rattle.s3_types.specs.Store.{Parts, Upload}
+use Rattle.s3_types.specs.Tags.{Spelled, plain_tag}
+use Rattle.s3_types.specs.declared.request.NamedPart.{NamedPart}
+use Rattle.std.proofs.Common.{List, Ok, Option, Some, ap, arith, length, map, refl, slice_get, subst, suc, sym, take, true, zero, ℕ, []}
+use Rattle.std.proofs.Common.{◌&&◌, ◌++◌, ◌+◌, ◌-◌, ◌<◌, ◌∙◌, ◌∷◌, ◌≡◌, ◌≤◌}
+use Rattle.std.proofs.lemmas.Bool.{le-leb, lt-ltb}
+use Rattle.std.proofs.lemmas.Option.{slice_get_within}
+use Rattle.std.specs.List.{flat_map, list_all}
 use Rattle.s3_types.proofs.Blocks as blocks
-use Rattle.retries.specs.Prelude.{rises_from, is_sent, is_large, bytes_of}
 use Rattle.std.specs.FinMap as fin
 
 module _ (w : Script) (minimum : ℕ) (f : File) where
@@ -21,8 +34,10 @@ module _ (w : Script) (minimum : ℕ) (f : File) where
   pub parts_joined : flat_map (λ b. b) (file_parts w minimum f) ≡ f.1
   parts_joined = blocks.parts_joined size_of f.1 some_size
 
-  pub parts_large : (i : ℕ) (b : List ℕ) → slice_get (file_parts w minimum f) i ≡ Some b → suc i < length (file_parts w minimum f) → minimum ≤ length b
-  parts_large i b e h = subst (λ n. minimum ≤ n) (sym (blocks.whole_part size_of f.1 b i some_size e h)) (blocks.large_size (length f.1) w.block minimum)
+  pub parts_large : (i : ℕ) (b : List ℕ) → slice_get (file_parts w minimum f) i ≡ Some b → suc i < length (file_parts w minimum f)
+      → minimum ≤ length b
+  parts_large i b e h = subst (λ n. minimum ≤ n) (sym (blocks.whole_part size_of f.1 b i some_size e h))
+      (blocks.large_size (length f.1) w.block minimum)
 
 -- ---- the parts of a file's upload, joined by a completion, are the file's bytes
 
@@ -59,16 +74,19 @@ abbrev AllLarge : ℕ → List (List ℕ) → Type 0
 AllLarge minimum (b ∷ c ∷ bs) = (minimum ≤ length b) × AllLarge minimum (c ∷ bs)
 AllLarge minimum _ = Unit {0}
 
-from_places : (minimum : ℕ) (bs : List (List ℕ)) → ((i : ℕ) (b : List ℕ) → slice_get bs i ≡ Some b → suc i < length bs → minimum ≤ length b) → AllLarge minimum bs
+from_places : (minimum : ℕ) (bs : List (List ℕ)) → ((i : ℕ) (b : List ℕ) → slice_get bs i ≡ Some b → suc i < length bs → minimum ≤ length b)
+    → AllLarge minimum bs
 from_places minimum (b ∷ c ∷ bs) h = (h zero b refl (omega arith), from_places minimum (c ∷ bs) (λ i x e l. h (suc i) x e (omega arith)))
 from_places minimum _ h = tt
 
 but_last : (ns : List NamedPart) (x : NamedPart) → length (x ∷ ns) - 1 ≡ length ns
 but_last ns x = omega arith
 
-all_large : (m : Parts) (minimum n : ℕ) (bs : List (List ℕ)) → Match m n bs → AllLarge minimum bs → list_all (is_large m minimum) (take (length (named n bs) - 1) (named n bs)) ≡ true
+all_large : (m : Parts) (minimum n : ℕ) (bs : List (List ℕ)) → Match m n bs → AllLarge minimum bs
+    → list_all (is_large m minimum) (take (length (named n bs) - 1) (named n bs)) ≡ true
 all_large m minimum n [] h l = refl
-all_large m minimum n (b ∷ []) h l = ap (λ i. list_all (is_large m minimum) (take i (named n (b ∷ [])))) (but_last [] (record { number = n; tag = plain_tag b }))
+all_large m minimum n (b ∷ []) h l = ap (λ i. list_all (is_large m minimum) (take i (named n (b ∷ []))))
+    (but_last [] (record { number = n; tag = plain_tag b }))
 all_large m minimum n (b ∷ c ∷ bs) h l =
     let first : is_large m minimum (record { number = n; tag = plain_tag b }) ≡ true = rw h.0 (le-leb minimum (length b) l.0) in
     let less : length (named n (b ∷ c ∷ bs)) - 1 ≡ suc (length (named (n + 1) (c ∷ bs)) - 1) = omega arith in
@@ -76,17 +94,23 @@ all_large m minimum n (b ∷ c ∷ bs) h l =
     ∙ ap (λ x. x && list_all (is_large m minimum) (take (length (named (n + 1) (c ∷ bs)) - 1) (named (n + 1) (c ∷ bs)))) first
     ∙ all_large m minimum (n + 1) (c ∷ bs) h.1 l.1
 
-from_there : (m : Parts) (n : ℕ) (bs : List (List ℕ)) → ((i : ℕ) (b : List ℕ) → slice_get bs i ≡ Some b → fin.get m (n + i) ≡ Some b) → Match m n bs
+from_there : (m : Parts) (n : ℕ) (bs : List (List ℕ)) → ((i : ℕ) (b : List ℕ) → slice_get bs i ≡ Some b → fin.get m (n + i) ≡ Some b)
+    → Match m n bs
 from_there m n [] h = tt
 from_there m n (b ∷ bs) h =
-    let at : n + zero ≡ n = omega arith in
-    (ap (fin.get m) (sym at) ∙ h zero b refl, from_there m (n + 1) bs (λ i x e. let there : n + 1 + i ≡ n + suc i = omega arith in ap (fin.get m) there ∙ h (suc i) x e))
+    let at : n + zero ≡ n = omega arith in (
+      ap (fin.get m) (sym at) ∙ h zero b refl,
+      from_there m (n + 1) bs (λ i x e. let there : n + 1 + i ≡ n + suc i = omega arith in ap
+          (fin.get m) there ∙ h (suc i) x e),
+    )
 
 -- the tags of all the parts of a file
 -- an upload that is held with the tags of all its parts is joined to its file
-pub held_joined : (w : Script) (minimum : ℕ) (uploads : ℕ → Option Upload) (d : Drawn) (f : File) → (h : IsHeld w minimum uploads d f) → d.tags ≡ map plain_tag (file_parts w minimum f) → length d.tags ≡ length (file_parts w minimum f)
+pub held_joined : (w : Script) (minimum : ℕ) (uploads : ℕ → Option Upload) (d : Drawn) (f : File) → (h : IsHeld w minimum uploads d f)
+    → d.tags ≡ map plain_tag (file_parts w minimum f) → length d.tags ≡ length (file_parts w minimum f)
     → joined (Some (record { key = d.key; parts = h.parts })) (named_from 1 d.tags) minimum ≡ Ok f.1
-held_joined w minimum uploads d f h tags all = ap (λ ts. joined (Some (record { key = d.key; parts = h.parts })) (named_from 1 ts) minimum) tags ∙ by (file_parts w minimum f) refl
+held_joined w minimum uploads d f h tags all = ap (λ ts. joined (Some (record { key = d.key; parts = h.parts })) (named_from 1 ts) minimum)
+    tags ∙ by (file_parts w minimum f) refl
   where
     there : (i : ℕ) (b : List ℕ) → slice_get (file_parts w minimum f) i ≡ Some b → fin.get h.parts (1 + i) ≡ Some b
     there i b e =
@@ -98,10 +122,12 @@ held_joined w minimum uploads d f h tags all = ap (λ ts. joined (Some (record {
         let next : 1 + i ≡ suc i = omega arith in
         ap (fin.get h.parts) next ∙ x.1 ∙ ap (λ y. Some y) is
 
-    by : (bs : List (List ℕ)) → bs ≡ file_parts w minimum f → joined (Some (record { key = d.key; parts = h.parts })) (named 1 bs) minimum ≡ Ok f.1
+    by : (bs : List (List ℕ)) → bs ≡ file_parts w minimum f
+        → joined (Some (record { key = d.key; parts = h.parts })) (named 1 bs) minimum ≡ Ok f.1
     by [] e = let some = parts_some w minimum f in let none : 0 ≡ length (file_parts w minimum f) = ap length e in absurd (omega arith)
     by (b ∷ bs) e =
         let m : Match h.parts 1 (b ∷ bs) = subst (Match h.parts 1) (sym e) (from_there h.parts 1 (file_parts w minimum f) there) in
-        let large : AllLarge minimum (b ∷ bs) = subst (AllLarge minimum) (sym e) (from_places minimum (file_parts w minimum f) (parts_large w minimum f)) in
+        let large : AllLarge minimum (b ∷ bs) = subst (AllLarge minimum) (sym e)
+        (from_places minimum (file_parts w minimum f) (parts_large w minimum f)) in
         rw (all_rise 1 (map plain_tag bs), all_sent h.parts 1 (b ∷ bs) m, all_large h.parts minimum 1 (b ∷ bs) m large)
         (ap (λ x. Ok x) (all_joined h.parts 1 (b ∷ bs) m ∙ ap (flat_map (λ c. c)) e ∙ parts_joined w minimum f))

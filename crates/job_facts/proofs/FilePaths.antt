@@ -1,13 +1,39 @@
 -- The paths of the job's files are such as a reader of the destination is shown.
-use Rattle.job_facts.proofs.Common.{Bool, File, IsGiven, IsIn, IsLegal, LeadsTo, List, MarkerPlace, MarkersLead, Script, Who, [], and_parts, ap, append_assoc, arith, attempt_key, below, below_is, codes, decimal, decimal_nonempty, decimal_without, false, false_true, false≢true, files, id_bytes, inl, inr, is_file_path, is_folder, is_full, is_job_id, is_open, is_other, is_reserved, length, list_all, list_all-append, list_any, lt-ltb, nat_eq, nat_tests, not-true, not_so, one_part, or_parts, parts_append, path_of, refl, sym, tail_is, true, true_or_false, unique_parts, with_id, with_id_last, ℕ, ◌++◌, ◌-◌, ◌<◌, ◌==◌, ◌^◌, ◌∙◌, ◌∷◌, ◌≡◌, ◌≤◌, if◌then◌else◌}
-use Rattle.basics.specs.Parts.{parts_from, parts_of}
-use Rattle.job_facts.proofs.Legal.{from_script, given_of, some_dest, is_attempt, small_attempt}
+use Rattle.basics.proofs.Bools.{not_so}
+use Rattle.basics.proofs.Members.{false_true, true_or_false}
+use Rattle.basics.proofs.Pieces.{one_part, parts_append}
+use Rattle.basics.specs.Members.{IsIn}
+use Rattle.basics.specs.Parts.{is_other, parts_from, parts_of}
 use Rattle.job_facts.proofs.JobCommitting.{file_open}
-use Rattle.magic_paths.specs.Finals.{is_word, has_magic, after_magic, kept}
-use Rattle.magic_paths.proofs.Elements.{id_others}
-use Rattle.magic_paths.proofs.Kept.{some_parts, final_parts}
-use Rattle.magic_paths.proofs.Walked.{Walked, begun, stepped, has_word, front_at, behind_at}
+use Rattle.job_facts.proofs.Legal.{from_script, given_of, is_attempt, small_attempt, some_dest}
 use Rattle.job_facts.proofs.Legible.{full_parts}
+use Rattle.job_facts.specs.Laws.{LeadsTo, MarkersLead}
+use Rattle.job_model.proofs.Unique.{id_bytes, unique_parts}
+use Rattle.job_model.specs.Attempts.{Who}
+use Rattle.job_model.specs.Files.{File}
+use Rattle.job_model.specs.JobScript.{Script}
+use Rattle.job_model.specs.Legal.{IsGiven, IsLegal}
+use Rattle.job_model.specs.Paths.{is_full, is_reserved}
+use Rattle.job_model.specs.Placed.{path_of, with_id, with_id_last}
+use Rattle.job_protocol.specs.Outputs.{files}
+use Rattle.job_protocol.specs.View.{is_file_path, is_folder}
+use Rattle.magic_paths.proofs.Elements.{decimal_without, id_others}
+use Rattle.magic_paths.proofs.Kept.{final_parts, some_parts}
+use Rattle.magic_paths.proofs.Tails.{below_is, tail_is}
+use Rattle.magic_paths.proofs.Walked.{Walked, begun, behind_at, front_at, has_word, stepped}
+use Rattle.magic_paths.specs.Finals.{after_magic, has_magic, is_word, kept}
+use Rattle.magic_paths.specs.Layout.{attempt_key}
+use Rattle.magic_paths.specs.Places.{MarkerPlace, is_open}
+use Rattle.path_keys.specs.Paths.{below}
+use Rattle.s3_types.specs.Names.{is_job_id}
+use Rattle.std.proofs.Common.{Bool, List, ap, append_assoc, arith, codes, false, if◌then◌else◌, inl, inr, length, nat_eq, refl, sym, true}
+use Rattle.std.proofs.Common.{ℕ, [], ◌++◌, ◌-◌, ◌<◌, ◌==◌, ◌^◌, ◌∙◌, ◌∷◌, ◌≡◌, ◌≤◌}
+use Rattle.std.proofs.lemmas.Bool.{and_parts, false≢true, lt-ltb, not-true, or_parts}
+use Rattle.std.proofs.lemmas.Bool.Decides.{nat_tests}
+use Rattle.std.proofs.lemmas.Fmt.{decimal_nonempty}
+use Rattle.std.proofs.lemmas.List.Folds.{list_all-append}
+use Rattle.std.specs.Fmt.{decimal}
+use Rattle.std.specs.List.{list_all, list_any}
 
 -- a text that ends in `/` has an empty part
 no_folder : (part : List ℕ) (x : ℕ) (p : List ℕ) → is_folder (x ∷ p) ≡ true → list_all is_full (parts_from 47 part (x ∷ p)) ≡ true → ⊥
@@ -25,7 +51,8 @@ no_folder part x (y ∷ p) h full = elim (true_or_false (x == 47)) [
 shown_so : (p : List ℕ) → is_open p ≡ true → list_all is_full (parts_of 47 p) ≡ true → is_file_path p ≡ true
 shown_so [] h full = absurd (false≢true h)
 shown_so (x ∷ p) h full =
-    let folder : is_folder (x ∷ p) ≡ false = elim (true_or_false (is_folder (x ∷ p))) [ inl e ↦ absurd (no_folder [] x p e full) | inr e ↦ e ] in
+    let folder : is_folder (x ∷ p) ≡ false = elim (true_or_false (is_folder (x ∷ p)))
+    [ inl e ↦ absurd (no_folder [] x p e full) | inr e ↦ e ] in
     let n : nat_eq x 95 ≡ false = not-true (nat_eq x 95) h in
     let turned : nat_eq 95 x ≡ false = grind (arith, nat_tests) in
     let same : (x == 95) ≡ false = grind (arith, nat_tests) in
@@ -38,7 +65,8 @@ full_more x e = lt-ltb 0 (length (x ∷ e)) (omega arith)
 
 full_id : (id e : List ℕ) → is_full (with_id id e) ≡ true
 full_id id [] = full_more 45 id
-full_id id (x ∷ e) = elim (x == 46) as (λ b. is_full (if b then 45 ∷ (id ++ x ∷ e) else x ∷ with_id id e) ≡ true) [ true ↦ full_more 45 (id ++ x ∷ e) | false ↦ full_more x (with_id id e) ]
+full_id id (x ∷ e) = elim (x == 46) as (λ b. is_full (if b then 45 ∷ (id ++ x ∷ e) else x ∷ with_id id e) ≡ true)
+    [ true ↦ full_more 45 (id ++ x ∷ e) | false ↦ full_more x (with_id id e) ]
 
 full_last : (id : List ℕ) (es : List (List ℕ)) → list_all is_full es ≡ true → list_all is_full (with_id_last id es) ≡ true
 full_last id [] h = refl
@@ -47,7 +75,8 @@ full_last id (e ∷ f ∷ es) h = let b = and_parts (is_full e) (list_all is_ful
 
 module _ {w : Script} (j : IsLegal w) where
   full_path : (u : Bool) (p : List ℕ) → IsGiven p → list_all is_full (parts_of 47 (path_of u w.job p)) ≡ true
-  full_path true p g = ap (list_all is_full) (unique_parts w.job p (id_bytes w.job j.job)) ∙ full_last w.job (parts_of 47 p) (full_parts p g)
+  full_path true p g = ap (list_all is_full) (unique_parts w.job p (id_bytes w.job j.job)) ∙ full_last w.job (parts_of 47 p)
+      (full_parts p g)
   full_path false p g = full_parts p g
 
   pub file_path : (a : Who) (f : File) → IsIn f (files w a) → is_file_path f.0 ≡ true
@@ -128,10 +157,16 @@ module _ (dest id path : List ℕ) (t a : ℕ) (n : Names dest id t a) where
       let in_tasks : List ℕ = number ++ 47 ∷ from_base in
       let in_job : List ℕ = codes "tasks" ++ 47 ∷ in_tasks in
       let job : List ℕ = codes "job-" ++ id in
-      let past_job = stepped (codes "__base") behind behind job in_job (begun (codes "__base") behind) (word_part job in_job (id_others id n.job)) refl refl in
-      let past_tasks = stepped (codes "__base") behind in_job (codes "tasks") in_tasks past_job (word_part (codes "tasks") in_tasks refl) refl refl in
+      let past_job = stepped (codes "__base") behind behind job in_job (begun (codes "__base") behind)
+      (word_part job in_job (id_others id n.job)) refl refl in
+      let past_tasks = stepped (codes "__base") behind in_job (codes "tasks") in_tasks past_job (word_part (codes "tasks") in_tasks refl)
+      refl refl in
       stepped (codes "__base") behind in_tasks number from_base past_tasks (word_part number from_base
-      (list_all-append (is_other 47) (decimal t) (95 ∷ decimal a) ∙ rw (decimal_without 47 t refl n.task, decimal_without 47 a refl n.attempt) refl)) refl
+      (list_all-append (is_other 47) (decimal t) (95 ∷ decimal a) ∙ rw (
+        decimal_without 47 t refl n.task,
+        decimal_without 47 a refl
+            n.attempt,
+      ) refl)) refl
       (no_base (decimal t) (95 ∷ decimal a) (decimal_nonempty t n.task) (decimal_without 95 t refl n.task))
 
   base_there : parts_of 47 from_base ≡ codes "__base" ∷ parts_of 47 path
@@ -147,11 +182,14 @@ module _ (dest id path : List ℕ) (t a : ℕ) (n : Names dest id t a) where
     kept = λ e. some_parts path (kept_is ∙ ap kept behind_is ∙ e);
     elements = ap (parts_of 47) (below_is dest path n.some ∙ sym (append_assoc dest (47 ∷ []) path))
         ∙ final_parts key (dest ++ 47 ∷ []) behind path
-        (front_at (codes "__magic") key from_magic (codes "__magic") (dest ++ 47 ∷ []) (parts_of 47 behind) to_magic magic_there refl key_is) behind_is kept_is;
+        (front_at (codes "__magic") key from_magic (codes "__magic") (dest ++ 47 ∷ []) (parts_of 47 behind) to_magic magic_there refl
+        key_is) behind_is kept_is;
   }
 
 pub markers_lead : MarkersLead
 markers_lead w a f j i =
     let few = small_attempt j a (is_attempt j a f i) in
-    let bare : has_magic (parts_of 47 w.dest.key) ≡ false = none_reserved (parts_of 47 w.dest.key) (not_so _ (and_parts _ _ j.dest.below).1) in
-    leads w.dest.key w.job f.0 a.task a.attempt (record { some = some_dest j; bare = bare; job = j.job; task = few.0; attempt = few.1 }) w.dest.bucket
+    let bare : has_magic (parts_of 47 w.dest.key) ≡ false = none_reserved (parts_of 47 w.dest.key) (not_so _ (and_parts _ _ j.dest.below).1)
+    in
+    leads w.dest.key w.job f.0 a.task a.attempt (record { some = some_dest j; bare = bare; job = j.job; task = few.0; attempt = few.1 })
+    w.dest.bucket

@@ -1,6 +1,34 @@
 -- A foreign request leaves the job alone; so does one that changes nothing, and one that begins an upload.
-use Rattle.job_facts.proofs.Common.{Bool, Committer, Drawn, Facts, HasBucket, Hold, IsForeign, IsIn, IsKnown, IsLegal, IsWithin, Known, Leaves, List, None, Option, Outcome, Request, RequestLost, Scene, Script, Seen, Slow, Some, Times, Told, Upload, Who, [], apply, arith, at_id, begins, bucket_of, changed_keys, changed_paths, changed_upload, cluster_prefix, ends, false, false_true, frame, is_publishing, learn, magic_prefix, only_reads, reads_nothing, see, sends_data, set_request, strange_entry, subst, sym, tell, true, undoes, ℕ, ◌<◌, ◌≡◌}
+use Rattle.basics.proofs.Members.{false_true}
+use Rattle.basics.specs.Members.{IsIn}
 use Rattle.job_facts.proofs.Keep.{leaves_keep}
+use Rattle.job_facts.specs.Facts.{Facts, Hold}
+use Rattle.job_facts.specs.Foreign.{IsForeign}
+use Rattle.job_facts.specs.Stores.{IsKnown, Leaves, at_id}
+use Rattle.job_facts.specs.Told.{Told, ends, strange_entry, tell, undoes}
+use Rattle.job_facts.specs.Within.{IsWithin}
+use Rattle.job_model.specs.Attempts.{Who}
+use Rattle.job_model.specs.JobScript.{Script}
+use Rattle.job_model.specs.Known.{Drawn, Known}
+use Rattle.job_model.specs.Legal.{IsLegal}
+use Rattle.job_protocol.specs.JobCommits.{set_request}
+use Rattle.job_protocol.specs.Knowledge.{learn}
+use Rattle.job_protocol.specs.Scope.{sends_data}
+use Rattle.job_protocol.specs.Seen.{Seen, Times, is_publishing, see}
+use Rattle.magic_paths.specs.Layout.{cluster_prefix, magic_prefix}
+use Rattle.s3_types.specs.Answer.{apply, bucket_of}
+use Rattle.s3_types.specs.Pages.{begins}
+use Rattle.s3_types.specs.Requests.{only_reads}
+use Rattle.s3_types.specs.Store.{Scene, Upload}
+use Rattle.s3_types.specs.declared.journal.Outcome.{Outcome}
+use Rattle.s3_types.specs.declared.journal.Outcome.TheVariants.{RequestLost, Slow}
+use Rattle.s3_types.specs.declared.request.Committer.{Committer}
+use Rattle.s3_types.specs.declared.request.Request.{Request}
+use Rattle.std.proofs.Common.{Bool, List, None, Option, Some, arith, false, subst, sym, true, ℕ, [], ◌<◌, ◌≡◌}
+use Rattle.store_frame.proofs.Framed.{frame}
+use Rattle.store_frame.proofs.Reading.{reads_nothing}
+use Rattle.store_frame.specs.Frame.{changed_keys, changed_paths, changed_upload}
+use Rattle.store_frame.specs.Held.{HasBucket}
 
 -- what is known of the scene before
 pub record Stood (w : Script) (drawn : Who → List Drawn) (s : Scene) : Type 0 where
@@ -9,7 +37,12 @@ pub record Stood (w : Script) (drawn : Who → List Drawn) (s : Scene) : Type 0 
   pub below : (id : ℕ) → IsKnown drawn id → id < s.content.next
 
 pub stood : {w : Script} {minimum : ℕ} {s : Scene} {last : ℕ → Option ℕ} {m : Told} → Facts w minimum s last m → Stood w m.drawn s
-stood {s = s} f = record { there = f.there; fresh = f.ids.fresh; below = λ id k. subst (λ n. n < s.content.next) k.3 (f.ids.below k.0 k.1 k.2) }
+stood {s = s} f = record {
+  there = f.there;
+  fresh = f.ids.fresh;
+  below = λ id k. subst (λ n. n < s.content.next) k.3
+      (f.ids.below k.0 k.1 k.2);
+}
 
 -- a request that changes neither keys nor paths of the job's own, nor uploads that are open, leaves them
 pub frame_leaves : (w : Script) (drawn : Who → List Drawn) (ended : ℕ → Bool) (s : Scene) → Stood w drawn s → (r : Request)
@@ -28,10 +61,13 @@ frame_leaves w drawn ended s h r keys uploads paths =
       files = λ p b. g.files p (λ i. false_true (paths p i) b);
     }
 
-pub foreign_effect : {w : Script} {minimum : ℕ} {last : ℕ → Option ℕ} {m : Told} → IsLegal w → (s : Scene) (r : Request) → IsForeign w m.drawn r → Facts w minimum s last m → Facts w minimum (apply s r) last m
-foreign_effect {w = w} {m = m} j s r g f = leaves_keep j (frame_leaves w m.drawn m.ended s (stood f) r g.keys (λ id k free b c. g.uploads b id c k) g.paths) f
+pub foreign_effect : {w : Script} {minimum : ℕ} {last : ℕ → Option ℕ} {m : Told} → IsLegal w → (s : Scene) (r : Request)
+    → IsForeign w m.drawn r → Facts w minimum s last m → Facts w minimum (apply s r) last m
+foreign_effect {w = w} {m = m} j s r g f = leaves_keep j (frame_leaves w m.drawn m.ended s (stood f) r g.keys
+    (λ id k free b c. g.uploads b id c k) g.paths) f
 
-pub foreign_keeps : (w : Script) (minimum : ℕ) (k : Times) (s : Seen) (m : Told) (n : ℕ) (r : Request) (o : Outcome) → IsLegal w → IsForeign w m.drawn r
+pub foreign_keeps : (w : Script) (minimum : ℕ) (k : Times) (s : Seen) (m : Told) (n : ℕ) (r : Request) (o : Outcome) → IsLegal w
+    → IsForeign w m.drawn r
     → Hold w minimum s m → Hold w minimum (see w k s (strange_entry n r o)) (tell w m (strange_entry n r o))
 foreign_keeps w minimum k s m n r Slow j g f = f
 foreign_keeps w minimum k s m n r RequestLost j g f = f
@@ -59,5 +95,6 @@ pub set_reads : (c : Committer) (w : Script) (t : ℕ) → only_reads (set_reque
 set_reads c w t = grind arith
 
 -- and it keeps the facts
-pub reads_effect : {w : Script} {minimum : ℕ} {last : ℕ → Option ℕ} {m : Told} (s : Scene) (r : Request) → only_reads r ≡ true → Facts w minimum s last m → Facts w minimum (apply s r) last m
+pub reads_effect : {w : Script} {minimum : ℕ} {last : ℕ → Option ℕ} {m : Told} (s : Scene) (r : Request) → only_reads r ≡ true
+    → Facts w minimum s last m → Facts w minimum (apply s r) last m
 reads_effect {w = w} {minimum = minimum} {last = last} {m = m} s r h f = subst (λ u. Facts w minimum u last m) (sym (reads_nothing s r h)) f

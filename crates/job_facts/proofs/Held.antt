@@ -1,10 +1,44 @@
--- The uploads of the sets that the driver holds: whose they are, and that no two have one upload or, where no two attempts write one path, one destination.
-use Rattle.job_facts.proofs.Common.{Answered, ApartFiles, Bool, Commit, CommitEnd, CommitOver, Completing, Drawn, Facts, Fetching, File, In, IsCommit, IsHeldSet, IsIn, IsLegal, List, Listing, Marking, None, Option, Outcome, Pending, PendingSet, Picks, Reads, Replacing, Reply, Request, Reverting, Scene, Script, Sets, Some, Sweep, Told, Turn, Who, [], abort, again, all_commits, ap, arith, cases_lt, chosen, commit_hears, commit_misses, commit_tells, completing, cond, dealt, decided, deletion, drawn_for, drawn_in, false, fetched, fetching, file_key, file_record, files, files_picked, in_append, in_back, in_front, in_map, in_turn, inl, inr, is_tried, is_unsent, knowing, length, lt-ltb, ltb-false, map, map_in, nat_eq, nat_lt, nat_true, none_some, nth, option_map, or-true, picks_of, refl, replaced, replacing, revert, reverting, same_path, shared_none, slice_get, some_is, subst, suc, swept, sym, true, undo, worn_completion, writes, zero, ℕ, ◌&&◌, ◌++◌, ◌+◌, ◌<◌, ◌||◌, ◌∙◌, ◌∷◌, ◌≡◌, ◌≤◌, ◌⊎◌}
-use Rattle.job_facts.proofs.Whose.{attempt}
-use Rattle.job_facts.proofs.Legal.{is_attempt, has}
-use Rattle.job_facts.proofs.Placed.{one_key}
+-- The uploads of the sets that the driver holds: whose they are, and that no two have one upload or, where no two attempts write one path,
+-- one destination.
+use Rattle.basics.proofs.Members.{in_append, in_back, in_front, in_map, map_in, nat_true, none_some, some_is}
+use Rattle.basics.proofs.Naturals.{below_is}
+use Rattle.basics.specs.Members.{IsIn}
+use Rattle.job_facts.proofs.Legal.{has, is_attempt}
 use Rattle.job_facts.proofs.Legible.{drawn_is}
-use Rattle.path_keys.proofs.Common.{below_is}
+use Rattle.job_facts.proofs.Placed.{one_key}
+use Rattle.job_facts.proofs.Whose.{attempt}
+use Rattle.job_facts.specs.Driver.{IsHeldSet, Reads}
+use Rattle.job_facts.specs.Facts.{ApartFiles, Facts, knowing}
+use Rattle.job_facts.specs.Filed.{IsCommit}
+use Rattle.job_facts.specs.Told.{Told}
+use Rattle.job_model.specs.Attempts.{Who}
+use Rattle.job_model.specs.Files.{File}
+use Rattle.job_model.specs.JobScript.{Script}
+use Rattle.job_model.specs.Known.{Drawn}
+use Rattle.job_model.specs.Legal.{IsLegal}
+use Rattle.job_model.specs.declared.ends.CommitEnd.{CommitEnd}
+use Rattle.job_protocol.proofs.Shared.{shared_none}
+use Rattle.job_protocol.specs.JobCommits.{Commit, CommitOver, Completing, Fetching, Marking, Replacing, Reverting, Sets, all_commits}
+use Rattle.job_protocol.specs.JobCommits.{commit_hears, commit_misses, commit_tells, completing, decided, fetched, fetching, picks_of}
+use Rattle.job_protocol.specs.JobCommits.{replaced, replacing, reverting, swept, worn_completion}
+use Rattle.job_protocol.specs.Knowledge.{drawn_for, drawn_in}
+use Rattle.job_protocol.specs.LaneTable.{In}
+use Rattle.job_protocol.specs.Lanes.{Turn, abort, again, chosen, dealt, deletion, in_turn, is_tried, is_unsent, nth, revert, undo}
+use Rattle.job_protocol.specs.Outputs.{Picks, files, files_picked, same_path, writes}
+use Rattle.job_protocol.specs.Records.{file_key, file_record}
+use Rattle.list_walk.specs.Walks.{Listing, Sweep}
+use Rattle.pending_json.specs.Pending.{Pending}
+use Rattle.pending_json.specs.declared.records.PendingSet.{PendingSet}
+use Rattle.s3_types.specs.Store.{Scene}
+use Rattle.s3_types.specs.declared.journal.Outcome.{Outcome}
+use Rattle.s3_types.specs.declared.journal.Outcome.TheVariants.{Answered}
+use Rattle.s3_types.specs.declared.reply.Reply.{Reply}
+use Rattle.s3_types.specs.declared.request.Request.{Request}
+use Rattle.std.proofs.Common.{Bool, List, None, Option, Some, ap, arith, cond, false, inl, inr, length, map, nat_eq, nat_lt, refl}
+use Rattle.std.proofs.Common.{slice_get, subst, suc, sym, true, zero, ℕ, [], ◌&&◌, ◌++◌, ◌+◌, ◌<◌, ◌||◌, ◌∙◌, ◌∷◌, ◌≡◌, ◌≤◌, ◌⊎◌}
+use Rattle.std.proofs.Math.Bool.{or-true}
+use Rattle.std.proofs.lemmas.Bool.{cases_lt, lt-ltb, ltb-false}
+use Rattle.std.specs.Option.{option_map}
 use Rattle.job_model.specs.declared.ends.CommitEnd.TheVariants as ends
 use Rattle.job_model.specs.declared.ends.Stage.TheVariants as stages
 
@@ -21,7 +55,8 @@ number_of (q ∷ ps) p (inl e) = (0, omega arith, sym e)
 number_of (q ∷ ps) p (inr i) = let old = number_of ps p i in let low : old.0 < length ps = old.1 in (suc old.0, omega arith, old.2)
 
 -- where no two picks write one path it has one writer
-pub one_writer : (w : Script) (picks : Picks) → same_path w picks ≡ None → (p : List ℕ) (t u : ℕ) → t < w.tasks → u < w.tasks → writes w picks p t ≡ true → writes w picks p u ≡ true → t ≡ u
+pub one_writer : (w : Script) (picks : Picks) → same_path w picks ≡ None → (p : List ℕ) (t u : ℕ) → t < w.tasks → u < w.tasks
+    → writes w picks p t ≡ true → writes w picks p u ≡ true → t ≡ u
 one_writer w picks h p t u g e f q = grind (arith, cases_lt, shared_none)
 
 module _ {X : Type 0} (of : Pending → X) where
@@ -32,7 +67,10 @@ module _ {X : Type 0} (of : Pending → X) where
 
   uniq_append : (ps qs : List Pending) → Uniq ps → Uniq qs → ((p q : Pending) → IsIn p ps → IsIn q qs → of p ≡ of q → ⊥) → Uniq (ps ++ qs)
   uniq_append [] qs h k cross = k
-  uniq_append (p ∷ ps) qs h k cross = (λ q i e. elim (in_append q ps qs i) [ inl l ↦ h.0 q l e | inr r ↦ cross p q (inl refl) r e ], uniq_append ps qs h.1 k (λ x y i l. cross x y (inr i) l))
+  uniq_append (p ∷ ps) qs h k cross = (
+    λ q i e. elim (in_append q ps qs i) [ inl l ↦ h.0 q l e | inr r ↦ cross p q (inl refl) r e ],
+    uniq_append ps qs h.1 k (λ x y i l. cross x y (inr i) l),
+  )
 
   pub uniq_nth : (ps : List Pending) → Uniq ps → (i n : ℕ) → i < length ps → n < length ps → of (nth ps i) ≡ of (nth ps n) → i ≡ n
   uniq_nth [] h i n x y e = absurd (omega arith)
@@ -43,7 +81,8 @@ module _ {X : Type 0} (of : Pending → X) where
 
 -- ---- uploads of sets
 
-module _ {w : Script} {minimum : ℕ} {s : Scene} {last : ℕ → Option ℕ} {m : Told} (j : IsLegal w) (f : Facts w minimum s last m) (picks : Picks) where
+module _ {w : Script} {minimum : ℕ} {s : Scene} {last : ℕ → Option ℕ} {m : Told} (j : IsLegal w) (f : Facts w minimum s last m)
+    (picks : Picks) where
   -- an upload of the set of a task's pick
   pub record IsOf (t : ℕ) (p : Pending) : Type 0 where
     pub commit : IsCommit w minimum m.publish_sent m.drawn p
@@ -56,13 +95,23 @@ module _ {w : Script} {minimum : ℕ} {s : Scene} {last : ℕ → Option ℕ} {m
   abbrev IsPick : ℕ → PendingSet → Type 0
   IsPick t h = IsHeldSet w minimum m.publish_sent m.drawn t h × (picks t ≡ Some h.attempt)
 
-  abbrev held_one : (t : ℕ) (h : PendingSet) → (x : IsPick t h) → (g : File) → IsIn g x.0.commits → (p : Pending) → p ≡ record_of x.0.by g → IsOf t p
+  abbrev held_one : (t : ℕ) (h : PendingSet) → (x : IsPick t h) → (g : File) → IsIn g x.0.commits → (p : Pending) → p ≡ record_of x.0.by g
+      → IsOf t p
   held_one t h x g i p e =
       let d = x.0.are.written g (x.0.are.each g i) in
-      let is : drawn_in (m.drawn x.0.by) (file_key w g) ≡ d.drawn = ap (drawn_in (m.drawn x.0.by)) (sym d.key) ∙ drawn_is f x.0.by d.drawn d.known in
+      let is : drawn_in (m.drawn x.0.by) (file_key w g) ≡ d.drawn = ap (drawn_in (m.drawn x.0.by)) (sym d.key) ∙ drawn_is f x.0.by d.drawn
+      d.known in
       let attempt_is : h.attempt ≡ x.0.by.attempt = ap (λ (v : PendingSet). v.attempt) x.0.is in
       record {
-        commit = record { by = x.0.by; file = g; mine = x.0.are.each g i; written = d; has_sent = x.0.has_sent; is = e ∙ ap (λ v. file_record w x.0.by g v) is };
+        commit = record {
+          by = x.0.by;
+          file = g;
+          mine = x.0.are.each g i;
+          written = d;
+          has_sent = x.0.has_sent;
+          is = e ∙ ap
+              (λ v. file_record w x.0.by g v) is;
+        };
         task = x.0.task;
         picked = x.1 ∙ ap (λ n. Some n) attempt_is;
       }
@@ -92,8 +141,10 @@ module _ {w : Script} {minimum : ℕ} {s : Scene} {last : ℕ → Option ℕ} {m
     | inr more ↦ let o = later (suc t) sets h.1 q more in let l = o.1 in (o.0, omega arith, o.2)
   ]
 
-  module _ {X : Type 0} (of : Pending → X) (tells : (t u : ℕ) (p q : Pending) (x : IsOf t p) (y : IsOf u q) → of p ≡ of q → (t ≡ u) × (x.commit.file.0 ≡ y.commit.file.0)) where
-    uniq_set : (t : ℕ) (h : PendingSet) → (x : IsPick t h) → (gs : List File) → ((g : File) → IsIn g gs → IsIn g x.0.commits) → ApartFiles gs → Uniq of (map (record_of x.0.by) gs)
+  module _ {X : Type 0} (of : Pending → X) (tells : (t u : ℕ) (p q : Pending) (x : IsOf t p) (y : IsOf u q) → of p ≡ of q → (t ≡ u)
+      × (x.commit.file.0 ≡ y.commit.file.0)) where
+    uniq_set : (t : ℕ) (h : PendingSet) → (x : IsPick t h) → (gs : List File) → ((g : File) → IsIn g gs → IsIn g x.0.commits)
+        → ApartFiles gs → Uniq of (map (record_of x.0.by) gs)
     uniq_set t h x [] sub ap_files = tt
     uniq_set t h x (g ∷ gs) sub ap_files = (
       λ q i e.
@@ -107,7 +158,8 @@ module _ {w : Script} {minimum : ℕ} {s : Scene} {last : ℕ → Option ℕ} {m
     pub uniq_from : (t : ℕ) (sets : Sets) → HeldFrom t sets → Uniq of (all_commits sets)
     uniq_from t [] h = tt
     uniq_from t (x ∷ sets) h =
-        let own : Uniq of x.commits = subst (λ (v : PendingSet). Uniq of v.commits) (sym h.0.0.is) (uniq_set t x h.0 h.0.0.commits (λ g i. i) h.0.0.are.once) in
+        let own : Uniq of x.commits = subst (λ (v : PendingSet). Uniq of v.commits) (sym h.0.0.is)
+        (uniq_set t x h.0 h.0.0.commits (λ g i. i) h.0.0.are.once) in
         uniq_append of x.commits (all_commits sets) own (uniq_from (suc t) sets h.1) (λ p q i l e.
         let o = later (suc t) sets h.1 q l in
         let same : t ≡ o.0 = (tells t o.0 p q (held_of_set t x h.0 p i) o.2 e).0 in
@@ -116,11 +168,15 @@ module _ {w : Script} {minimum : ℕ} {s : Scene} {last : ℕ → Option ℕ} {m
 
   -- ---- one upload is of one attempt and one file
 
-  pub one_upload : (t u : ℕ) (p q : Pending) → (x : IsOf t p) → (y : IsOf u q) → p.upload ≡ q.upload → (t ≡ u) × (x.commit.file.0 ≡ y.commit.file.0)
+  pub one_upload : (t u : ℕ) (p q : Pending) → (x : IsOf t p) → (y : IsOf u q) → p.upload ≡ q.upload → (t ≡ u)
+      × (x.commit.file.0 ≡ y.commit.file.0)
   one_upload t u p q x y e =
-      let ids : x.commit.written.drawn.upload ≡ y.commit.written.drawn.upload = sym (ap (λ (v : Pending). v.upload) x.commit.is) ∙ e ∙ ap (λ (v : Pending). v.upload) y.commit.is in
-      let same = f.ids.apart x.commit.by y.commit.by x.commit.written.drawn y.commit.written.drawn x.commit.written.known y.commit.written.known ids in
-      let key : file_key w x.commit.file ≡ file_key w y.commit.file = sym x.commit.written.key ∙ ap (λ (v : Drawn). v.key) same.1 ∙ y.commit.written.key in
+      let ids : x.commit.written.drawn.upload ≡ y.commit.written.drawn.upload = sym (ap (λ (v : Pending). v.upload) x.commit.is) ∙ e ∙ ap
+      (λ (v : Pending). v.upload) y.commit.is in
+      let same = f.ids.apart x.commit.by y.commit.by x.commit.written.drawn y.commit.written.drawn x.commit.written.known
+      y.commit.written.known ids in
+      let key : file_key w x.commit.file ≡ file_key w y.commit.file = sym x.commit.written.key ∙ ap (λ (v : Drawn). v.key) same.1 ∙
+      y.commit.written.key in
       (sym x.task ∙ ap (λ (v : Who). v.task) same.0 ∙ y.task, one_key j x.commit.file y.commit.file key)
 
   -- ---- and one destination, where no two picks write one path
@@ -129,7 +185,8 @@ module _ {w : Script} {minimum : ℕ} {s : Scene} {last : ℕ → Option ℕ} {m
   who_is t p x = ap (λ n. attempt n x.commit.by.attempt) x.task
 
   pub file_of : (t : ℕ) (p : Pending) → (x : IsOf t p) → IsIn x.commit.file (files_picked w t (picks t))
-  file_of t p x = subst (λ o. IsIn x.commit.file (files_picked w t o)) (sym x.picked) (subst (λ a. IsIn x.commit.file (files w a)) (who_is t p x) x.commit.mine)
+  file_of t p x = subst (λ o. IsIn x.commit.file (files_picked w t o)) (sym x.picked)
+      (subst (λ a. IsIn x.commit.file (files w a)) (who_is t p x) x.commit.mine)
 
   writes_it : (t : ℕ) (p : Pending) → (x : IsOf t p) → writes w picks x.commit.file.0 t ≡ true
   writes_it t p x = has (files_picked w t (picks t)) x.commit.file x.commit.file.0 (file_of t p x) refl
@@ -147,31 +204,38 @@ module _ {w : Script} {minimum : ℕ} {s : Scene} {last : ℕ → Option ℕ} {m
         let b : writes w picks x.commit.file.0 u ≡ true = ap (λ v. writes w picks v u) path ∙ writes_it u q y in
         one_writer w picks apart x.commit.file.0 t u (task_low t p x) (task_low u q y) a b
 
-    pub one_dest : (t u : ℕ) (p q : Pending) → (x : IsOf t p) → (y : IsOf u q) → p.destination ≡ q.destination → (t ≡ u) × (x.commit.file.0 ≡ y.commit.file.0)
+    pub one_dest : (t u : ℕ) (p q : Pending) → (x : IsOf t p) → (y : IsOf u q) → p.destination ≡ q.destination → (t ≡ u)
+        × (x.commit.file.0 ≡ y.commit.file.0)
     one_dest t u p q x y e =
         let path : x.commit.file.0 ≡ y.commit.file.0 = one_key j x.commit.file y.commit.file (sym (dest_of t p x) ∙ e ∙ dest_of u q y) in
         (one_path t u p q x y path, path)
 
 -- ---- the sets that it has read
 
-module _ {w : Script} {minimum : ℕ} {s : Scene} {last : ℕ → Option ℕ} {m : Told} (j : IsLegal w) (f : Facts w minimum s last m) (sets : Sets) (reads : Reads w minimum m.publish_sent m.drawn sets) where
+module _ {w : Script} {minimum : ℕ} {s : Scene} {last : ℕ → Option ℕ} {m : Told} (j : IsLegal w) (f : Facts w minimum s last m)
+    (sets : Sets) (reads : Reads w minimum m.publish_sent m.drawn sets) where
   abbrev pub Of : ℕ → Pending → Type 0
   Of t p = IsOf j f (picks_of sets) t p
 
   all_held : HeldFrom j f (picks_of sets) 0 sets
   all_held = held_from j f (picks_of sets) 0 sets (λ i h e.
       let z : i ≡ 0 + i = omega arith in
-      subst (λ n. IsHeldSet w minimum m.publish_sent m.drawn n h × (picks_of sets n ≡ Some h.attempt)) z (reads i h e, ap (option_map (λ (v : PendingSet). v.attempt)) e))
+      subst (λ n. IsHeldSet w minimum m.publish_sent m.drawn n h × (picks_of sets n ≡ Some h.attempt)) z
+      (reads i h e, ap (option_map (λ (v : PendingSet). v.attempt)) e))
 
   -- each of their uploads is of a task's pick
   pub of_sets : (p : Pending) → IsIn p (all_commits sets) → (t : ℕ) × Of t p
   of_sets p i = let o = later j f (picks_of sets) 0 sets all_held p i in (o.0, o.2)
 
-  pub uploads_uniq : (i n : ℕ) → i < length (all_commits sets) → n < length (all_commits sets) → (nth (all_commits sets) i).upload ≡ (nth (all_commits sets) n).upload → i ≡ n
-  uploads_uniq = uniq_nth (λ (p : Pending). p.upload) (all_commits sets) (uniq_from j f (picks_of sets) (λ (p : Pending). p.upload) (one_upload j f (picks_of sets)) 0 sets all_held)
+  pub uploads_uniq : (i n : ℕ) → i < length (all_commits sets) → n < length (all_commits sets)
+      → (nth (all_commits sets) i).upload ≡ (nth (all_commits sets) n).upload → i ≡ n
+  uploads_uniq = uniq_nth (λ (p : Pending). p.upload) (all_commits sets) (uniq_from j f (picks_of sets) (λ (p : Pending). p.upload)
+      (one_upload j f (picks_of sets)) 0 sets all_held)
 
-  pub destinations_uniq : same_path w (picks_of sets) ≡ None → (i n : ℕ) → i < length (all_commits sets) → n < length (all_commits sets) → (nth (all_commits sets) i).destination ≡ (nth (all_commits sets) n).destination → i ≡ n
-  destinations_uniq apart = uniq_nth (λ (p : Pending). p.destination) (all_commits sets) (uniq_from j f (picks_of sets) (λ (p : Pending). p.destination) (one_dest j f (picks_of sets) apart) 0 sets all_held)
+  pub destinations_uniq : same_path w (picks_of sets) ≡ None → (i n : ℕ) → i < length (all_commits sets) → n < length (all_commits sets)
+      → (nth (all_commits sets) i).destination ≡ (nth (all_commits sets) n).destination → i ≡ n
+  destinations_uniq apart = uniq_nth (λ (p : Pending). p.destination) (all_commits sets)
+      (uniq_from j f (picks_of sets) (λ (p : Pending). p.destination) (one_dest j f (picks_of sets) apart) 0 sets all_held)
 
   -- the set of a task that was read has an upload of each file of its attempt
   abbrev upload_of : Who → File → Pending
@@ -179,18 +243,26 @@ module _ {w : Script} {minimum : ℕ} {s : Scene} {last : ℕ → Option ℕ} {m
 
   in_commits : (xs : Sets) (t : ℕ) (h : PendingSet) (p : Pending) → slice_get xs t ≡ Some h → IsIn p h.commits → IsIn p (all_commits xs)
   in_commits [] t h p e i = absurd (none_some refl e)
-  in_commits (x ∷ xs) zero h p e i = in_front p x.commits (all_commits xs) (subst (λ (v : PendingSet). IsIn p v.commits) (sym (some_is e)) i)
+  in_commits (x ∷ xs) zero h p e i = in_front p x.commits (all_commits xs) (subst (λ (v : PendingSet). IsIn p v.commits) (sym (some_is e))
+      i)
   in_commits (x ∷ xs) (suc t) h p e i = in_back p x.commits (all_commits xs) (in_commits xs t h p e i)
 
-  pub set_has : (t : ℕ) (h : PendingSet) → slice_get sets t ≡ Some h → (g : File) → IsIn g (files w (attempt t h.attempt)) → (p : Pending) × IsIn p (all_commits sets) × (p.destination ≡ file_key w g) × Of t p
+  pub set_has : (t : ℕ) (h : PendingSet) → slice_get sets t ≡ Some h → (g : File) → IsIn g (files w (attempt t h.attempt)) → (p : Pending)
+      × IsIn p (all_commits sets) × (p.destination ≡ file_key w g) × Of t p
   set_has t h e g i =
       let x = reads t h e in
       let attempt_is : h.attempt ≡ x.by.attempt = ap (λ (v : PendingSet). v.attempt) x.is in
       let who : attempt t h.attempt ≡ x.by = ap (λ n. attempt n h.attempt) (sym x.task) ∙ ap (λ n. attempt x.by.task n) attempt_is in
       let mine : IsIn g (files w x.by) = subst (λ a. IsIn g (files w a)) who i in
       let p = upload_of x.by g in
-      let there : IsIn p h.commits = subst (λ (v : PendingSet). IsIn p v.commits) (sym x.is) (map_in (upload_of x.by) g x.commits (x.are.all g mine)) in
-      (p, in_commits sets t h p e there, refl, held_of_set j f (picks_of sets) t h (x, ap (option_map (λ (v : PendingSet). v.attempt)) e) p there)
+      let there : IsIn p h.commits = subst (λ (v : PendingSet). IsIn p v.commits) (sym x.is)
+      (map_in (upload_of x.by) g x.commits (x.are.all g mine)) in (
+        p,
+        in_commits sets t h p e there,
+        refl,
+        held_of_set j f (picks_of sets) t h (x, ap (option_map (λ (v : PendingSet). v.attempt)) e) p
+            there,
+      )
 
 -- ---- uploads by their numbers, and the requests of a revert
 
@@ -212,9 +284,11 @@ chosen_each : (test : ℕ → Bool) (k : ℕ) (ps : List Pending) (p : Pending) 
 chosen_each test k [] p i = absurd i
 chosen_each test k (q ∷ ps) p i =
     let old = chosen_each test (k + 1) ps p in
-    (elim (test k) as (λ b. IsIn p (cond b (q ∷ chosen test (k + 1) ps) (chosen test (k + 1) ps)) → IsIn p (q ∷ ps)) [ true ↦ λ h. elim h [ inl e ↦ inl e | inr x ↦ inr (old x) ] | false ↦ λ h. inr (old h) ]) i
+    (elim (test k) as (λ b. IsIn p (cond b (q ∷ chosen test (k + 1) ps) (chosen test (k + 1) ps)) → IsIn p (q ∷ ps))
+    [ true ↦ λ h. elim h [ inl e ↦ inl e | inr x ↦ inr (old x) ] | false ↦ λ h. inr (old h) ]) i
 
-chosen_there : (test : ℕ → Bool) (k : ℕ) (ps : List Pending) (n : ℕ) → n < length ps → test (k + n) ≡ true → IsIn (nth ps n) (chosen test k ps)
+chosen_there : (test : ℕ → Bool) (k : ℕ) (ps : List Pending) (n : ℕ) → n < length ps → test (k + n) ≡ true
+    → IsIn (nth ps n) (chosen test k ps)
 chosen_there test k [] n low h = absurd (omega arith)
 chosen_there test k (q ∷ ps) zero low h =
     let t : test k ≡ true = ap test (omega arith) ∙ h in
@@ -255,7 +329,9 @@ tried (x ∷ xs) y (inl e) some =
 tried (x ∷ xs) y (inr i) some = let b = nat_eq y.number x.number && nat_lt 0 x.missed in ap (λ c. b || c) (tried xs y i some) ∙ or-true b
 
 -- what holds of each of the uploads, of what wore out and of what is done holds of what its requests are about
-pub revert_so : (P : Pending → Type 0) (all : List Pending) (worn : ℕ) (xs : List Turn) (finished : List ℕ) → ((p : Pending) → IsIn p all → P p) → P (nth all worn) → ((n : ℕ) → In n finished → P (nth all n)) → (r : Request) → IsIn r (revert all worn xs finished)
+pub revert_so : (P : Pending → Type 0) (all : List Pending) (worn : ℕ) (xs : List Turn) (finished : List ℕ)
+    → ((p : Pending) → IsIn p all → P p) → P (nth all worn) → ((n : ℕ) → In n finished → P (nth all n)) → (r : Request)
+    → IsIn r (revert all worn xs finished)
     → (p : Pending) × P p × ((r ≡ abort p) ⊎ (r ≡ deletion p))
 revert_so P all worn xs finished each first done r (inl e) = (nth all worn, first, inl e)
 revert_so P all worn xs finished each first done r (inr (inl e)) = (nth all worn, first, inr e)
@@ -266,11 +342,13 @@ revert_so P all worn xs finished each first done r (inr (inr i)) = elim (in_appe
         let x = in_map deletion r (in_turn all finished) d in
         let t = turn_each all finished x.0 x.1 in
         (nth all t.0, done t.0 t.1, inr (x.2 ∙ ap deletion t.2))
-    | inr d ↦ let x = in_map abort r (chosen (is_unsent worn xs finished) 0 all) d in (x.0, each x.0 (chosen_each (is_unsent worn xs finished) 0 all x.0 x.1), inl x.2)
+    | inr d ↦ let x = in_map abort r (chosen (is_unsent worn xs finished) 0 all) d in
+        (x.0, each x.0 (chosen_each (is_unsent worn xs finished) 0 all x.0 x.1), inl x.2)
   ]
 ]
 
-module _ (all : List Pending) (worn : ℕ) (xs : List Turn) (finished : List ℕ) (low : worn < length all) (within : (n : ℕ) → In n finished → n < length all) where
+module _ (all : List Pending) (worn : ℕ) (xs : List Turn) (finished : List ℕ) (low : worn < length all)
+    (within : (n : ℕ) → In n finished → n < length all) where
   abbrev undone : List Request
   undone = undo (chosen (is_tried xs) 0 all)
 
@@ -279,13 +357,16 @@ module _ (all : List Pending) (worn : ℕ) (xs : List Turn) (finished : List ℕ
   revert_each = revert_so (λ p. IsIn p all) all worn xs finished (λ p i. i) (nth_of all worn low) (λ n i. nth_of all n (within n i))
 
   -- and there are deletions of what wore out, of what was sent and got no answer, and of what is done
-  pub deletes_tried : (y : Turn) → In y xs → (y.missed ≡ 0 → ⊥) → y.number < length all → IsIn (deletion (nth all y.number)) (revert all worn xs finished)
+  pub deletes_tried : (y : Turn) → In y xs → (y.missed ≡ 0 → ⊥) → y.number < length all
+      → IsIn (deletion (nth all y.number)) (revert all worn xs finished)
   deletes_tried y i some below =
       let z : 0 + y.number ≡ y.number = omega arith in
-      inr (inr (in_front _ undone _ (undo_there (chosen (is_tried xs) 0 all) (nth all y.number) (chosen_there (is_tried xs) 0 all y.number below (ap (is_tried xs) z ∙ tried xs y i some)))))
+      inr (inr (in_front _ undone _ (undo_there (chosen (is_tried xs) 0 all) (nth all y.number)
+      (chosen_there (is_tried xs) 0 all y.number below (ap (is_tried xs) z ∙ tried xs y i some)))))
 
   pub deletes_done : (n : ℕ) → In n finished → IsIn (deletion (nth all n)) (revert all worn xs finished)
-  deletes_done n i = inr (inr (in_back _ undone _ (in_front _ (map deletion (in_turn all finished)) _ (map_in deletion (nth all n) (in_turn all finished) (turn_there all finished n i)))))
+  deletes_done n i = inr (inr (in_back _ undone _ (in_front _ (map deletion (in_turn all finished)) _
+      (map_in deletion (nth all n) (in_turn all finished) (turn_there all finished n i)))))
 
 -- ---- what holds of the driver's commit as it goes on, by what holds where its stages begin
 
@@ -319,14 +400,16 @@ module _ (w : Script) (P : Commit → Type 0) where
   misses_so c lost h g = grind arith
 
   -- after any outcome, by what holds after an answer, after a sending that is missed, and where it wears out
-  pub tells_so : (c : Commit) (o : Outcome) → ((x : Reply) → o ≡ Answered x → P (commit_hears w c x)) → ((lost : Bool) → P (missed c lost)) → P (worn c) → P (commit_tells w c o)
+  pub tells_so : (c : Commit) (o : Outcome) → ((x : Reply) → o ≡ Answered x → P (commit_hears w c x)) → ((lost : Bool) → P (missed c lost))
+      → P (worn c) → P (commit_tells w c o)
   tells_so c o h g e = grind (arith, misses_so)
 
 -- what holds of the commit, of sets that are read so far, and of those of a commit that goes on, with the prefixes that it has yet to empty
 pub record Course (w : Script) (P : Commit → Type 0) (F : Sets → Type 0) (X : Sets → List (List ℕ) → Type 0) : Type 0 where
   pub fetches : (sets : Sets) → length sets < w.tasks → F sets → P (Fetching sets 0)
   pub clashes : (sets : Sets) (end : CommitEnd) → same_path w (picks_of sets) ≡ Some end → F sets → P (CommitOver end)
-  pub decides : (sets : Sets) → w.tasks ≤ length sets → same_path w (picks_of sets) ≡ None → F sets → X sets (replaced w.committer w.mode w (picks_of sets))
+  pub decides : (sets : Sets) → w.tasks ≤ length sets → same_path w (picks_of sets) ≡ None → F sets
+      → X sets (replaced w.committer w.mode w (picks_of sets))
   pub replaces : (sets : Sets) (p : List ℕ) (ps : List (List ℕ)) → X sets (p ∷ ps) → P (Replacing sets p ps (Listing []) 0)
   pub completes : (sets : Sets) → X sets [] → P (completing sets (dealt w.lanes (length (all_commits sets))) [])
 
@@ -334,15 +417,18 @@ module _ {w : Script} {P : Commit → Type 0} {F : Sets → Type 0} {X : Sets �
   replacing_so : (sets : Sets) (ps : List (List ℕ)) → X sets ps → P (replacing w sets ps)
   replacing_so sets ps h = grind arith
 
-  decided_so : (sets : Sets) (o : Option CommitEnd) → w.tasks ≤ length sets → same_path w (picks_of sets) ≡ o → F sets → P (decided w sets o)
+  decided_so : (sets : Sets) (o : Option CommitEnd) → w.tasks ≤ length sets → same_path w (picks_of sets) ≡ o → F sets
+      → P (decided w sets o)
   decided_so sets o h g e = grind arith
 
   pub fetching_so : (sets : Sets) → F sets → P (fetching w sets)
   fetching_so sets h = grind (arith, either, below_is, decided_so, ltb-false)
 
-  pub fetched_so : (sets : Sets) (o : Option PendingSet) → length sets < w.tasks → F sets → ((h : PendingSet) → o ≡ Some h → F (sets ++ h ∷ [])) → P (fetched w sets o)
+  pub fetched_so : (sets : Sets) (o : Option PendingSet) → length sets < w.tasks → F sets
+      → ((h : PendingSet) → o ≡ Some h → F (sets ++ h ∷ [])) → P (fetched w sets o)
   fetched_so sets (Some h) l f g = fetching_so (sets ++ h ∷ []) (g h refl)
   fetched_so sets None l f g = c.fetches sets l f
 
-  pub swept_so : (sets : Sets) (p : List ℕ) (ps : List (List ℕ)) (o : Option Sweep) → X sets ps → ((s : Sweep) → o ≡ Some s → P (Replacing sets p ps s 0)) → P (swept w sets p ps o)
+  pub swept_so : (sets : Sets) (p : List ℕ) (ps : List (List ℕ)) (o : Option Sweep) → X sets ps
+      → ((s : Sweep) → o ≡ Some s → P (Replacing sets p ps s 0)) → P (swept w sets p ps o)
   swept_so sets p ps o h g = grind arith

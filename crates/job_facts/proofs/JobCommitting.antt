@@ -1,16 +1,61 @@
 -- The driver's commit keeps the facts with each of its requests, holds the sets as it read them, and goes on as it should.
-use Rattle.job_facts.proofs.Common.{AllDriving, AllUnder, Bool, Commit, CommitOver, Committer, Completing, Deleting, Drawn, Fetching, File, FilePlace, FitsJobCommit, FitsReplace, HasBucket, Hold, IsDriving, IsGiven, IsHeldSet, IsHonestOutcome, IsIn, IsLegal, IsPlaced, List, Listing, Marking, Mode, None, Option, Outcome, Pending, PendingSet, Picks, Reads, Replacing, Reply, Request, Reverting, Scene, Script, Seen, Sets, Some, SuccessPlace, Sweep, Times, Told, Turn, Who, [], abort, again, all_commits, and_parts, answer, ap, append_assoc, arith, begins, begins_behind, below, codes, commit_asks, commit_hears, commit_tells, completion, deleting, deletion, dest_prefix, drawn_for, drop, eq_nat, false, false_true, false≢true, file_key, file_record, files, filter, follow, in_append, in_filter, in_map, inl, inr, is_bucket, is_no_magic, is_open, key_magic, knowing, length, magic_prefix, map, nat_eq, nat_true, none_some, not-true, nth, page_after, partition_prefix, partitions, path_of, placed_open, refl, replaced, revert, reverting, set_read, set_request, slice_get, some_is, subst, suc, sweep_asks, sweep_hears, sym, true, true_or_false, walked_by, wanted_paths, zero, ℕ, ◌++◌, ◌<◌, ◌^◌, ◌∙◌, ◌∷◌, ◌≡◌, ◌≤◌, ◌⊎◌}
-use Rattle.list_walk.specs.Walks as walks
-use Rattle.job_protocol.specs.Prelude.{Displaced, Everything, Nothing, Partitions, displaced, emptied}
-use Rattle.job_facts.proofs.Legal.{some_dest, from_script, given_of}
+use Rattle.basics.proofs.Members.{eq_nat, false_true, in_append, in_filter, in_map, nat_true, none_some, some_is, true_or_false}
+use Rattle.basics.specs.Members.{IsIn}
+use Rattle.job_facts.proofs.Aborting.{dropped_in, taken_in}
 use Rattle.job_facts.proofs.Driving.{reads_drive}
-use Rattle.job_facts.proofs.Aborting.{taken_in, dropped_in}
-use Rattle.job_facts.proofs.Replies.{set_answered}
-use Rattle.job_facts.proofs.Shows.{begins_front}
 use Rattle.job_facts.proofs.Foreign.{set_reads}
-use Rattle.job_facts.proofs.Held.{revert_so, missed, worn, tells_so, Course, fetched_so, swept_so, completing_so}
-use Rattle.job_facts.proofs.Shapes.{more_keys, page_is, page_each}
-use Rattle.magic_paths.proofs.Tails.{below_is as paths_below}
+use Rattle.job_facts.proofs.Held.{Course, completing_so, fetched_so, missed, revert_so, swept_so, tells_so, worn}
+use Rattle.job_facts.proofs.Legal.{from_script, given_of, some_dest}
+use Rattle.job_facts.proofs.Replies.{set_answered}
+use Rattle.job_facts.proofs.Shapes.{more_keys, page_each, page_is}
+use Rattle.job_facts.proofs.Shows.{begins_front}
+use Rattle.job_facts.specs.Driver.{AllDriving, AllUnder, FitsJobCommit, FitsReplace, IsHeldSet, Reads}
+use Rattle.job_facts.specs.Facts.{Hold, knowing}
+use Rattle.job_facts.specs.Foreign.{IsDriving}
+use Rattle.job_facts.specs.Told.{Told}
+use Rattle.job_model.specs.Attempts.{Who}
+use Rattle.job_model.specs.Files.{File}
+use Rattle.job_model.specs.JobScript.{Script}
+use Rattle.job_model.specs.Known.{Drawn}
+use Rattle.job_model.specs.Legal.{IsGiven, IsLegal}
+use Rattle.job_model.specs.Placed.{path_of}
+use Rattle.job_model.specs.Plans.{IsPlaced}
+use Rattle.job_model.specs.declared.displaced.Displaced.{Displaced}
+use Rattle.job_model.specs.declared.displaced.Displaced.TheVariants.{Everything, Nothing, Partitions}
+use Rattle.job_protocol.proofs.PathBounds.{placed_open}
+use Rattle.job_protocol.specs.Conflicts.{displaced, emptied, partitions}
+use Rattle.job_protocol.specs.JobCommits.{Commit, CommitOver, Completing, Fetching, Marking, Replacing, Reverting, Sets, all_commits}
+use Rattle.job_protocol.specs.JobCommits.{commit_asks, commit_hears, commit_tells, is_no_magic, replaced, reverting, set_read, set_request}
+use Rattle.job_protocol.specs.Knowledge.{drawn_for}
+use Rattle.job_protocol.specs.Lanes.{Turn, abort, again, completion, deletion, follow, nth, revert}
+use Rattle.job_protocol.specs.Outputs.{Picks, files, wanted_paths}
+use Rattle.job_protocol.specs.Records.{file_key, file_record}
+use Rattle.job_protocol.specs.Seen.{Seen, Times}
+use Rattle.job_protocol.specs.Setup.{dest_prefix}
+use Rattle.job_protocol.specs.TaskCommits.{partition_prefix}
+use Rattle.list_walk.specs.Walks.{Deleting, Listing, Sweep, deleting, page_after, sweep_asks, sweep_hears, walked_by}
+use Rattle.magic_paths.proofs.Tails.{begins_behind, below_is as paths_below, key_magic}
+use Rattle.magic_paths.specs.Layout.{magic_prefix}
+use Rattle.magic_paths.specs.Places.{FilePlace, SuccessPlace, is_open}
+use Rattle.path_keys.specs.Paths.{below}
+use Rattle.pending_json.specs.Pending.{Pending}
+use Rattle.pending_json.specs.declared.records.PendingSet.{PendingSet}
+use Rattle.s3_types.specs.Answer.{answer}
+use Rattle.s3_types.specs.Moment.{IsHonestOutcome}
+use Rattle.s3_types.specs.Names.{is_bucket}
+use Rattle.s3_types.specs.Pages.{begins}
+use Rattle.s3_types.specs.Store.{Scene}
+use Rattle.s3_types.specs.declared.journal.Outcome.{Outcome}
+use Rattle.s3_types.specs.declared.reply.Reply.{Reply}
+use Rattle.s3_types.specs.declared.request.Committer.{Committer}
+use Rattle.s3_types.specs.declared.request.Mode.{Mode}
+use Rattle.s3_types.specs.declared.request.Request.{Request}
+use Rattle.std.proofs.Common.{Bool, List, None, Option, Some, ap, append_assoc, arith, codes, drop, false, inl, inr, length, map, nat_eq}
+use Rattle.std.proofs.Common.{refl, slice_get, subst, suc, sym, true, zero, ℕ, [], ◌++◌, ◌<◌, ◌^◌, ◌∙◌, ◌∷◌, ◌≡◌, ◌≤◌, ◌⊎◌}
+use Rattle.std.proofs.lemmas.Bool.{and_parts, false≢true, not-true}
+use Rattle.std.specs.List.{filter}
+use Rattle.store_frame.specs.Held.{HasBucket}
+use Rattle.list_walk.specs.Walks as walks
 
 -- ---- the uploads that are completed are those of files
 
@@ -23,12 +68,15 @@ abbrev FitsOption : Script → Option Sweep → Type 0
 FitsOption w None = Unit {0}
 FitsOption w (Some s) = FitsReplace w s
 
-fits_deleting : (w : Script) (keys : List (List ℕ)) → ((k : List ℕ) → IsIn k keys → (is_no_magic w k ≡ true) × (begins (dest_prefix w) k ≡ true)) → FitsOption w (deleting keys)
+fits_deleting : (w : Script) (keys : List (List ℕ))
+    → ((k : List ℕ) → IsIn k keys → (is_no_magic w k ≡ true) × (begins (dest_prefix w) k ≡ true)) → FitsOption w (deleting keys)
 fits_deleting w keys h = grind arith
 
-fits_listed : (w : Script) (more : Bool) (keys : List (List ℕ)) → AllUnder (dest_prefix w) keys → FitsOption w (walks.swept (is_no_magic w) (walked_by more keys))
+fits_listed : (w : Script) (more : Bool) (keys : List (List ℕ)) → AllUnder (dest_prefix w) keys
+    → FitsOption w (walks.swept (is_no_magic w) (walked_by more keys))
 fits_listed w true keys all = all
-fits_listed w false keys all = fits_deleting w (filter (is_no_magic w) keys) (λ k i. let f = in_filter (is_no_magic w) k keys i in (f.1, all k f.0))
+fits_listed w false keys all = fits_deleting w (filter (is_no_magic w) keys) (λ k i. let f = in_filter (is_no_magic w) k keys i in
+    (f.1, all k f.0))
 
 -- what begins so begins with less
 pub begins_through : (a b q : List ℕ) → begins a b ≡ true → begins b q ≡ true → begins a q ≡ true
@@ -42,10 +90,12 @@ begins_through (x ∷ a) (y ∷ b) (z ∷ q) h g =
 
 module _ (w : Script) (s : Scene) (there : HasBucket s.content w.dest.bucket) where
   -- after an answer to a listing below a prefix of the destination, or to a batch
-  pub fits_heard : (p : List ℕ) → begins (dest_prefix w) p ≡ true → (t : Sweep) → FitsReplace w t → (x : Reply) → x ≡ answer s (sweep_asks w.dest.bucket p t) → FitsOption w (sweep_hears (is_no_magic w) t x)
+  pub fits_heard : (p : List ℕ) → begins (dest_prefix w) p ≡ true → (t : Sweep) → FitsReplace w t → (x : Reply)
+      → x ≡ answer s (sweep_asks w.dest.bucket p t) → FitsOption w (sweep_hears (is_no_magic w) t x)
   fits_heard p under (Listing keys) h x e =
       subst (λ y. FitsOption w (walks.swept (is_no_magic w) y)) (sym (page_is w s there p keys x e))
-      (fits_listed w _ (more_keys w s there p keys) (page_each w s there p keys (λ k. begins (dest_prefix w) k ≡ true) (λ k b. begins_through (dest_prefix w) p k under b) h))
+      (fits_listed w _ (more_keys w s there p keys) (page_each w s there p keys (λ k. begins (dest_prefix w) k ≡ true)
+      (λ k b. begins_through (dest_prefix w) p k under b) h))
   fits_heard p under (Deleting q qs) h x e = fits_deleting w (drop 1000 (q ∷ qs)) (λ k i. h k (dropped_in 1000 (q ∷ qs) k i))
 
 -- what is not below the destination's magic directory is not below the job's
@@ -54,8 +104,11 @@ no_magic w k h = elim (true_or_false (begins (magic_prefix w.dest.key w.job) k))
   | inr no_so ↦ no_so
   | inl yes_so ↦
       let whole : magic_prefix w.dest.key w.job ≡ (dest_prefix w ++ codes "__magic/") ++ (codes "job-" ++ (w.job ++ codes "/")) =
-      sym (append_assoc (dest_prefix w) (codes "__magic/") (codes "job-" ++ (w.job ++ codes "/")) ∙ append_assoc w.dest.key (codes "/") (codes "__magic/" ++ (codes "job-" ++ (w.job ++ codes "/")))) in
-      absurd (false_true (not-true (begins (dest_prefix w ++ codes "__magic/") k) h) (begins_front (dest_prefix w ++ codes "__magic/") (codes "job-" ++ (w.job ++ codes "/")) k (ap (λ p. begins p k) (sym whole) ∙ yes_so)))
+      sym (append_assoc (dest_prefix w) (codes "__magic/") (codes "job-" ++ (w.job ++ codes "/")) ∙ append_assoc w.dest.key (codes "/")
+      (codes "__magic/" ++ (codes "job-" ++ (w.job ++ codes "/")))) in
+      absurd (false_true (not-true (begins (dest_prefix w ++ codes "__magic/") k) h)
+      (begins_front (dest_prefix w ++ codes "__magic/") (codes "job-" ++ (w.job ++ codes "/")) k
+      (ap (λ p. begins p k) (sym whole) ∙ yes_so)))
 ]
 
 begins_self : (p : List ℕ) → begins p p ≡ true
@@ -64,13 +117,20 @@ begins_self (x ∷ p) = rw (nat_true x x refl, begins_self p) refl
 
 -- what is below the destination begins with its prefix
 pub dest_below : {w : Script} → IsLegal w → (q : List ℕ) → begins (dest_prefix w) (below w.dest.key q) ≡ true
-dest_below {w = w} j q = ap (begins (dest_prefix w)) (paths_below w.dest.key q (some_dest j)) ∙ begins_behind w.dest.key (codes "/") (47 ∷ q)
+dest_below {w = w} j q = ap (begins (dest_prefix w)) (paths_below w.dest.key q (some_dest j)) ∙ begins_behind w.dest.key (codes "/")
+    (47 ∷ q)
 
 -- so much is deleted below prefixes of the destination
-prefixes_under : {w : Script} → IsLegal w → (d : Displaced) (picks : Picks) → AllUnder (dest_prefix w) (emptied d w.dest (partitions (wanted_paths w picks)))
+prefixes_under : {w : Script} → IsLegal w → (d : Displaced) (picks : Picks)
+    → AllUnder (dest_prefix w) (emptied d w.dest (partitions (wanted_paths w picks)))
 prefixes_under j Nothing picks = λ q i. absurd i
-prefixes_under {w = w} j Everything picks = λ q i. elim i [ inl is ↦ ap (begins (dest_prefix w)) is ∙ begins_self (dest_prefix w) | inr none ↦ absurd none ]
-prefixes_under {w = w} j Partitions picks = λ q i. let o = in_map (partition_prefix w) q (partitions (wanted_paths w picks)) i in ap (begins (dest_prefix w)) o.2 ∙ dest_below j (o.0 ++ codes "/")
+prefixes_under {w = w} j Everything picks = λ q i. elim i [
+  | inl is ↦ ap (begins (dest_prefix w)) is ∙ begins_self (dest_prefix w)
+  | inr none
+      ↦ absurd none
+]
+prefixes_under {w = w} j Partitions picks = λ q i. let o = in_map (partition_prefix w) q (partitions (wanted_paths w picks)) i in ap
+    (begins (dest_prefix w)) o.2 ∙ dest_below j (o.0 ++ codes "/")
 
 -- a replace mode deletes below such prefixes
 pub replaced_under : {w : Script} → IsLegal w → (c : Committer) (m : Mode) (picks : Picks) → AllUnder (dest_prefix w) (replaced c m w picks)
@@ -93,13 +153,29 @@ module _ {w : Script} (j : IsLegal w) where
   nth_sound (p ∷ ps) h (suc n) = nth_sound ps (λ q i. h q (inr i)) n
 
   completion_drives : (p : Pending) → Sound w p → IsDriving w (completion p)
-  completion_drives p h = record { keys = λ e k i. elim i [ inl is ↦ ap (begins (magic_prefix w.dest.key w.job)) is ∙ h e | inr none ↦ absurd none ]; uploads = λ id e. nat_true id p.upload (sym (some_is e)); paths = λ q i. absurd i }
+  completion_drives p h = record {
+    keys = λ e k i. elim i [
+      | inl is ↦ ap (begins (magic_prefix w.dest.key w.job)) is ∙ h e
+      | inr none ↦
+          absurd none
+    ];
+    uploads = λ id e. nat_true id p.upload (sym (some_is e));
+    paths = λ q i. absurd i;
+  }
 
   abort_drives : (p : Pending) → IsDriving w (abort p)
   abort_drives p = record { keys = λ e k i. absurd i; uploads = λ id e. nat_true id p.upload (sym (some_is e)); paths = λ q i. absurd i }
 
   deletion_drives : (p : Pending) → Sound w p → IsDriving w (deletion p)
-  deletion_drives p h = record { keys = λ e k i. elim i [ inl is ↦ ap (begins (magic_prefix w.dest.key w.job)) is ∙ h e | inr none ↦ absurd none ]; uploads = λ id e. absurd (none_some refl e); paths = λ q i. absurd i }
+  deletion_drives p h = record {
+    keys = λ e k i. elim i [
+      | inl is ↦ ap (begins (magic_prefix w.dest.key w.job)) is ∙ h e
+      | inr none ↦ absurd
+          none
+    ];
+    uploads = λ id e. absurd (none_some refl e);
+    paths = λ q i. absurd i;
+  }
 
   -- ---- the revert
 
@@ -107,14 +183,19 @@ module _ {w : Script} (j : IsLegal w) where
   all_drive [] h = tt
   all_drive (r ∷ rs) h = (h r (inl refl), all_drive rs (λ q i. h q (inr i)))
 
-  revert_drives : (ps : List Pending) → ((p : Pending) → IsIn p ps → Sound w p) → (worn : ℕ) (xs : List Turn) (finished : List ℕ) → AllDriving w (revert ps worn xs finished)
+  revert_drives : (ps : List Pending) → ((p : Pending) → IsIn p ps → Sound w p) → (worn : ℕ) (xs : List Turn) (finished : List ℕ)
+      → AllDriving w (revert ps worn xs finished)
   revert_drives ps h worn xs finished = all_drive (revert ps worn xs finished) (λ r i.
       let o = revert_so (Sound w) ps worn xs finished h (nth_sound ps h worn) (λ n k. nth_sound ps h n) r i in
-      elim o.2 [ inl is ↦ subst (IsDriving w) (sym is) (abort_drives o.0) | inr is ↦ subst (IsDriving w) (sym is) (deletion_drives o.0 o.1) ])
+      elim o.2 [
+        | inl is ↦ subst (IsDriving w) (sym is) (abort_drives o.0)
+        | inr is ↦ subst (IsDriving w) (sym is) (deletion_drives o.0 o.1)
+      ])
 
   -- ---- the sets that the driver holds
 
-  pub in_sets : (sets : Sets) (p : Pending) → IsIn p (all_commits sets) → (t : ℕ) × ((s : PendingSet) × (slice_get sets t ≡ Some s) × IsIn p s.commits)
+  pub in_sets : (sets : Sets) (p : Pending) → IsIn p (all_commits sets) → (t : ℕ)
+      × ((s : PendingSet) × (slice_get sets t ≡ Some s) × IsIn p s.commits)
   in_sets [] p i = absurd i
   in_sets (s ∷ sets) p i = elim (in_append p s.commits (all_commits sets) i) [
     | inl here ↦ (zero, (s, refl, here))
@@ -126,15 +207,23 @@ module _ {w : Script} (j : IsLegal w) where
     all_sound sets h p i =
         let o = in_sets sets p i in
         let x = h o.0 o.1.0 o.1.1 in
-        let at : IsIn p (map (λ f. file_record w x.by f (drawn_for (knowing (drawn x.by)) (file_key w f))) x.commits) = subst (λ (s : PendingSet). IsIn p s.commits) x.is o.1.2 in
+        let at : IsIn p (map (λ f. file_record w x.by f (drawn_for (knowing (drawn x.by)) (file_key w f))) x.commits) = subst
+        (λ (s : PendingSet). IsIn p s.commits) x.is o.1.2 in
         let g = in_map (λ f. file_record w x.by f (drawn_for (knowing (drawn x.by)) (file_key w f))) p x.commits at in
-        let place : begins (magic_prefix w.dest.key w.job) (file_key w g.0) ≡ false = key_magic w.dest.key w.job (FilePlace g.0.0) (some_dest j) (file_open x.by g.0 (x.are.each g.0 g.1)) in
+        let place : begins (magic_prefix w.dest.key w.job) (file_key w g.0) ≡ false = key_magic w.dest.key w.job (FilePlace g.0.0)
+        (some_dest j) (file_open x.by g.0 (x.are.each g.0 g.1)) in
         λ e. ap (λ (q : Pending). begins (magic_prefix w.dest.key w.job) q.destination) g.2 ∙ place
 
-    pub one_more_set : (sets : Sets) (s : PendingSet) → Reads w minimum sent drawn sets → IsHeldSet w minimum sent drawn (length sets) s → Reads w minimum sent drawn (sets ++ s ∷ [])
-    one_more_set sets s h g t x e = elim (last_set sets s t x e) [ inl old ↦ h t x old | inr new ↦ subst (λ (y : PendingSet). IsHeldSet w minimum sent drawn t y) new.1 (subst (λ n. IsHeldSet w minimum sent drawn n s) (sym new.0) g) ]
+    pub one_more_set : (sets : Sets) (s : PendingSet) → Reads w minimum sent drawn sets → IsHeldSet w minimum sent drawn (length sets) s
+        → Reads w minimum sent drawn (sets ++ s ∷ [])
+    one_more_set sets s h g t x e = elim (last_set sets s t x e) [
+      | inl old ↦ h t x old
+      | inr new ↦ subst
+          (λ (y : PendingSet). IsHeldSet w minimum sent drawn t y) new.1 (subst (λ n. IsHeldSet w minimum sent drawn n s) (sym new.0) g)
+    ]
       where
-        last_set : (sets : Sets) (s : PendingSet) (t : ℕ) (x : PendingSet) → slice_get (sets ++ s ∷ []) t ≡ Some x → (slice_get sets t ≡ Some x) ⊎ ((t ≡ length sets) × (s ≡ x))
+        last_set : (sets : Sets) (s : PendingSet) (t : ℕ) (x : PendingSet) → slice_get (sets ++ s ∷ []) t ≡ Some x
+            → (slice_get sets t ≡ Some x) ⊎ ((t ≡ length sets) × (s ≡ x))
         last_set [] s zero x e = inr (refl, some_is e)
         last_set [] s (suc t) x e = absurd (none_some refl e)
         last_set (y ∷ sets) s zero x e = inl e
@@ -145,7 +234,8 @@ module _ {w : Script} (j : IsLegal w) where
     abbrev FitsNow : Commit → Type 0
     FitsNow c = FitsJobCommit w minimum sent drawn c
 
-    pub fits_course : Course w FitsNow (λ sets. Reads w minimum sent drawn sets) (λ sets ps. Reads w minimum sent drawn sets × AllUnder (dest_prefix w) ps)
+    pub fits_course : Course w FitsNow (λ sets. Reads w minimum sent drawn sets)
+        (λ sets ps. Reads w minimum sent drawn sets × AllUnder (dest_prefix w) ps)
     fits_course = grind (arith, replaced_under, completing_so)
 
     fits_reverting : (rs : List Request) → AllDriving w rs → FitsNow (reverting rs)
@@ -157,7 +247,8 @@ module _ {w : Script} (j : IsLegal w) where
     fits_again _ lost h = h
 
     fits_worn : (c : Commit) → FitsNow c → FitsNow (worn c)
-    fits_worn (Completing sets x xs finished) h = fits_reverting (revert (all_commits sets) x.number xs finished) (revert_drives (all_commits sets) (all_sound sets h) x.number xs finished)
+    fits_worn (Completing sets x xs finished) h = fits_reverting (revert (all_commits sets) x.number xs finished)
+        (revert_drives (all_commits sets) (all_sound sets h) x.number xs finished)
     fits_worn (Reverting q qs n) h = fits_reverting qs h.1
     fits_worn _ h = tt
 
@@ -169,40 +260,80 @@ module _ (w : Script) (minimum : ℕ) (k : Times) (s : Seen) (m : Told) (n : ℕ
 
   sweep_drives : (p : List ℕ) (x : Sweep) → FitsReplace w x → IsDriving w (sweep_asks w.dest.bucket p x)
   sweep_drives p (Listing keys) f = reads_drive w (page_after w.dest.bucket p keys) refl
-  sweep_drives p (Deleting q qs) f = record { keys = λ e x i. no_magic w x (f x (taken_in 1000 (q ∷ qs) x i)).0; uploads = λ id e. absurd (none_some refl e); paths = λ y i. absurd i }
+  sweep_drives p (Deleting q qs) f = record {
+    keys = λ e x i. no_magic w x (f x (taken_in 1000 (q ∷ qs) x i)).0;
+    uploads = λ id e. absurd
+        (none_some refl e);
+    paths = λ y i. absurd i;
+  }
 
   -- each of its requests ends what uploads it changes, and changes nothing else of the job's own
   pub commit_drives : (c : Commit) → Fits c → (r : Request) → commit_asks w c ≡ Some r → IsDriving w r
-  commit_drives (Fetching sets x) f r e = subst (IsDriving w) (some_is e) (reads_drive w (set_request w.committer w (length sets)) (set_reads w.committer w (length sets)))
+  commit_drives (Fetching sets x) f r e = subst (IsDriving w) (some_is e) (reads_drive w (set_request w.committer w (length sets))
+      (set_reads w.committer w (length sets)))
   commit_drives (Replacing sets p ps x y) f r e = subst (IsDriving w) (some_is e) (sweep_drives p x f.2)
-  commit_drives (Completing sets x xs finished) f r e = subst (IsDriving w) (some_is e) (completion_drives j (nth (all_commits sets) x.number) (nth_sound j (all_commits sets) (all_sound j minimum m.publish_sent m.drawn sets f) x.number))
+  commit_drives (Completing sets x xs finished) f r e = subst (IsDriving w) (some_is e)
+      (completion_drives j (nth (all_commits sets) x.number) (nth_sound j (all_commits sets)
+      (all_sound j minimum m.publish_sent m.drawn sets f) x.number))
   commit_drives (Marking sets x) f r e =
-      subst (IsDriving w) (some_is e) (record { keys = λ b y i. elim i [ inl is ↦ ap (begins (magic_prefix w.dest.key w.job)) is ∙ key_magic w.dest.key w.job SuccessPlace (some_dest j) tt | inr none ↦ absurd none ]; uploads = λ id z. absurd (none_some refl z); paths = λ y i. absurd i })
+      subst (IsDriving w) (some_is e) (record {
+        keys = λ b y i. elim i [
+          | inl is ↦ ap (begins (magic_prefix w.dest.key w.job)) is ∙ key_magic
+              w.dest.key w.job SuccessPlace (some_dest j) tt
+          | inr none ↦ absurd none
+        ];
+        uploads = λ id z. absurd (none_some refl z);
+        paths = λ
+            y i. absurd i;
+      })
   commit_drives (Reverting q qs x) f r e = subst (IsDriving w) (some_is e) f.0
   commit_drives (CommitOver end) f r e = absurd cc
 
   -- a set that was read
-  held_one : (sets : Sets) → length sets < w.tasks → s.scene.content.next ≤ 2 ^ 64 → (x : Reply) → x ≡ answer s.scene (set_request w.committer w (length sets)) → (h : PendingSet) → set_read x ≡ Some h → IsHeldSet w minimum m.publish_sent m.drawn (length sets) h
+  held_one : (sets : Sets) → length sets < w.tasks → s.scene.content.next ≤ 2 ^ 64 → (x : Reply)
+      → x ≡ answer s.scene (set_request w.committer w (length sets)) → (h : PendingSet) → set_read x ≡ Some h
+      → IsHeldSet w minimum m.publish_sent m.drawn (length sets) h
   held_one sets low few x e v is = elim (set_answered j h few (length sets) low) [
-    | inl none ↦ elim none [ inl key ↦ absurd (none_some (ap set_read (e ∙ key)) is) | inr file ↦ absurd (none_some (ap set_read (e ∙ file)) is) ]
+    | inl none ↦ elim none [
+      | inl key ↦ absurd (none_some (ap set_read (e ∙ key)) is)
+      | inr file ↦ absurd (none_some (ap set_read (e ∙ file)) is)
+    ]
     | inr there ↦
         let o = there.set in
-        record { by = o.by; task = o.task; number = o.number; has_sent = o.has_sent; commits = o.commits; are = o.are; is = some_is (sym is ∙ ap set_read e ∙ there.is_read) }
+        record {
+          by = o.by;
+          task = o.task;
+          number = o.number;
+          has_sent = o.has_sent;
+          commits = o.commits;
+          are = o.are;
+          is = some_is
+              (sym is ∙ ap set_read e ∙ there.is_read);
+        }
   ]
 
-  fits_answered : (c : Commit) → Fits c → s.scene.content.next ≤ 2 ^ 64 → (r : Request) → commit_asks w c ≡ Some r → (x : Reply) → x ≡ answer s.scene r → Fits (commit_hears w c x)
+  fits_answered : (c : Commit) → Fits c → s.scene.content.next ≤ 2 ^ 64 → (r : Request) → commit_asks w c ≡ Some r → (x : Reply)
+      → x ≡ answer s.scene r → Fits (commit_hears w c x)
   fits_answered (Fetching sets y) f few r e x honest =
       fetched_so (fits_course j minimum m.publish_sent m.drawn) sets (set_read x) f.0 f.1
-      (λ v is. one_more_set j minimum m.publish_sent m.drawn sets v f.1 (held_one sets f.0 few x (honest ∙ ap (answer s.scene) (sym (some_is e))) v is))
+      (λ v is. one_more_set j minimum m.publish_sent m.drawn sets v f.1 (held_one sets f.0 few x
+      (honest ∙ ap (answer s.scene) (sym (some_is e))) v is))
   fits_answered (Replacing sets p ps y z) f few r e x honest =
       swept_so (fits_course j minimum m.publish_sent m.drawn) sets p ps (sweep_hears (is_no_magic w) y x) (f.0, λ q i. f.1 q (inr i))
-      (λ t is. (f.0, f.1, subst (FitsOption w) is (fits_heard w s.scene h.there p (f.1 p (inl refl)) y f.2 x (honest ∙ ap (answer s.scene) (sym (some_is e))))))
+      (λ t is. (
+        f.0,
+        f.1,
+        subst (FitsOption w) is (fits_heard w s.scene h.there p (f.1 p (inl refl)) y f.2 x
+            (honest ∙ ap (answer s.scene) (sym (some_is e)))),
+      ))
   fits_answered (Completing sets y ys finished) f few r e x honest =
       completing_so Fits sets (ys ++ follow w.lanes (length (all_commits sets)) y.number) (y.number ∷ finished) f (λ z zs. f)
   fits_answered (Reverting q qs y) f few r e x honest = fits_reverting j minimum m.publish_sent m.drawn qs f.1
   fits_answered _ f few r e x honest = tt
 
   -- it holds the sets as it read them, and goes on as it should
-  pub commit_fits : (c : Commit) → Fits c → s.scene.content.next ≤ 2 ^ 64 → (r : Request) → commit_asks w c ≡ Some r → (o : Outcome) → IsHonestOutcome o (answer s.scene r) → Fits (commit_tells w c o)
+  pub commit_fits : (c : Commit) → Fits c → s.scene.content.next ≤ 2 ^ 64 → (r : Request) → commit_asks w c ≡ Some r → (o : Outcome)
+      → IsHonestOutcome o (answer s.scene r) → Fits (commit_tells w c o)
   commit_fits c f few r e o honest =
-      tells_so w Fits c o (λ x is. fits_answered c f few r e x (subst (λ v. IsHonestOutcome v (answer s.scene r)) is honest)) (λ lost. fits_again j minimum m.publish_sent m.drawn c lost f) (fits_worn j minimum m.publish_sent m.drawn c f)
+      tells_so w Fits c o (λ x is. fits_answered c f few r e x (subst (λ v. IsHonestOutcome v (answer s.scene r)) is honest))
+      (λ lost. fits_again j minimum m.publish_sent m.drawn c lost f) (fits_worn j minimum m.publish_sent m.drawn c f)

@@ -1,9 +1,23 @@
 -- What an attempt learns from an entry of its own: an upload that it has begun, or more parts of one that it knows.
-use Rattle.job_facts.proofs.Common.{Answered, CreateUpload, Drawn, IsHonestOutcome, IsIn, IsKnown, List, Outcome, Part, Request, Scene, Script, Told, UploadPart, Who, answer, ap, arith, in_map, inl, inr, known, learn, length, map_in, refl, subst, sym, tell_attempt, ℕ, ◌∙◌, ◌≡◌, ◌≤◌, ◌⊎◌}
-use Rattle.job_protocol.specs.Knowledge.{with_part}
-use Rattle.job_facts.proofs.Whose.{same_or_another, who_here, who_other}
+use Rattle.basics.proofs.Members.{in_map, map_in}
+use Rattle.basics.specs.Members.{IsIn}
 use Rattle.job_facts.proofs.Keep.{part_upload}
-use Rattle.s3_types.specs.declared.reply.Reply.TheVariants.{Upload as DrawnUpload}
+use Rattle.job_facts.proofs.Whose.{same_or_another, who_here, who_other}
+use Rattle.job_facts.specs.Stores.{IsKnown}
+use Rattle.job_facts.specs.Told.{Told, known, tell_attempt}
+use Rattle.job_model.specs.Attempts.{Who}
+use Rattle.job_model.specs.JobScript.{Script}
+use Rattle.job_model.specs.Known.{Drawn}
+use Rattle.job_protocol.specs.Knowledge.{learn, with_part}
+use Rattle.s3_types.specs.Answer.{answer}
+use Rattle.s3_types.specs.Moment.{IsHonestOutcome}
+use Rattle.s3_types.specs.Store.{Scene}
+use Rattle.s3_types.specs.declared.journal.Outcome.{Outcome}
+use Rattle.s3_types.specs.declared.journal.Outcome.TheVariants.{Answered}
+use Rattle.s3_types.specs.declared.reply.Reply.TheVariants.{Part, Upload as DrawnUpload}
+use Rattle.s3_types.specs.declared.request.Request.{Request}
+use Rattle.s3_types.specs.declared.request.Request.TheVariants.{CreateUpload, UploadPart}
+use Rattle.std.proofs.Common.{List, ap, arith, inl, inr, length, refl, subst, sym, ℕ, ◌∙◌, ◌≡◌, ◌≤◌, ◌⊎◌}
 
 -- these know an upload of this id and this key
 abbrev pub Knows : List Drawn → Drawn → Type 0
@@ -23,12 +37,19 @@ module _ (w : Script) (m : Told) (a : Who) (r : Request) (o : Outcome) (b : Who)
   pub known_still : IsIn d (m.drawn b) → Knows (now b) d
   known_still i = elim (same_or_another b a) [
     | inr ne ↦ (d, subst (λ (l : List Drawn). IsIn d l) (sym (who_other m.drawn a (learn w a (known m a) r o).drawn b ne)) i, refl, refl)
-    | inl is ↦ let x = learns r o (subst (λ v. IsIn d (m.drawn v)) is i) in (x.0, subst (λ (l : List Drawn). IsIn x.0 l) (sym (who_here m.drawn a (learn w a (known m a) r o).drawn b is)) x.1, x.2, x.3)
+    | inl is ↦ let x = learns r o (subst (λ v. IsIn d (m.drawn v)) is i) in (
+      x.0,
+      subst (λ (l : List Drawn). IsIn x.0 l)
+          (sym (who_here m.drawn a (learn w a (known m a) r o).drawn b is)) x.1,
+      x.2,
+      x.3,
+    )
   ]
     where
       learns : (r : Request) (o : Outcome) → IsIn d (m.drawn a) → Knows (learn w a (known m a) r o).drawn d
       learns (CreateUpload bucket key) (Answered (DrawnUpload id)) i = (d, inr i, refl, refl)
-      learns (UploadPart bucket key id number bytes) (Answered (Part tag)) i = let s = part_upload id tag (length bytes) d in (with_part id tag (length bytes) d, map_in (with_part id tag (length bytes)) d (m.drawn a) i, s.0, s.1)
+      learns (UploadPart bucket key id number bytes) (Answered (Part tag)) i = let s = part_upload id tag (length bytes) d in
+          (with_part id tag (length bytes) d, map_in (with_part id tag (length bytes)) d (m.drawn a) i, s.0, s.1)
       learns _ o i = (d, i, refl, refl)
 
   -- and what is known was, or was begun just now
@@ -42,7 +63,12 @@ module _ (w : Script) (m : Told) (a : Who) (r : Request) (o : Outcome) (b : Who)
   ]
     where
       learns : (r : Request) (o : Outcome) → IsIn d (learn w a (known m a) r o).drawn → Knows (m.drawn a) d ⊎ IsNew d r o
-      learns (CreateUpload n k) (Answered (DrawnUpload u)) (inl x) = inr (record { bucket = n; request = ap (λ (c : Drawn). CreateUpload n c.key) (sym x); outcome = ap (λ (c : Drawn). Answered (DrawnUpload c.upload)) (sym x) })
+      learns (CreateUpload n k) (Answered (DrawnUpload u)) (inl x) = inr (record {
+        bucket = n;
+        request = ap (λ (c : Drawn). CreateUpload n c.key) (sym x);
+        outcome = ap
+            (λ (c : Drawn). Answered (DrawnUpload c.upload)) (sym x);
+      })
       learns (CreateUpload n k) (Answered (DrawnUpload u)) (inr i) = inl (d, i, refl, refl)
       learns (UploadPart n k u number bytes) (Answered (Part tag)) i =
           let x = in_map (with_part u tag (length bytes)) d (m.drawn a) i in
@@ -55,11 +81,13 @@ pub drawn_is_next : (s : Scene) (n k : List ℕ) (u : ℕ) → DrawnUpload u ≡
 drawn_is_next s n k u h = grind arith
 
 -- an upload that an attempt learns of was known, or drawn just now
-pub learnt : (w : Script) (s : Scene) (m : Told) (a : Who) (r : Request) (o : Outcome) → IsHonestOutcome o (answer s r) → (id : ℕ) → IsKnown (tell_attempt w m a r o).drawn id → IsKnown m.drawn id ⊎ (s.content.next ≤ id)
+pub learnt : (w : Script) (s : Scene) (m : Told) (a : Who) (r : Request) (o : Outcome) → IsHonestOutcome o (answer s r) → (id : ℕ)
+    → IsKnown (tell_attempt w m a r o).drawn id → IsKnown m.drawn id ⊎ (s.content.next ≤ id)
 learnt w s m a r o honest id (b, d, i, e) = elim (known_before w m a r o b d i) [
   | inl old ↦ inl (b, old.0, old.1, old.2 ∙ e)
   | inr new ↦
-      let due : DrawnUpload d.upload ≡ answer s (CreateUpload new.bucket d.key) = subst (λ y. IsHonestOutcome y (answer s r)) new.outcome honest ∙ ap (answer s) new.request in
+      let due : DrawnUpload d.upload ≡ answer s (CreateUpload new.bucket d.key) = subst (λ y. IsHonestOutcome y (answer s r)) new.outcome
+      honest ∙ ap (answer s) new.request in
       let at : s.content.next ≡ id = sym (drawn_is_next s new.bucket d.key d.upload due) ∙ e in
       inr (subst (λ n. s.content.next ≤ n) at (omega arith))
 ]

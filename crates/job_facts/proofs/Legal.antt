@@ -1,5 +1,26 @@
 -- What the bounds of a script give of its attempts' files.
-use Rattle.job_facts.proofs.Common.{ApartFiles, AreAttempts, AreFiles, Bool, Committer, Declared, File, FitsMagic, IsAttempt, IsGiven, IsIn, IsLegal, List, Mode, None, Script, Some, Who, [], and_parts, ap, arith, cond, eq_nat, false, false_true, files, given_place, has_path, in_front, in_last, in_map, inl, inr, is_job_id, is_magic, is_record, is_some, leb-true, length, lookup, option_map, path_of, path_same, placed, refl, same_name, subst, sym, text_eq, text_true, true, unwrap_or, ℕ, ◌++◌, ◌<◌, ◌^◌, ◌∙◌, ◌∷◌, ◌≡◌, ◌≤◌}
+use Rattle.basics.proofs.Members.{eq_nat, false_true, in_front, in_last, in_map, text_true}
+use Rattle.basics.specs.Members.{IsIn}
+use Rattle.basics.specs.Order.{text_eq}
+use Rattle.job_facts.specs.Facts.{ApartFiles, IsAttempt}
+use Rattle.job_model.proofs.Unique.{path_same}
+use Rattle.job_model.specs.Attempts.{Declared, Who, same_name}
+use Rattle.job_model.specs.Files.{File, has_path}
+use Rattle.job_model.specs.JobScript.{Script}
+use Rattle.job_model.specs.Legal.{AreAttempts, AreFiles, FitsMagic, IsGiven, IsLegal}
+use Rattle.job_model.specs.Placed.{path_of, placed}
+use Rattle.job_protocol.proofs.PathBounds.{given_place}
+use Rattle.job_protocol.specs.Outputs.{files}
+use Rattle.job_protocol.specs.Seen.{is_magic}
+use Rattle.magic_paths.specs.Places.{is_record}
+use Rattle.s3_types.specs.Names.{is_job_id}
+use Rattle.s3_types.specs.declared.request.Committer.{Committer}
+use Rattle.s3_types.specs.declared.request.Mode.{Mode}
+use Rattle.std.proofs.Common.{Bool, List, None, Some, ap, arith, cond, false, inl, inr, is_some, length, refl, subst, sym, true, ℕ, []}
+use Rattle.std.proofs.Common.{◌++◌, ◌<◌, ◌^◌, ◌∙◌, ◌∷◌, ◌≡◌, ◌≤◌}
+use Rattle.std.proofs.lemmas.Bool.{and_parts, leb-true}
+use Rattle.std.specs.Map.{lookup}
+use Rattle.std.specs.Option.{option_map, unwrap_or}
 
 -- ---- the destination's key is not empty
 
@@ -15,7 +36,8 @@ some_dest {w = w} j =
 pub has : (fs : List File) (h : File) (p : List ℕ) → IsIn h fs → h.0 ≡ p → has_path fs p ≡ true
 has [] h p i e = absurd i
 has (f ∷ fs) h p (inl i) e = rw (text_true p f.0 (sym e ∙ ap (λ (x : File). x.0) i)) refl
-has (f ∷ fs) h p (inr i) e = elim (text_eq p f.0) as (λ b. is_some (cond b (Some f.1) (lookup (text_eq p) fs)) ≡ true) [ true ↦ refl | false ↦ has fs h p i e ]
+has (f ∷ fs) h p (inr i) e = elim (text_eq p f.0) as (λ b. is_some (cond b (Some f.1) (lookup (text_eq p) fs)) ≡ true)
+    [ true ↦ refl | false ↦ has fs h p i e ]
 
 before_apart : (before fs : List File) (h g : File) → AreFiles before fs → IsIn h before → IsIn g fs → h.0 ≡ g.0 → ⊥
 before_apart before [] h g a i k e = absurd k
@@ -29,7 +51,11 @@ given_in before (h ∷ fs) f a (inr i) = given_in (before ++ h ∷ []) fs f a.2 
 
 apart_from : (before fs : List File) → AreFiles before fs → ApartFiles fs
 apart_from before [] h = tt
-apart_from before (f ∷ fs) h = (λ g i e. before_apart (before ++ f ∷ []) fs f g h.2 (in_last f before) i e, apart_from (before ++ f ∷ []) fs h.2)
+apart_from before (f ∷ fs) h = (
+  λ g i e. before_apart (before ++ f ∷ []) fs f g h.2 (in_last f before) i e,
+  apart_from (before ++ f ∷ []) fs
+      h.2,
+)
 
 -- ---- the files of an attempt
 
@@ -43,7 +69,8 @@ pub record IsDeclared (tasks : ℕ) (fs : List File) (a : Who) : Type 0 where
 abbrev pub written : Script → Who → List File
 written w a = unwrap_or (lookup (same_name a) w.attempts) []
 
-declared_in : (tasks : ℕ) (before es : List Declared) (a : Who) (f : File) → AreAttempts tasks before es → IsIn f (unwrap_or (lookup (same_name a) es) []) → IsDeclared tasks (unwrap_or (lookup (same_name a) es) []) a
+declared_in : (tasks : ℕ) (before es : List Declared) (a : Who) (f : File) → AreAttempts tasks before es
+    → IsIn f (unwrap_or (lookup (same_name a) es) []) → IsDeclared tasks (unwrap_or (lookup (same_name a) es) []) a
 declared_in tasks before [] a f h i = absurd i
 declared_in tasks before (e ∷ es) a f h i = by (same_name a e.0) refl i (declared_in tasks (before ++ e ∷ []) es a f h.4)
   where
@@ -58,7 +85,8 @@ declared_in tasks before (e ∷ es) a f h i = by (same_name a e.0) refl i (decla
     by false s k old = old k
 
 pub files_are : (w : Script) (a : Who) → files w a ≡ placed w.unique w.job (written w a)
-files_are w a = elim (lookup (same_name a) w.attempts) as (λ o. unwrap_or (option_map (placed w.unique w.job) o) [] ≡ placed w.unique w.job (unwrap_or o [])) [ None ↦ refl | Some fs ↦ refl ]
+files_are w a = elim (lookup (same_name a) w.attempts) as (λ o. unwrap_or (option_map (placed w.unique w.job) o) [] ≡ placed w.unique w.job
+    (unwrap_or o [])) [ None ↦ refl | Some fs ↦ refl ]
 
 -- a file of an attempt is one that the script gives it, at its path
 pub record FromScript (w : Script) (a : Who) (f : File) : Type 0 where
@@ -108,7 +136,8 @@ pub same_file : {w : Script} → IsLegal w → (a : Who) (f g : File) → IsIn f
 same_file {w = w} j a f g i k e = one_of (files w a) (files_apart j a) f g i k e
 
 pub given_of : {w : Script} → IsLegal w → (a : Who) (f : File) → (i : IsIn f (files w a)) → IsGiven (from_script w a f i).given.0
-given_of {w = w} j a f i = let g = from_script w a f i in given_in [] (written w a) g.given (declared_in w.tasks [] w.attempts a g.given j.attempts g.one).files g.one
+given_of {w = w} j a f i = let g = from_script w a f i in given_in [] (written w a) g.given
+    (declared_in w.tasks [] w.attempts a g.given j.attempts g.one).files g.one
 
 -- ---- of the magic committer they are at the paths that the script gives
 
@@ -118,7 +147,8 @@ plain_names c m u h g = grind arith
 pub given : {w : Script} → IsLegal w → is_magic w.committer ≡ true → (a : Who) (f : File) → IsIn f (files w a) → IsGiven f.0
 given {w = w} j magic a f i =
     let g = from_script w a f i in
-    let path : f.0 ≡ g.given.0 = ap (λ (x : File). x.0) g.is ∙ ap (λ u. path_of u w.job g.given.0) (plain_names w.committer w.mode w.unique magic j.magic) in
+    let path : f.0 ≡ g.given.0 = ap (λ (x : File). x.0) g.is ∙ ap (λ u. path_of u w.job g.given.0)
+    (plain_names w.committer w.mode w.unique magic j.magic) in
     subst IsGiven (sym path) (given_in [] (written w a) g.given (declared_in w.tasks [] w.attempts a g.given j.attempts g.one).files g.one)
 
 pub no_record : {w : Script} → IsLegal w → is_magic w.committer ≡ true → (a : Who) (f : File) → IsIn f (files w a) → is_record f.0 ≡ false

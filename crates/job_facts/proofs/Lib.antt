@@ -47,4 +47,3 @@ pub mod Suffix
 pub mod Spares
 pub mod Learning
 pub mod Sharing
-mod Common

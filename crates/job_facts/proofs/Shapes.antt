@@ -1,20 +1,45 @@
 -- What each request leaves of a store and of the cluster's files, told at keys, ids and paths.
-use Rattle.job_facts.proofs.Common.{AbortUpload, Bool, BucketContent, Content, CreateUpload, Draws, HasBucket, IsIn, List, None, Object, Option, PageEntry, PutObject, Puts, Reply, Request, Scene, Script, Some, Turns, Upload, UploadPart, [], answer, answer_at, answer_in, ap, apply, apply_at, arith, at_id, at_key, begins, bucket_of, cond, end_left, false, in_append, in_back, in_front, inl, inr, is_lt, keys_on, last_append, last_from, last_of, length, listed, live, nat_gone, nat_here, nat_left, nat_lt, nat_other, object_in, page_after, page_all, page_begins, page_covers, part_left, part_others, part_put, refl, subst, sym, take, text_cmp, text_eq, text_here, text_other, true, upload_in, walked, walked_by, with_bucket, with_key, with_objects, with_uploads, ℕ, ◌++◌, ◌+◌, ◌∙◌, ◌∷◌, ◌≡◌, ◌⊎◌}
-use Rattle.job_model.specs.Prelude.{Uploads, aborted}
+use Rattle.basics.proofs.Members.{in_append, in_back, in_front, nat_gone, nat_here, nat_left, nat_other, text_here, text_other}
+use Rattle.basics.specs.Members.{IsIn, last_from}
+use Rattle.basics.specs.Order.{text_cmp, text_eq}
+use Rattle.job_facts.specs.Stores.{Draws, Puts, Turns, at_id, at_key, end_left, part_left}
+use Rattle.job_model.specs.JobScript.{Script}
+use Rattle.job_protocol.specs.Scope.{upload_in}
+use Rattle.job_protocol.specs.View.{object_in}
+use Rattle.list_walk.specs.Walks.{keys_on, last_of, page_after, walked, walked_by}
+use Rattle.s3_types.specs.Answer.{aborted, answer, answer_at, answer_in, apply, apply_at, bucket_of, part_put, with_objects, with_uploads}
+use Rattle.s3_types.specs.Multipart.{live, with_key}
+use Rattle.s3_types.specs.Pages.{begins, listed}
+use Rattle.s3_types.specs.Store.{BucketContent, Content, Scene, Upload, Uploads}
+use Rattle.s3_types.specs.declared.object.Object.{Object}
+use Rattle.s3_types.specs.declared.reply.PageEntry.{PageEntry}
+use Rattle.s3_types.specs.declared.reply.Reply.{Reply}
+use Rattle.s3_types.specs.declared.request.Request.{Request}
+use Rattle.s3_types.specs.declared.request.Request.TheVariants.{AbortUpload, CreateUpload, PutObject, UploadPart}
+use Rattle.std.proofs.Common.{Bool, List, None, Option, Some, ap, arith, cond, false, inl, inr, length, nat_lt, refl, subst, sym, take}
+use Rattle.std.proofs.Common.{true, ℕ, [], ◌++◌, ◌+◌, ◌∙◌, ◌∷◌, ◌≡◌, ◌⊎◌}
+use Rattle.std.specs.Ordering.{is_lt}
+use Rattle.store_frame.proofs.Flat.{last_append, page_all, page_begins, page_covers}
+use Rattle.store_frame.proofs.Framed.{part_others, with_bucket}
+use Rattle.store_frame.specs.Held.{HasBucket}
 use Rattle.std.specs.FinMap as fin
 
 -- ---- a part, and an end, at its id and at others
 
-part_set : (m : Uploads) (id : ℕ) (u v : Upload) → fin.get m id ≡ Some u → (q : Bool) → fin.get (cond q (fin.insert m id v) m) id ≡ cond q (Some v) (Some u)
+part_set : (m : Uploads) (id : ℕ) (u v : Upload) → fin.get m id ≡ Some u → (q : Bool)
+    → fin.get (cond q (fin.insert m id v) m) id ≡ cond q (Some v) (Some u)
 part_set m id u v e true = nat_here m id id v refl
 part_set m id u v e false = e
 
-part_here : (key : List ℕ) (id number : ℕ) (bytes : List ℕ) (m : Uploads) (o : Option Upload) → fin.get m id ≡ o → fin.get (part_put m id (with_key key o) number bytes) id ≡ part_left key number bytes o
+part_here : (key : List ℕ) (id number : ℕ) (bytes : List ℕ) (m : Uploads) (o : Option Upload) → fin.get m id ≡ o
+    → fin.get (part_put m id (with_key key o) number bytes) id ≡ part_left key number bytes o
 part_here key id number bytes m o h = grind (arith, part_set)
 
-abort_here : (key : List ℕ) (id : ℕ) (m : Uploads) (o : Option Upload) → fin.get m id ≡ o → fin.get (aborted m id (with_key key o)) id ≡ end_left key o
+abort_here : (key : List ℕ) (id : ℕ) (m : Uploads) (o : Option Upload) → fin.get m id ≡ o
+    → fin.get (aborted m id (with_key key o)) id ≡ end_left key o
 abort_here key id m None e = e
-abort_here key id m (Some u) e = elim (text_eq u.key key) as (λ p. fin.get (aborted m id (cond p (Some u) None)) id ≡ cond p None (Some u)) [ true ↦ nat_gone m id id refl | false ↦ e ]
+abort_here key id m (Some u) e = elim (text_eq u.key key) as (λ p. fin.get (aborted m id (cond p (Some u) None)) id ≡ cond p None (Some u))
+    [ true ↦ nat_gone m id id refl | false ↦ e ]
 
 abort_others : (key : List ℕ) (id : ℕ) (m : Uploads) (o : Option Upload) (u : ℕ) → (u ≡ id → ⊥) → fin.get (aborted m id o) u ≡ fin.get m u
 abort_others key id m None u ne = refl
@@ -47,7 +72,8 @@ module _ (w : Script) (s : Scene) (b : BucketContent) (there : fin.get s.content
 
   -- ---- a put
 
-  pub puts : (key bytes : List ℕ) (header : Option ℕ) → Puts w s (apply s (PutObject w.dest.bucket key bytes header)) key (record { bytes = bytes; header = header })
+  pub puts : (key bytes : List ℕ) (header : Option ℕ)
+      → Puts w s (apply s (PutObject w.dest.bucket key bytes header)) key (record { bytes = bytes; header = header })
   puts key bytes header =
       let x : Object = record { bytes = bytes; header = header } in
       let d : BucketContent = with_objects b (fin.insert b.objects key x) in
@@ -81,7 +107,8 @@ module _ (w : Script) (s : Scene) (b : BucketContent) (there : fin.get s.content
   -- ---- an upload's part, and its end
 
   -- the uploads change at one id
-  turns_in : (uploads : Uploads) (id : ℕ) (x : Option Upload) → fin.get uploads id ≡ x → ((u : ℕ) → (u ≡ id → ⊥) → fin.get uploads u ≡ fin.get b.uploads u)
+  turns_in : (uploads : Uploads) (id : ℕ) (x : Option Upload) → fin.get uploads id ≡ x
+      → ((u : ℕ) → (u ≡ id → ⊥) → fin.get uploads u ≡ fin.get b.uploads u)
       → Turns w s (with_store s (with_bucket s.content w.dest.bucket (with_uploads b uploads) s.content.next)) id x
   turns_in uploads id x h others =
       let d : BucketContent = with_uploads b uploads in
@@ -95,14 +122,17 @@ module _ (w : Script) (s : Scene) (b : BucketContent) (there : fin.get s.content
         files = refl;
       }
 
-  pub part_turns : (key : List ℕ) (id number : ℕ) (bytes : List ℕ) → Turns w s (apply s (UploadPart w.dest.bucket key id number bytes)) id (part_left key number bytes (at_id w s.content id))
+  pub part_turns : (key : List ℕ) (id number : ℕ) (bytes : List ℕ)
+      → Turns w s (apply s (UploadPart w.dest.bucket key id number bytes)) id (part_left key number bytes (at_id w s.content id))
   part_turns key id number bytes =
-      subst (λ d. Turns w s (with_store s d) id (part_left key number bytes (at_id w s.content id))) (sym (store_is (UploadPart w.dest.bucket key id number bytes)))
+      subst (λ d. Turns w s (with_store s d) id (part_left key number bytes (at_id w s.content id)))
+      (sym (store_is (UploadPart w.dest.bucket key id number bytes)))
       (turns_in (part_put b.uploads id (live b.uploads key id) number bytes) id _
       (part_here key id number bytes b.uploads (fin.get b.uploads id) refl ∙ ap (part_left key number bytes) (sym (id_before id)))
       (part_others key id number bytes b.uploads (live b.uploads key id)))
 
-  pub abort_turns : (key : List ℕ) (id : ℕ) → Turns w s (apply s (AbortUpload w.dest.bucket key id)) id (end_left key (at_id w s.content id))
+  pub abort_turns : (key : List ℕ) (id : ℕ) → Turns w s (apply s (AbortUpload w.dest.bucket key id)) id
+      (end_left key (at_id w s.content id))
   abort_turns key id =
       subst (λ d. Turns w s (with_store s d) id (end_left key (at_id w s.content id))) (sym (store_is (AbortUpload w.dest.bucket key id)))
       (turns_in (aborted b.uploads id (live b.uploads key id)) id _
@@ -111,7 +141,9 @@ module _ (w : Script) (s : Scene) (b : BucketContent) (there : fin.get s.content
 
   -- ---- answers
 
-  pub answer_is : (r : Request) → bucket_of r ≡ w.dest.bucket → answer_at (fin.get s.content.buckets (bucket_of r)) s.content.next s.content.minimum r ≡ answer_in b s.content.next s.content.minimum r
+  pub answer_is : (r : Request) → bucket_of r ≡ w.dest.bucket
+      → answer_at (fin.get s.content.buckets (bucket_of r)) s.content.next s.content.minimum r ≡ answer_in b s.content.next
+      s.content.minimum r
   answer_is r e = ap (λ o. answer_at o s.content.next s.content.minimum r) (ap (fin.get s.content.buckets) e ∙ there)
 
 -- ---- a page of the keys below a prefix: what it adds to those that were listed before
@@ -133,11 +165,13 @@ module _ (w : Script) (s : Scene) (there : HasBucket s.content w.dest.bucket) (p
   abbrev pub more_keys : List (List ℕ)
   more_keys = keys ++ keys_on (take 1000 rest)
 
-  pub page_is : (x : Reply) → x ≡ answer s (page_after w.dest.bucket p keys) → walked keys x ≡ walked_by (nat_lt 1000 (length rest)) more_keys
+  pub page_is : (x : Reply) → x ≡ answer s (page_after w.dest.bucket p keys)
+      → walked keys x ≡ walked_by (nat_lt 1000 (length rest)) more_keys
   page_is x e = ap (walked keys) (e ∙ answer_is w s there.0 there.1 (page_after w.dest.bucket p keys) refl)
 
   -- what holds of the keys before and of those below the prefix holds of all of them
-  pub page_each : (Q : List ℕ → Type 0) → ((k : List ℕ) → begins p k ≡ true → Q k) → ((k : List ℕ) → IsIn k keys → Q k) → (k : List ℕ) → IsIn k more_keys → Q k
+  pub page_each : (Q : List ℕ → Type 0) → ((k : List ℕ) → begins p k ≡ true → Q k) → ((k : List ℕ) → IsIn k keys → Q k) → (k : List ℕ)
+      → IsIn k more_keys → Q k
   page_each Q below old k i = elim (in_append k keys (keys_on (take 1000 rest)) i) [
     | inl h ↦ old k h
     | inr h ↦ below k (page_begins 1000 p (last_of keys) k there.0.objects h).0
@@ -149,13 +183,15 @@ module _ (w : Script) (s : Scene) (there : HasBucket s.content w.dest.bucket) (p
     here = sym (key_before w s there.0 there.1 k) ∙ e
 
     -- is listed then, or comes behind what is
-    pub still_covered : IsIn k keys ⊎ (is_lt (text_cmp (last_of keys) k) ≡ true) → IsIn k more_keys ⊎ (is_lt (text_cmp (last_of more_keys) k) ≡ true)
+    pub still_covered : IsIn k keys ⊎ (is_lt (text_cmp (last_of keys) k) ≡ true) → IsIn k more_keys
+        ⊎ (is_lt (text_cmp (last_of more_keys) k) ≡ true)
     still_covered (inl i) = inl (in_front k keys (keys_on (take 1000 rest)) i)
     still_covered (inr l) = elim (page_covers 1000 p (last_of keys) k there.0.objects x here h l) [
       | inl i ↦ inl (in_back k keys (keys_on (take 1000 rest)) i)
       | inr g ↦
           let last : last_of more_keys ≡ last_from (last_of keys) (keys_on (take 1000 rest)) =
-          last_so more_keys ∙ last_append [] keys (keys_on (take 1000 rest)) ∙ ap (λ t. last_from t (keys_on (take 1000 rest))) (sym (last_so keys)) in
+          last_so more_keys ∙ last_append [] keys (keys_on (take 1000 rest)) ∙ ap (λ t. last_from t (keys_on (take 1000 rest)))
+          (sym (last_so keys)) in
           inr (ap (λ t. is_lt (text_cmp t k)) last ∙ g)
     ]
 

@@ -1,12 +1,26 @@
 -- Of the keys below a job's magic directory exactly those of records end as records do.
-use Rattle.job_facts.proofs.Common.{Bool, List, [], ap, append_assoc, arith, attempt_key, below, below_is, codes, decimal, drop, drop_at, false, false_true, inl, inr, is_record, length, length-append, nat_eq, or-true, refl, set_key, sym, take, take-append-drop, text_eq, text_equiv, text_is, true, ℕ, ◌++◌, ◌+◌, ◌-◌, ◌||◌, ◌∙◌, ◌∷◌, ◌≡◌, ◌≤◌, ◌⊎◌}
+use Rattle.basics.proofs.Members.{false_true, text_is}
+use Rattle.basics.specs.Order.{text_eq, text_equiv}
+use Rattle.magic_paths.proofs.Tails.{below_is}
+use Rattle.magic_paths.specs.Layout.{attempt_key, set_key}
+use Rattle.magic_paths.specs.Places.{is_record}
+use Rattle.path_keys.specs.Paths.{below}
+use Rattle.std.proofs.Common.{Bool, List, ap, append_assoc, arith, codes, drop, false, inl, inr, length, length-append, nat_eq, refl, sym}
+use Rattle.std.proofs.Common.{take, true, ℕ, [], ◌++◌, ◌+◌, ◌-◌, ◌||◌, ◌∙◌, ◌∷◌, ◌≡◌, ◌≤◌, ◌⊎◌}
+use Rattle.std.proofs.Math.Bool.{or-true}
+use Rattle.std.proofs.lemmas.List.{drop_at, take-append-drop}
+use Rattle.std.specs.Fmt.{decimal}
 
 abbrev ending : List ℕ
 ending = codes ".pending"
 
 -- what ends so is something before it, and it
 record_ends : (k : List ℕ) → is_record k ≡ true → (q : List ℕ) × (k ≡ q ++ ending)
-record_ends k h = let n = length k - length ending in (take n k, sym (take-append-drop n k) ∙ ap (λ l. take n k ++ l) (sym (text_is ending (drop n k) h)))
+record_ends k h = let n = length k - length ending in (
+  take n k,
+  sym (take-append-drop n k) ∙ ap (λ l. take n k ++ l)
+      (sym (text_is ending (drop n k) h)),
+)
 
 ends_record : (p r : List ℕ) → p ≡ r ++ ending → is_record p ≡ true
 ends_record p r e =
@@ -57,13 +71,18 @@ set_no_record dest job t g =
     let x = record_ends (set_key dest job t) g in
     let front = dest ++ (codes "/__magic/job-" ++ (job ++ (codes "/sets/task_" ++ decimal t))) in
     let whole : set_key dest job t ≡ front ++ codes ".pendingset" = sym (simp append_assoc) in
-    let same : ◌≡◌ {A = ℕ} 116 103 = sym (last_behind front 46 (codes "pendingset")) ∙ ap last_byte (sym whole ∙ x.1) ∙ last_behind x.0 46 (codes "pending") in
+    let same : ◌≡◌ {A = ℕ} 116 103 = sym (last_behind front 46 (codes "pendingset")) ∙ ap last_byte (sym whole ∙ x.1) ∙ last_behind x.0 46
+    (codes "pending") in
     absurd (omega arith)
 
-pub marker_no_record : (dest job : List ℕ) (t a : ℕ) (p : List ℕ) → 1 ≤ length dest → is_record p ≡ false → is_record (below (attempt_key dest job t a) p) ≡ true → ⊥
+pub marker_no_record : (dest job : List ℕ) (t a : ℕ) (p : List ℕ) → 1 ≤ length dest → is_record p ≡ false
+    → is_record (below (attempt_key dest job t a) p) ≡ true → ⊥
 marker_no_record dest job t a p h g e = grind (arith, below_record, below_is)
 
-pub record_ends_so : (dest job : List ℕ) (t a : ℕ) (p : List ℕ) → 1 ≤ length dest → is_record (below (attempt_key dest job t a) (p ++ codes ".pending")) ≡ true
+pub record_ends_so : (dest job : List ℕ) (t a : ℕ) (p : List ℕ) → 1 ≤ length dest
+    → is_record (below (attempt_key dest job t a) (p ++ codes ".pending")) ≡ true
 record_ends_so dest job t a p some =
     let long : 1 ≤ length (attempt_key dest job t a) = simp length-append (omega (arith, some)) in
-    ends_record (below (attempt_key dest job t a) (p ++ codes ".pending")) (attempt_key dest job t a ++ 47 ∷ p) (below_is (attempt_key dest job t a) (p ++ codes ".pending") long ∙ sym (append_assoc (attempt_key dest job t a) (47 ∷ p) (codes ".pending")))
+    ends_record (below (attempt_key dest job t a) (p ++ codes ".pending")) (attempt_key dest job t a ++ 47 ∷ p)
+    (below_is (attempt_key dest job t a) (p ++ codes ".pending") long ∙ sym
+    (append_assoc (attempt_key dest job t a) (47 ∷ p) (codes ".pending")))

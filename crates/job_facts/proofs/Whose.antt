@@ -1,5 +1,8 @@
 -- Attempts that are the same or not, and functions of them.
-use Rattle.job_facts.proofs.Common.{Option, Some, Who, ap, arith, cond, false, false_true, inl, inr, nat_true, put_who, refl, same_name, sym, true, true_or_false, ℕ, ◌∙◌, ◌≡◌, ◌⊎◌}
+use Rattle.basics.proofs.Members.{false_true, nat_true, true_or_false}
+use Rattle.job_facts.specs.Told.{put_who}
+use Rattle.job_model.specs.Attempts.{Who, same_name}
+use Rattle.std.proofs.Common.{Option, Some, ap, arith, cond, false, inl, inr, refl, sym, true, ℕ, ◌∙◌, ◌≡◌, ◌⊎◌}
 
 abbrev pub attempt : ℕ → ℕ → Who
 attempt t n = record { task = t; attempt = n }
@@ -33,5 +36,6 @@ who_same {X = X} f a v e = λ i b. at b i
     at b = elim (same_or_another b a) [ inl h ↦ who_here f a v b h ∙ e ∙ ap f (sym h) | inr ne ↦ who_other f a v b ne ]
 
 -- what is so of one attempt's new value and of the others' old ones is so of all
-pub put_at : {X : Type 0} (P : Who → X → Type 0) (f : Who → Option X) (a : Who) (x : X) → P a x → ((b : Who) (v : X) → f b ≡ Some v → P b v) → (b : Who) (v : X) → put_who f a (Some x) b ≡ Some v → P b v
+pub put_at : {X : Type 0} (P : Who → X → Type 0) (f : Who → Option X) (a : Who) (x : X) → P a x → ((b : Who) (v : X) → f b ≡ Some v → P b v)
+    → (b : Who) (v : X) → put_who f a (Some x) b ≡ Some v → P b v
 put_at P f a x h g b v e = grind arith

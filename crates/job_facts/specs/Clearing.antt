@@ -1,13 +1,27 @@
 -- How far the driver's abort or clean of the job has come with what is to go, while nobody else sends.
-use Rattle.std.specs.Prelude.{List, None, Some, true, ℕ, ◌∷◌, ◌≡◌, ◌⊎◌}
-use Rattle.job_protocol.specs.Prelude.{Aborting, Clean, CleanOver, Content, IsIn, Naming, NoneLive, NothingLeft, Outcome, Removing, Request, Retried, Scene, Script, Upload, UploadRef, Walking, answer, begins, clean_asks, dest_prefix, effect, is_magic, is_staging, last_ref, step}
-use Rattle.store_frame.specs.Prelude.{HasBucket, is_behind}
-use Rattle.job_protocol.specs.Cleanups.{Sweeping, clean_after, clean_start}
-use Rattle.job_facts.specs.Stores.{at_id}
+use Rattle.basics.specs.Members.{IsIn}
 use Rattle.job_facts.specs.Driver.{FitsSweep}
 use Rattle.job_facts.specs.Emptying.{Empties}
+use Rattle.job_facts.specs.Stores.{at_id}
+use Rattle.job_model.specs.JobScript.{Script}
+use Rattle.job_protocol.specs.Cleanups.{Aborting, Clean, CleanOver, Naming, Removing, Sweeping, Walking, clean_after, clean_asks}
+use Rattle.job_protocol.specs.Cleanups.{clean_start}
+use Rattle.job_protocol.specs.Scope.{NoneLive, NothingLeft}
+use Rattle.job_protocol.specs.Seen.{is_magic, is_staging}
+use Rattle.job_protocol.specs.Setup.{dest_prefix}
+use Rattle.list_walk.specs.Walks.{last_ref}
 use Rattle.magic_paths.specs.Layout.{cluster_prefix}
-use Rattle.retries.specs.Prelude.{IsHonestOutcome}
+use Rattle.retries.specs.Retries.{Retried, step}
+use Rattle.s3_types.specs.Answer.{answer}
+use Rattle.s3_types.specs.Moment.{IsHonestOutcome, effect}
+use Rattle.s3_types.specs.Multipart.{is_behind}
+use Rattle.s3_types.specs.Pages.{begins}
+use Rattle.s3_types.specs.Store.{Content, Scene, Upload}
+use Rattle.s3_types.specs.declared.journal.Outcome.{Outcome}
+use Rattle.s3_types.specs.declared.request.Request.{Request}
+use Rattle.s3_types.specs.declared.request.UploadRef.{UploadRef}
+use Rattle.std.specs.Prelude.{List, None, Some, true, ℕ, ◌∷◌, ◌≡◌, ◌⊎◌}
+use Rattle.store_frame.specs.Held.{HasBucket}
 use Rattle.std.specs.FinMap as fin
 use Rattle.job_model.specs.declared.ends.CleanEnd.TheVariants as ends
 
@@ -21,7 +35,8 @@ LiveIn w c found = (id : ℕ) (u : Upload) → at_id w c id ≡ Some u → begin
 
 -- the live uploads below the destination are among these, or come behind the last of them
 abbrev pub LiveOrBehind : Script → Content → List UploadRef → Type 0
-LiveOrBehind w c found = (id : ℕ) (u : Upload) → at_id w c id ≡ Some u → begins (dest_prefix w) u.key ≡ true → IsIn (ref_at id u) found ⊎ (is_behind (last_ref None found) (ref_at id u) ≡ true)
+LiveOrBehind w c found = (id : ℕ) (u : Upload) → at_id w c id ≡ Some u → begins (dest_prefix w) u.key ≡ true → IsIn (ref_at id u) found
+    ⊎ (is_behind (last_ref None found) (ref_at id u) ≡ true)
 
 -- the job's files in the cluster are among these
 abbrev pub FilesIn : Script → Scene → List (List ℕ) → Type 0
@@ -31,7 +46,8 @@ FilesIn w s paths = (p bytes : List ℕ) → fin.get s.files p ≡ Some bytes �
 abbrev pub Clears : Script → Scene → Clean → Type 0
 Clears w s (Walking found) = HasBucket s.content w.dest.bucket × LiveOrBehind w s.content found
 Clears w s (Aborting u us) = HasBucket s.content w.dest.bucket × LiveIn w s.content (u ∷ us)
-Clears w s (Sweeping t) = (is_magic w.committer ≡ true) × NoneLive w s.content × HasBucket s.content w.dest.bucket × FitsSweep w t × Empties w s.content t
+Clears w s (Sweeping t) = (is_magic w.committer ≡ true) × NoneLive w s.content × HasBucket s.content w.dest.bucket × FitsSweep w t
+    × Empties w s.content t
 Clears w s Naming = (is_staging w.committer ≡ true) × NoneLive w s.content
 Clears w s (Removing p ps) = (is_staging w.committer ≡ true) × NoneLive w s.content × FilesIn w s (p ∷ ps)
 Clears w s (CleanOver end) = end ≡ ends.Done → NothingLeft w.committer w s
@@ -39,6 +55,7 @@ Clears w s (CleanOver end) = end ≡ ends.Done → NothingLeft w.committer w s
 -- an abort or clean of the job, for every committer, from any store that has the bucket
 pub record CleanClears : Type 0 where
   pub begins : (w : Script) (s : Scene) → HasBucket s.content w.dest.bucket → Clears w s clean_start
-  pub goes : (w : Script) (s : Scene) (retries : ℕ) (t : Retried Clean) → Clears w s t.operation → (r : Request) → clean_asks w t.operation ≡ Some r → (o : Outcome) → IsHonestOutcome o (answer s r)
+  pub goes : (w : Script) (s : Scene) (retries : ℕ) (t : Retried Clean) → Clears w s t.operation → (r : Request)
+      → clean_asks w t.operation ≡ Some r → (o : Outcome) → IsHonestOutcome o (answer s r)
       → Clears w (effect s r o) (step retries (clean_after w) t o).operation
   pub done : (w : Script) (s : Scene) → Clears w s (CleanOver ends.Done) → NothingLeft w.committer w s

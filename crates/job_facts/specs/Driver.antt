@@ -1,10 +1,22 @@
 -- How far the driver's commit, and its abort or clean of the job, have come.
-use Rattle.std.specs.Prelude.{◌≡◌, ℕ, ◌<◌, ◌≤◌, Bool, true, List, [], ◌∷◌, length, slice_get, Some}
-use Rattle.job_protocol.specs.Prelude.{PendingSet, Sweep, Listing, Deleting, begins, Request, UploadRef, IsIn, File, Who, Script, Drawn, files_set, Sets, Commit, Fetching, Replacing, Completing, Marking, Reverting, CommitOver, is_no_magic, dest_prefix, Clean, Walking, Aborting, Naming, Removing, CleanOver}
-use Rattle.job_protocol.specs.Cleanups.{Sweeping}
-use Rattle.job_facts.specs.Foreign.{IsDriving}
+use Rattle.basics.specs.Members.{IsIn}
 use Rattle.job_facts.specs.Facts.{AreCommits, knowing}
-use Rattle.magic_paths.specs.Layout.{magic_prefix, cluster_prefix}
+use Rattle.job_facts.specs.Foreign.{IsDriving}
+use Rattle.job_model.specs.Attempts.{Who}
+use Rattle.job_model.specs.Files.{File}
+use Rattle.job_model.specs.JobScript.{Script}
+use Rattle.job_model.specs.Known.{Drawn}
+use Rattle.job_protocol.specs.Cleanups.{Aborting, Clean, CleanOver, Naming, Removing, Sweeping, Walking}
+use Rattle.job_protocol.specs.JobCommits.{Commit, CommitOver, Completing, Fetching, Marking, Replacing, Reverting, Sets, is_no_magic}
+use Rattle.job_protocol.specs.Records.{files_set}
+use Rattle.job_protocol.specs.Setup.{dest_prefix}
+use Rattle.list_walk.specs.Walks.{Deleting, Listing, Sweep}
+use Rattle.magic_paths.specs.Layout.{cluster_prefix, magic_prefix}
+use Rattle.pending_json.specs.declared.records.PendingSet.{PendingSet}
+use Rattle.s3_types.specs.Pages.{begins}
+use Rattle.s3_types.specs.declared.request.Request.{Request}
+use Rattle.s3_types.specs.declared.request.UploadRef.{UploadRef}
+use Rattle.std.specs.Prelude.{Bool, List, Some, length, slice_get, true, ℕ, [], ◌<◌, ◌∷◌, ◌≡◌, ◌≤◌}
 
 -- keys below a prefix
 abbrev pub AllUnder : List ℕ → List (List ℕ) → Type 0
@@ -31,7 +43,8 @@ SweepsUnder p (Deleting q qs) = AllUnder p (q ∷ qs)
 abbrev pub FitsSweep : Script → Sweep → Type 0
 FitsSweep w t = SweepsUnder (magic_prefix w.dest.key w.job) t
 
--- behind its first page it has begun to clean up, and all that it has found is below the destination, in the job's magic directory or the job's in the cluster
+-- behind its first page it has begun to clean up, and all that it has found is below the destination, in the job's magic directory or the
+-- job's in the cluster
 abbrev pub FitsClean : Script → Bool → Clean → Type 0
 FitsClean w cleaned (Walking found) = AllBelow w found
 FitsClean w cleaned (Aborting u us) = (cleaned ≡ true) × AllBelow w (u ∷ us)
@@ -69,7 +82,8 @@ AllDriving w (r ∷ rs) = IsDriving w r × AllDriving w rs
 -- how far a job's commit has come: the sets that it holds are those that were published
 abbrev pub FitsJobCommit : Script → ℕ → (Who → Bool) → (Who → List Drawn) → Commit → Type 0
 FitsJobCommit w minimum sent drawn (Fetching sets n) = (length sets < w.tasks) × Reads w minimum sent drawn sets
-FitsJobCommit w minimum sent drawn (Replacing sets p ps s n) = Reads w minimum sent drawn sets × AllUnder (dest_prefix w) (p ∷ ps) × FitsReplace w s
+FitsJobCommit w minimum sent drawn (Replacing sets p ps s n) = Reads w minimum sent drawn sets × AllUnder (dest_prefix w) (p ∷ ps)
+    × FitsReplace w s
 FitsJobCommit w minimum sent drawn (Completing sets x xs finished) = Reads w minimum sent drawn sets
 FitsJobCommit w minimum sent drawn (Marking sets n) = Reads w minimum sent drawn sets
 FitsJobCommit w minimum sent drawn (Reverting r rs n) = AllDriving w (r ∷ rs)

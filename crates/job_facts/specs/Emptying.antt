@@ -1,10 +1,19 @@
 -- How far a sweep of the job's magic directory has come, while none but the driver changes it; and the set-up, which begins with one.
-use Rattle.std.specs.Prelude.{Bool, List, Some, [], true, ℕ, ◌∷◌, ◌≡◌, ◌⊎◌}
-use Rattle.job_protocol.specs.Prelude.{Content, Deleting, Heading, IsIn, Listing, Object, Script, Setup, SetupOver, Sweep, Sweeping, all_go, begins, is_lt, is_magic, last_of, text_cmp}
-use Rattle.store_frame.specs.Prelude.{HasBucket}
-use Rattle.job_facts.specs.Stores.{at_key}
+use Rattle.basics.specs.Members.{IsIn}
+use Rattle.basics.specs.Order.{text_cmp}
 use Rattle.job_facts.specs.Driver.{FitsSweep}
+use Rattle.job_facts.specs.Stores.{at_key}
+use Rattle.job_model.specs.JobScript.{Script}
+use Rattle.job_protocol.specs.Seen.{is_magic}
+use Rattle.job_protocol.specs.Setup.{Heading, Setup, SetupOver, Sweeping}
+use Rattle.list_walk.specs.Walks.{Deleting, Listing, Sweep, all_go, last_of}
 use Rattle.magic_paths.specs.Layout.{magic_prefix}
+use Rattle.s3_types.specs.Pages.{begins}
+use Rattle.s3_types.specs.Store.{Content}
+use Rattle.s3_types.specs.declared.object.Object.{Object}
+use Rattle.std.specs.Ordering.{is_lt}
+use Rattle.std.specs.Prelude.{Bool, List, Some, true, ℕ, [], ◌∷◌, ◌≡◌, ◌⊎◌}
+use Rattle.store_frame.specs.Held.{HasBucket}
 use Rattle.job_model.specs.declared.ends.SetupEnd.TheVariants as ends
 
 -- what stands below a prefix and is to go has one of these keys
@@ -13,7 +22,8 @@ OnlyThose w p goes c keys = (k : List ℕ) (x : Object) → begins p k ≡ true 
 
 -- what stands below a prefix and is to go has one of these keys, or one behind the last of them
 abbrev pub ThoseOrBehind : Script → List ℕ → (List ℕ → Bool) → Content → List (List ℕ) → Type 0
-ThoseOrBehind w p goes c keys = (k : List ℕ) (x : Object) → begins p k ≡ true → goes k ≡ true → at_key w c k ≡ Some x → IsIn k keys ⊎ (is_lt (text_cmp (last_of keys) k) ≡ true)
+ThoseOrBehind w p goes c keys = (k : List ℕ) (x : Object) → begins p k ≡ true → goes k ≡ true → at_key w c k ≡ Some x → IsIn k keys
+    ⊎ (is_lt (text_cmp (last_of keys) k) ≡ true)
 
 -- how far a sweep below a prefix has come
 abbrev pub EmptiesBy : Script → List ℕ → (List ℕ → Bool) → Content → Sweep → Type 0
@@ -28,7 +38,8 @@ OnlyThese w c keys = OnlyThose w (magic_prefix w.dest.key w.job) all_go c keys
 abbrev pub Empties : Script → Content → Sweep → Type 0
 Empties w c t = EmptiesBy w (magic_prefix w.dest.key w.job) all_go c t
 
--- the bucket is there, and behind its first requests a set-up of the magic committer empties the job's directory; where it ends Done nothing stands there
+-- the bucket is there, and behind its first requests a set-up of the magic committer empties the job's directory; where it ends Done
+-- nothing stands there
 abbrev pub SetsUp : Script → Content → Setup → Type 0
 SetsUp w c Heading = Unit {0}
 SetsUp w c (Sweeping t) = HasBucket c w.dest.bucket × FitsSweep w t × Empties w c t

@@ -1,13 +1,23 @@
 -- What holds of one job's store, of the cluster and of what its attempts know, from the end of its set-up on, whatever strangers send.
-use Rattle.std.specs.Prelude.{Bool, List, Option, Some, [], false, length, map, slice_get, suc, take, true, ℕ, ◌<◌, ◌∷◌, ◌≡◌, ◌≤◌}
-use Rattle.store_frame.specs.Prelude.{HasBucket}
-use Rattle.s3_types.specs.Tags.{plain_tag}
-use Rattle.job_facts.specs.Told.{Told}
+use Rattle.basics.specs.Members.{IsIn}
 use Rattle.job_facts.specs.Stores.{at_id, at_key, at_path, at_place, sets_at}
-use Rattle.job_protocol.specs.Prelude.{Drawn, File, IsIn, Known, Object, Scene, Script, Seen, Upload, Who, begins, file_key, file_parts, files, is_magic, is_staging, record_text, set_text}
-use Rattle.magic_paths.specs.Places.{ClusterPlace, MarkerPlace, Place, RecordPlace, SetPlace, TemporaryPlace, key_at}
+use Rattle.job_facts.specs.Told.{Told}
+use Rattle.job_model.specs.Attempts.{Who}
+use Rattle.job_model.specs.Files.{File}
+use Rattle.job_model.specs.JobScript.{Script}
+use Rattle.job_model.specs.Known.{Drawn, Known}
+use Rattle.job_protocol.specs.Outputs.{files}
+use Rattle.job_protocol.specs.Records.{file_key, record_text, set_text}
+use Rattle.job_protocol.specs.Seen.{Seen, is_magic, is_staging}
+use Rattle.job_protocol.specs.Uploading.{file_parts}
 use Rattle.magic_paths.specs.Layout.{magic_prefix}
-use Rattle.s3_types.specs.Prelude.{Parts}
+use Rattle.magic_paths.specs.Places.{ClusterPlace, MarkerPlace, Place, RecordPlace, SetPlace, TemporaryPlace, key_at}
+use Rattle.s3_types.specs.Pages.{begins}
+use Rattle.s3_types.specs.Store.{Parts, Scene, Upload}
+use Rattle.s3_types.specs.Tags.{plain_tag}
+use Rattle.s3_types.specs.declared.object.Object.{Object}
+use Rattle.std.specs.Prelude.{Bool, List, Option, Some, false, length, map, slice_get, suc, take, true, ℕ, [], ◌<◌, ◌∷◌, ◌≡◌, ◌≤◌}
+use Rattle.store_frame.specs.Held.{HasBucket}
 use Rattle.std.specs.FinMap as fin
 
 -- an attempt of one of the job's tasks, with a number that a script may give
@@ -37,8 +47,10 @@ pub record IsHeld (w : Script) (minimum : ℕ) (uploads : ℕ → Option Upload)
   -- the parts that came back are there
   pub back : (i : ℕ) → i < length d.tags → (b : List ℕ) × (fin.get parts (suc i) ≡ Some b)
 
--- a known upload is of a file of its attempt, with the tags and sizes of the file's first blocks, and is held until the driver has ended it or its attempt takes back what it did
-pub record IsOwned (w : Script) (minimum : ℕ) (uploads : ℕ → Option Upload) (ended : ℕ → Bool) (undone : Who → Bool) (a : Who) (d : Drawn) : Type 0 where
+-- a known upload is of a file of its attempt, with the tags and sizes of the file's first blocks, and is held until the driver has ended it
+-- or its attempt takes back what it did
+pub record IsOwned (w : Script) (minimum : ℕ) (uploads : ℕ → Option Upload) (ended : ℕ → Bool) (undone : Who → Bool) (a : Who) (d : Drawn) :
+    Type 0 where
   pub file : File
   pub mine : IsIn file (files w a)
   pub key : d.key ≡ file_key w file
@@ -67,7 +79,8 @@ pub record IsRecord (w : Script) (minimum : ℕ) (ds : List Drawn) (a : Who) (f 
 
 -- a record that stands is that of the upload which its attempt knows for the file
 abbrev pub Records : Script → ℕ → (Place → Option Object) → (Who → List Drawn) → Type 0
-Records w minimum objects drawn = (a : Who) (f : File) (x : Object) → IsIn f (files w a) → objects (RecordPlace a.task a.attempt f.0) ≡ Some x → IsRecord w minimum (drawn a) a f x
+Records w minimum objects drawn = (a : Who) (f : File) (x : Object) → IsIn f (files w a)
+    → objects (RecordPlace a.task a.attempt f.0) ≡ Some x → IsRecord w minimum (drawn a) a f x
 
 -- a place of the job below its magic directory
 abbrev pub IsOwnPlace : Script → Place → Type 0
@@ -78,7 +91,8 @@ IsOwnPlace w _ = ⊥
 
 -- each key that stands there is that of such a place
 abbrev pub Below : Script → (List ℕ → Option Object) → Type 0
-Below w objects = (k : List ℕ) (x : Object) → begins (magic_prefix w.dest.key w.job) k ≡ true → objects k ≡ Some x → (p : Place) × IsOwnPlace w p × (k ≡ key_at w.dest.key w.job p)
+Below w objects = (k : List ℕ) (x : Object) → begins (magic_prefix w.dest.key w.job) k ≡ true → objects k ≡ Some x → (p : Place)
+    × IsOwnPlace w p × (k ≡ key_at w.dest.key w.job p)
 
 -- ---- sets
 
@@ -99,7 +113,8 @@ abbrev pub knowing : List Drawn → Known
 knowing ds = record { drawn = ds; put_sent = false; publish_sent = false }
 
 -- bytes are the set of an attempt of the task, the last one that published, which has sent its publishing request
-pub record IsSet (w : Script) (minimum : ℕ) (last : ℕ → Option ℕ) (sent : Who → Bool) (drawn : Who → List Drawn) (t : ℕ) (bytes : List ℕ) : Type 0 where
+pub record IsSet (w : Script) (minimum : ℕ) (last : ℕ → Option ℕ) (sent : Who → Bool) (drawn : Who → List Drawn) (t : ℕ) (bytes : List ℕ) :
+    Type 0 where
   pub by : Who
   pub task : by.task ≡ t
   pub number : by.attempt ≤ 99
@@ -125,7 +140,8 @@ pub record IsTemporary (w : Script) (minimum : ℕ) (put : Bool) (ds : List Draw
 
 -- a staging attempt's temporary file, where it stands, is its set
 abbrev pub Temporaries : Script → ℕ → (ClusterPlace → Option (List ℕ)) → (Who → Bool) → (Who → List Drawn) → Type 0
-Temporaries w minimum paths put drawn = (a : Who) (bytes : List ℕ) → IsAttempt w a → paths (TemporaryPlace a.task a.attempt) ≡ Some bytes → IsTemporary w minimum (put a) (drawn a) a bytes
+Temporaries w minimum paths put drawn = (a : Who) (bytes : List ℕ) → IsAttempt w a → paths (TemporaryPlace a.task a.attempt) ≡ Some bytes
+    → IsTemporary w minimum (put a) (drawn a) a bytes
 
 -- who has sent its publishing request has sent no abort and no deletion
 abbrev pub Kept : (Who → Bool) → (Who → Bool) → Type 0

@@ -1,9 +1,29 @@
 -- The uploads of the sets that the driver holds, and what stands where their files go while its commit runs.
-use Rattle.std.specs.Prelude.{Bool, List, None, Option, Some, false, length, true, ℕ, ◌<◌, ◌∷◌, ◌≡◌, ◌≤◌, ◌⊎◌}
-use Rattle.job_protocol.specs.Prelude.{Aborting, Clean, Commit, CommitEnd, CommitOver, Completing, Content, DeleteObject, Drawn, Entry, Fetching, File, IsIn, IsWorn, Marking, Object, Pending, Replacing, Request, Reverting, Script, Sets, Upload, UploadRef, Walking, Who, abort, all_commits, below, deletion, file_record, files, picks_of, same_path, streak, wanted_at}
-use Rattle.job_facts.specs.Told.{Told}
-use Rattle.job_facts.specs.Stores.{at_id}
+use Rattle.basics.specs.Members.{IsIn}
 use Rattle.job_facts.specs.Facts.{IsWritten}
+use Rattle.job_facts.specs.Stores.{at_id}
+use Rattle.job_facts.specs.Told.{Told}
+use Rattle.job_model.specs.Attempts.{Who}
+use Rattle.job_model.specs.Files.{File}
+use Rattle.job_model.specs.JobScript.{Script}
+use Rattle.job_model.specs.Known.{Drawn}
+use Rattle.job_model.specs.declared.ends.CommitEnd.{CommitEnd}
+use Rattle.job_protocol.specs.Cleanups.{Aborting, Clean, Walking}
+use Rattle.job_protocol.specs.JobCommits.{Commit, CommitOver, Completing, Fetching, Marking, Replacing, Reverting, Sets, all_commits}
+use Rattle.job_protocol.specs.JobCommits.{picks_of}
+use Rattle.job_protocol.specs.Lanes.{abort, deletion}
+use Rattle.job_protocol.specs.Outputs.{files, same_path, wanted_at}
+use Rattle.job_protocol.specs.Records.{file_record}
+use Rattle.path_keys.specs.Paths.{below}
+use Rattle.pending_json.specs.Pending.{Pending}
+use Rattle.retries.specs.Worn.{IsWorn, streak}
+use Rattle.s3_types.specs.Store.{Content, Upload}
+use Rattle.s3_types.specs.declared.journal.Entry.{Entry}
+use Rattle.s3_types.specs.declared.object.Object.{Object}
+use Rattle.s3_types.specs.declared.request.Request.{Request}
+use Rattle.s3_types.specs.declared.request.Request.TheVariants.{DeleteObject}
+use Rattle.s3_types.specs.declared.request.UploadRef.{UploadRef}
+use Rattle.std.specs.Prelude.{Bool, List, None, Option, Some, false, length, true, ℕ, ◌<◌, ◌∷◌, ◌≡◌, ◌≤◌, ◌⊎◌}
 use Rattle.job_model.specs.declared.ends.CommitEnd.TheVariants as ends
 use Rattle.job_model.specs.declared.ends.Stage.TheVariants as stages
 
@@ -38,7 +58,8 @@ FoundWithKeys w c _ = Unit {0}
 
 -- each of these requests aborts such an upload, or deletes its file's key
 abbrev pub AreReverts : Script → ℕ → (Who → Bool) → (Who → List Drawn) → List Request → Type 0
-AreReverts w minimum sent drawn rs = (r : Request) → IsIn r rs → (p : Pending) × IsCommit w minimum sent drawn p × ((r ≡ abort p) ⊎ (r ≡ deletion p))
+AreReverts w minimum sent drawn rs = (r : Request) → IsIn r rs → (p : Pending) × IsCommit w minimum sent drawn p
+    × ((r ≡ abort p) ⊎ (r ≡ deletion p))
 
 -- all sets are read, and no two of their attempts write one path
 pub record AreDecided (w : Script) (sets : Sets) : Type 0 where
@@ -80,7 +101,8 @@ abbrev pub FileLeft : Script → List ℕ → List ℕ → Option Object → Lis
 FileLeft w q b first es now ends.Committed = now ≡ Some (whole_of b)
 FileLeft w q b first es now (ends.StoreFault stages.Success) = now ≡ Some (whole_of b)
 -- a file of the job is left only where its deletion wore out
-FileLeft w q b first es now (ends.StoreFault stages.Complete) = IsBefore first now ⊎ ((now ≡ Some (whole_of b)) × IsWorn w.retries (deletes w q) es)
+FileLeft w q b first es now (ends.StoreFault stages.Complete) = IsBefore first now
+    ⊎ ((now ≡ Some (whole_of b)) × IsWorn w.retries (deletes w q) es)
 FileLeft w q b first es now (ends.StoreFault stages.Delete) = IsBefore first now
 FileLeft w q b first es now _ = now ≡ first
 
@@ -90,8 +112,11 @@ abbrev pub FileStands : Script → List ℕ → List ℕ → Option Object → L
 FileStands w q b first es now ended (Fetching sets n) = now ≡ first
 FileStands w q b first es now ended (Replacing sets p ps s n) = IsBefore first now
 -- the whole file, where its upload is ended, and else what was there before
-FileStands w q b first es now ended (Completing sets x xs finished) = (p : Pending) → IsIn p (all_commits sets) → p.destination ≡ below w.dest.key q → ((ended p.upload ≡ true → now ≡ Some (whole_of b)) × (ended p.upload ≡ false → IsBefore first now))
+FileStands w q b first es now ended (Completing sets x xs finished) = (p : Pending) → IsIn p (all_commits sets)
+    → p.destination ≡ below w.dest.key q → ((ended p.upload ≡ true → now ≡ Some (whole_of b))
+    × (ended p.upload ≡ false → IsBefore first now))
 FileStands w q b first es now ended (Marking sets n) = now ≡ Some (whole_of b)
 -- a whole file is still to be deleted, or its deletion wore out
-FileStands w q b first es now ended (Reverting r rs n) = (n ≤ streak r es) × (IsBefore first now ⊎ ((now ≡ Some (whole_of b)) × (IsIn (deletes w q) (r ∷ rs) ⊎ IsWorn w.retries (deletes w q) es)))
+FileStands w q b first es now ended (Reverting r rs n) = (n ≤ streak r es)
+    × (IsBefore first now ⊎ ((now ≡ Some (whole_of b)) × (IsIn (deletes w q) (r ∷ rs) ⊎ IsWorn w.retries (deletes w q) es)))
 FileStands w q b first es now ended (CommitOver end) = FileLeft w q b first es now end

@@ -1,17 +1,34 @@
 -- The laws of what stands where the job's files go, and of uploads that are ended.
-use Rattle.std.specs.Prelude.{List, None, Option, Some, [], true, ℕ, ◌++◌, ◌<◌, ◌^◌, ◌∷◌, ◌≡◌, ◌≤◌}
-use Rattle.job_protocol.specs.Prelude.{Clean, Commit, CommitOver, Content, Entry, IsIn, IsLegal, IsWorn, Marking, Object, Operation, Outcome, Request, Retried, Scene, Script, Seen, Sets, Setting, Tabled, Who, answer, apply, asks, below, clean_asks, commit_asks, commit_start, commit_tells, effect, step}
-use Rattle.store_frame.specs.Prelude.{HasBucket, bucket_of, changed_keys}
-use Rattle.job_facts.specs.Told.{Told, driver_entry, entry, known, nothing_told, strange_entry, tell}
-use Rattle.job_facts.specs.Stores.{at_id, at_key}
-use Rattle.job_facts.specs.Facts.{Hold, IsAttempt}
-use Rattle.job_facts.specs.Fits.{Fits}
+use Rattle.basics.specs.Members.{IsIn}
 use Rattle.job_facts.specs.Driver.{FitsJobCommit}
-use Rattle.job_facts.specs.Turning.{NoneEnded, Turns}
+use Rattle.job_facts.specs.Facts.{Hold, IsAttempt}
 use Rattle.job_facts.specs.Filed.{Decides, FileStands, FoundWithKeys, Gone, IsBefore, Wants, deletes, whole_of}
-use Rattle.job_protocol.specs.Cleanups.{clean_after, clean_start}
+use Rattle.job_facts.specs.Fits.{Fits}
+use Rattle.job_facts.specs.Stores.{at_id, at_key}
+use Rattle.job_facts.specs.Told.{Told, driver_entry, entry, known, nothing_told, strange_entry, tell}
+use Rattle.job_facts.specs.Turning.{NoneEnded, Turns}
+use Rattle.job_model.specs.Attempts.{Who}
+use Rattle.job_model.specs.JobScript.{Script}
+use Rattle.job_model.specs.Legal.{IsLegal}
+use Rattle.job_protocol.specs.Cleanups.{Clean, clean_after, clean_asks, clean_start}
+use Rattle.job_protocol.specs.JobCommits.{Commit, CommitOver, Marking, Sets, commit_asks, commit_start, commit_tells}
+use Rattle.job_protocol.specs.LaneTable.{Tabled}
+use Rattle.job_protocol.specs.Operations.{Operation, Setting, asks}
+use Rattle.job_protocol.specs.Seen.{Seen}
 use Rattle.magic_paths.specs.Places.{is_open}
-use Rattle.retries.specs.Prelude.{IsHonestOutcome}
+use Rattle.path_keys.specs.Paths.{below}
+use Rattle.retries.specs.Retries.{Retried, step}
+use Rattle.retries.specs.Worn.{IsWorn}
+use Rattle.s3_types.specs.Answer.{answer, apply, bucket_of}
+use Rattle.s3_types.specs.Moment.{IsHonestOutcome, effect}
+use Rattle.s3_types.specs.Store.{Content, Scene}
+use Rattle.s3_types.specs.declared.journal.Entry.{Entry}
+use Rattle.s3_types.specs.declared.journal.Outcome.{Outcome}
+use Rattle.s3_types.specs.declared.object.Object.{Object}
+use Rattle.s3_types.specs.declared.request.Request.{Request}
+use Rattle.std.specs.Prelude.{List, None, Option, Some, true, ℕ, [], ◌++◌, ◌<◌, ◌^◌, ◌∷◌, ◌≡◌, ◌≤◌}
+use Rattle.store_frame.specs.Frame.{changed_keys}
+use Rattle.store_frame.specs.Held.{HasBucket}
 use Rattle.job_model.specs.declared.ends.CommitEnd.TheVariants as ends
 use Rattle.job_model.specs.declared.ends.Stage.TheVariants as stages
 
@@ -28,36 +45,48 @@ pub record Commits (w : Script) (minimum : ℕ) (s : Seen) (m : Told) (c : Commi
 
 -- an upload that is gone does not come back, whoever sends
 abbrev pub NeverBack : Type 0
-NeverBack = (w : Script) (s : Scene) → HasBucket s.content w.dest.bucket → (id : ℕ) → id < s.content.next → (r : Request) → at_id w s.content id ≡ None → at_id w (apply s r).content id ≡ None
+NeverBack = (w : Script) (s : Scene) → HasBucket s.content w.dest.bucket → (id : ℕ) → id < s.content.next → (r : Request)
+    → at_id w s.content id ≡ None → at_id w (apply s r).content id ≡ None
 
 -- each upload that the driver has ended is gone: its completions and aborts end what they name, and nobody brings it back
 pub record EndedAreGone : Type 0 where
   pub begins : (w : Script) (s : Scene) (c : Option ℕ) → Gone w s.content (nothing_told c)
-  pub commit : (g : Setting) → IsLegal g.script → (s : Seen) (m : Told) (c : Commit) → Commits g.script g.minimum s m c → (r : Request) → commit_asks g.script c ≡ Some r → (n : ℕ) (o : Outcome)
+  pub commit : (g : Setting) → IsLegal g.script → (s : Seen) (m : Told) (c : Commit) → Commits g.script g.minimum s m c → (r : Request)
+      → commit_asks g.script c ≡ Some r → (n : ℕ) (o : Outcome)
       → Gone g.script (effect s.scene r o).content (tell g.script m (driver_entry n r o))
   -- of what ends nothing
-  pub attempts : (g : Setting) (s : Seen) (m : Told) (a : Who) → Hold g.script g.minimum s m → Gone g.script s.scene.content m → (n : ℕ) (r : Request) (o : Outcome) → Gone g.script (effect s.scene r o).content (tell g.script m (entry a n r o))
-  pub strangers : (g : Setting) (s : Seen) (m : Told) → Hold g.script g.minimum s m → Gone g.script s.scene.content m → (n : ℕ) (r : Request) (o : Outcome) → Gone g.script (effect s.scene r o).content (tell g.script m (strange_entry n r o))
+  pub attempts : (g : Setting) (s : Seen) (m : Told) (a : Who) → Hold g.script g.minimum s m → Gone g.script s.scene.content m
+      → (n : ℕ) (r : Request) (o : Outcome) → Gone g.script (effect s.scene r o).content (tell g.script m (entry a n r o))
+  pub strangers : (g : Setting) (s : Seen) (m : Told) → Hold g.script g.minimum s m → Gone g.script s.scene.content m
+      → (n : ℕ) (r : Request) (o : Outcome) → Gone g.script (effect s.scene r o).content (tell g.script m (strange_entry n r o))
   -- an abort or clean of the job ends what it found, with the key that it found it with
-  pub clean : (g : Setting) (s : Seen) (m : Told) → Hold g.script g.minimum s m → Gone g.script s.scene.content m → (c : Clean) → FoundWithKeys g.script s.scene.content c → (r : Request) → clean_asks g.script c ≡ Some r → (n : ℕ) (o : Outcome)
+  pub clean : (g : Setting) (s : Seen) (m : Told) → Hold g.script g.minimum s m → Gone g.script s.scene.content m → (c : Clean)
+      → FoundWithKeys g.script s.scene.content c → (r : Request) → clean_asks g.script c ≡ Some r → (n : ℕ) (o : Outcome)
       → Gone g.script (effect s.scene r o).content (tell g.script m (driver_entry n r o))
 
 -- what an abort or clean of the job found keeps its key, whoever sends what
 pub record FindsKeys : Type 0 where
   pub begins : (w : Script) (c : Content) → FoundWithKeys w c clean_start
-  pub goes : (g : Setting) (s : Seen) (m : Told) → Hold g.script g.minimum s m → (retries : ℕ) (t : Retried Clean) → FoundWithKeys g.script s.scene.content t.operation → (r : Request) → clean_asks g.script t.operation ≡ Some r → (o : Outcome) → IsHonestOutcome o (answer s.scene r)
+  pub goes : (g : Setting) (s : Seen) (m : Told) → Hold g.script g.minimum s m → (retries : ℕ) (t : Retried Clean)
+      → FoundWithKeys g.script s.scene.content t.operation → (r : Request) → clean_asks g.script t.operation ≡ Some r → (o : Outcome)
+      → IsHonestOutcome o (answer s.scene r)
       → FoundWithKeys g.script (effect s.scene r o).content (step retries (clean_after g.script) t o).operation
-  pub beside : (w : Script) (s : Scene) → HasBucket s.content w.dest.bucket → (t : Clean) → FoundWithKeys w s.content t → (r : Request) (o : Outcome) → FoundWithKeys w (effect s r o).content t
+  pub beside : (w : Script) (s : Scene) → HasBucket s.content w.dest.bucket → (t : Clean) → FoundWithKeys w s.content t
+      → (r : Request) (o : Outcome) → FoundWithKeys w (effect s r o).content t
 
 -- ---- how a commit goes on with its sets
 
 -- a commit that goes on holds the sets of all tasks, and no two of their attempts write one path
 pub record SetsDecide : Type 0 where
-  pub begins : (w : Script) (minimum : ℕ) (m : Told) (missing : Option ℕ) → Decides w minimum m.publish_sent m.drawn (commit_start w missing)
-  pub goes : (g : Setting) → IsLegal g.script → (s : Seen) (m : Told) (c : Commit) → Commits g.script g.minimum s m c → (o : Outcome) → Decides g.script g.minimum m.publish_sent m.drawn (commit_tells g.script c o)
+  pub begins : (w : Script) (minimum : ℕ) (m : Told) (missing : Option ℕ)
+      → Decides w minimum m.publish_sent m.drawn (commit_start w missing)
+  pub goes : (g : Setting) → IsLegal g.script → (s : Seen) (m : Told) (c : Commit) → Commits g.script g.minimum s m c → (o : Outcome)
+      → Decides g.script g.minimum m.publish_sent m.drawn (commit_tells g.script c o)
   -- what an attempt sends leaves it as it is
-  pub beside : (g : Setting) (m : Told) (a : Who) (op : Operation) → Fits g.script g.minimum a m op → (r : Request) → asks g a (known m a) op ≡ Some r → (n : ℕ) (o : Outcome)
-      → let now = tell g.script m (entry a n r o) in (c : Commit) → Decides g.script g.minimum m.publish_sent m.drawn c → Decides g.script g.minimum now.publish_sent now.drawn c
+  pub beside : (g : Setting) (m : Told) (a : Who) (op : Operation) → Fits g.script g.minimum a m op → (r : Request)
+      → asks g a (known m a) op ≡ Some r → (n : ℕ) (o : Outcome)
+      → let now = tell g.script m (entry a n r o) in (c : Commit) → Decides g.script g.minimum m.publish_sent m.drawn c
+      → Decides g.script g.minimum now.publish_sent now.drawn c
 
 -- ---- files
 
@@ -66,17 +95,28 @@ pub record SetsDecide : Type 0 where
 -- these, by whether the upload is ended. Once the commit is at the marker every wanted file stands; after a revert none does but
 -- where its deletion wore out.
 pub record WantedFiles : Type 0 where
-  pub begins : (w : Script) (minimum : ℕ) → IsLegal w → (s : Seen) (m : Told) → Hold w minimum s m → NoneEnded m → (q b : List ℕ) (first now : Option Object) → now ≡ first → (missing : Option ℕ) → Wants w q b (commit_start w missing)
+  pub begins : (w : Script) (minimum : ℕ) → IsLegal w → (s : Seen) (m : Told) → Hold w minimum s m → NoneEnded m
+      → (q b : List ℕ) (first now : Option Object) → now ≡ first → (missing : Option ℕ) → Wants w q b (commit_start w missing)
       → FileStands w q b first [] now m.ended (commit_start w missing)
-  pub goes : (g : Setting) → IsLegal g.script → (s : Seen) (m : Told) (c : Commit) → Commits g.script g.minimum s m c → s.scene.content.next ≤ 2 ^ 64
-      → (q b : List ℕ) (first : Option Object) (es : List Entry) → Wants g.script q b c → FileStands g.script q b first es (at_key g.script s.scene.content (below g.script.dest.key q)) m.ended c
-      → (r : Request) → commit_asks g.script c ≡ Some r → (n : ℕ) (o : Outcome) → IsHonestOutcome o (answer s.scene r) → Wants g.script q b (commit_tells g.script c o)
-      → FileStands g.script q b first (es ++ driver_entry n r o ∷ []) (at_key g.script (effect s.scene r o).content (below g.script.dest.key q)) (tell g.script m (driver_entry n r o)).ended (commit_tells g.script c o)
+  pub goes : (g : Setting) → IsLegal g.script → (s : Seen) (m : Told) (c : Commit) → Commits g.script g.minimum s m c
+      → s.scene.content.next ≤ 2 ^ 64
+      → (q b : List ℕ) (first : Option Object) (es : List Entry) → Wants g.script q b c
+      → FileStands g.script q b first es (at_key g.script s.scene.content (below g.script.dest.key q)) m.ended c
+      → (r : Request) → commit_asks g.script c ≡ Some r → (n : ℕ) (o : Outcome) → IsHonestOutcome o (answer s.scene r)
+      → Wants g.script q b (commit_tells g.script c o)
+      → FileStands g.script q b first (es ++ driver_entry n r o ∷ []) (at_key g.script (effect s.scene r o).content
+      (below g.script.dest.key q)) (tell g.script m (driver_entry n r o)).ended (commit_tells g.script c o)
   -- an attempt's request, and a stranger's that does not name the key, leave what stands at a path, and end nothing
-  pub attempts : (g : Setting) → IsLegal g.script → (s : Seen) (m : Told) (a : Who) → Hold g.script g.minimum s m → IsAttempt g.script a → (op : Operation) → Fits g.script g.minimum a m op → (r : Request) → asks g a (known m a) op ≡ Some r → (o : Outcome)
-      → (q : List ℕ) → is_open q ≡ true → at_key g.script (effect s.scene r o).content (below g.script.dest.key q) ≡ at_key g.script s.scene.content (below g.script.dest.key q)
-  pub strangers : (w : Script) (minimum : ℕ) (s : Seen) (m : Told) → Hold w minimum s m → (r : Request) (o : Outcome) (k : List ℕ) → (bucket_of r ≡ w.dest.bucket → IsIn k (changed_keys r) → ⊥) → at_key w (effect s.scene r o).content k ≡ at_key w s.scene.content k
+  pub attempts : (g : Setting) → IsLegal g.script → (s : Seen) (m : Told) (a : Who) → Hold g.script g.minimum s m → IsAttempt g.script a
+      → (op : Operation) → Fits g.script g.minimum a m op → (r : Request) → asks g a (known m a) op ≡ Some r → (o : Outcome)
+      → (q : List ℕ) → is_open q ≡ true → at_key g.script (effect s.scene r o).content (below g.script.dest.key q) ≡ at_key g.script
+      s.scene.content (below g.script.dest.key q)
+  pub strangers : (w : Script) (minimum : ℕ) (s : Seen) (m : Told) → Hold w minimum s m → (r : Request) (o : Outcome) (k : List ℕ)
+      → (bucket_of r ≡ w.dest.bucket → IsIn k (changed_keys r) → ⊥) → at_key w (effect s.scene r o).content k ≡ at_key w s.scene.content k
   -- all lanes are answered
-  pub whole : (w : Script) (q b : List ℕ) (first now : Option Object) (es : List Entry) (m : Told) (sets : Sets) (n : ℕ) → FileStands w q b first es now m.ended (Marking sets n) → now ≡ Some (whole_of b)
+  pub whole : (w : Script) (q b : List ℕ) (first now : Option Object) (es : List Entry) (m : Told) (sets : Sets) (n : ℕ)
+      → FileStands w q b first es now m.ended (Marking sets n) → now ≡ Some (whole_of b)
   -- a revert is over
-  pub reverted : (w : Script) (q b : List ℕ) (first now : Option Object) (es : List Entry) (m : Told) → FileStands w q b first es now m.ended (CommitOver (ends.StoreFault stages.Complete)) → (IsWorn w.retries (deletes w q) es → ⊥) → IsBefore first now
+  pub reverted : (w : Script) (q b : List ℕ) (first now : Option Object) (es : List Entry) (m : Told)
+      → FileStands w q b first es now m.ended (CommitOver (ends.StoreFault stages.Complete)) → (IsWorn w.retries (deletes w q) es → ⊥)
+      → IsBefore first now

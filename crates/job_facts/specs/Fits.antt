@@ -1,10 +1,25 @@
 -- How far an attempt's operation has come, by what the attempt knows and has sent.
-use Rattle.std.specs.Prelude.{List, [], drop, false, length, true, ℕ, ◌∷◌, ◌≡◌, ◌≤◌, ◌⊎◌}
-use Rattle.job_protocol.specs.Prelude.{Checking, Committer, Creating, Deleting, Drawn, Dropping, File, IsIn, Known, Listing, Looking, Magic, Operation, Publishing, Reading, Renaming, RisesFrom, Script, Sending, Storing, Sweep, TaskAbort, TaskAbortOver, TaskCommit, TaskCommitOver, TheTaskAbort, TheTaskCommit, TheWrite, Uploading, Who, Write, WriteOver, attempt_prefix, begins, file_key, file_parts, files, is_magic, is_staging}
-use Rattle.job_protocol.specs.Writes.{Marking, Recording}
-use Rattle.job_protocol.specs.TaskAborts.{Removing, Sweeping}
-use Rattle.job_facts.specs.Told.{Told, known}
+use Rattle.basics.specs.Members.{IsIn, RisesFrom}
 use Rattle.job_facts.specs.Facts.{ApartFiles, AreCommits, IsWritten}
+use Rattle.job_facts.specs.Told.{Told, known}
+use Rattle.job_model.specs.Attempts.{Who}
+use Rattle.job_model.specs.Files.{File}
+use Rattle.job_model.specs.JobScript.{Script}
+use Rattle.job_model.specs.Known.{Drawn, Known}
+use Rattle.job_protocol.specs.Operations.{Operation, TheTaskAbort, TheTaskCommit, TheWrite}
+use Rattle.job_protocol.specs.Outputs.{files}
+use Rattle.job_protocol.specs.Records.{file_key}
+use Rattle.job_protocol.specs.Seen.{is_magic, is_staging}
+use Rattle.job_protocol.specs.TaskAborts.{Dropping, Removing, Sweeping, TaskAbort, TaskAbortOver}
+use Rattle.job_protocol.specs.TaskCommits.{Checking, Looking, Publishing, Reading, Renaming, Storing, TaskCommit, TaskCommitOver}
+use Rattle.job_protocol.specs.TaskCommits.{attempt_prefix}
+use Rattle.job_protocol.specs.Uploading.{Creating, Sending, Uploading, file_parts}
+use Rattle.job_protocol.specs.Writes.{Marking, Recording, Write, WriteOver}
+use Rattle.list_walk.specs.Walks.{Deleting, Listing, Sweep}
+use Rattle.s3_types.specs.Pages.{begins}
+use Rattle.s3_types.specs.declared.request.Committer.{Committer}
+use Rattle.s3_types.specs.declared.request.Committer.TheVariants.{Magic}
+use Rattle.std.specs.Prelude.{List, drop, false, length, true, ℕ, [], ◌∷◌, ◌≡◌, ◌≤◌, ◌⊎◌}
 use Rattle.job_model.specs.declared.ends.TaskEnd.TheVariants as tasks
 use Rattle.job_protocol.specs.Writes as writes
 use Rattle.job_protocol.specs.TaskCommits as commits

@@ -1,10 +1,16 @@
 -- Requests that leave a job's own keys, uploads and cluster files alone.
-use Rattle.std.specs.Prelude.{◌≡◌, ℕ, true, false, List, Some}
-use Rattle.store_frame.specs.Prelude.{changed_keys, changed_upload, changed_paths, bucket_of}
-use Rattle.job_facts.specs.Told.{ends}
+use Rattle.basics.specs.Members.{IsIn}
 use Rattle.job_facts.specs.Stores.{IsKnown}
-use Rattle.magic_paths.specs.Layout.{magic_prefix, cluster_prefix}
-use Rattle.job_protocol.specs.Prelude.{begins, Request, IsIn, Who, Script, Drawn}
+use Rattle.job_facts.specs.Told.{ends}
+use Rattle.job_model.specs.Attempts.{Who}
+use Rattle.job_model.specs.JobScript.{Script}
+use Rattle.job_model.specs.Known.{Drawn}
+use Rattle.magic_paths.specs.Layout.{cluster_prefix, magic_prefix}
+use Rattle.s3_types.specs.Answer.{bucket_of}
+use Rattle.s3_types.specs.Pages.{begins}
+use Rattle.s3_types.specs.declared.request.Request.{Request}
+use Rattle.std.specs.Prelude.{List, Some, false, true, ℕ, ◌≡◌}
+use Rattle.store_frame.specs.Frame.{changed_keys, changed_paths, changed_upload}
 
 -- it changes no key below the job's magic directory, no upload that an attempt knows, and no path below the job's directory in the cluster
 pub record IsForeign (w : Script) (drawn : Who → List Drawn) (r : Request) : Type 0 where
@@ -12,13 +18,15 @@ pub record IsForeign (w : Script) (drawn : Who → List Drawn) (r : Request) : T
   pub uploads : bucket_of r ≡ w.dest.bucket → (id : ℕ) → changed_upload r ≡ Some id → IsKnown drawn id → ⊥
   pub paths : (p : List ℕ) → IsIn p (changed_paths r) → begins (cluster_prefix w.job) p ≡ false
 
--- a request that the driver may send once the set-up is done and until it cleans up: it changes no key below the job's magic directory and no path below the job's directory in the cluster, and an upload only by ending it
+-- a request that the driver may send once the set-up is done and until it cleans up: it changes no key below the job's magic directory and
+-- no path below the job's directory in the cluster, and an upload only by ending it
 pub record IsDriving (w : Script) (r : Request) : Type 0 where
   pub keys : bucket_of r ≡ w.dest.bucket → (k : List ℕ) → IsIn k (changed_keys r) → begins (magic_prefix w.dest.key w.job) k ≡ false
   pub uploads : (id : ℕ) → changed_upload r ≡ Some id → ends r id ≡ true
   pub paths : (p : List ℕ) → IsIn p (changed_paths r) → begins (cluster_prefix w.job) p ≡ false
 
--- a request of an attempt that knows these uploads: it changes keys and paths of the job's own directories alone, and an upload only where the attempt knows it
+-- a request of an attempt that knows these uploads: it changes keys and paths of the job's own directories alone, and an upload only where
+-- the attempt knows it
 pub record IsOwn (w : Script) (ds : List Drawn) (r : Request) : Type 0 where
   pub bucket : (k : List ℕ) → IsIn k (changed_keys r) → bucket_of r ≡ w.dest.bucket
   pub keys : (k : List ℕ) → IsIn k (changed_keys r) → begins (magic_prefix w.dest.key w.job) k ≡ true

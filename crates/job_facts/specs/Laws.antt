@@ -1,24 +1,51 @@
 -- The laws of this crate.
-use Rattle.std.specs.Prelude.{List, None, Ok, Option, Some, [], false, length, map, slice_get, true, ℕ, ◌+◌, ◌<◌, ◌^◌, ◌≡◌, ◌≤◌, ◌⊎◌}
-use Rattle.store_frame.specs.Prelude.{HasBucket, only_reads}
-use Rattle.job_protocol.specs.Prelude.{Clean, Commit, CompleteUpload, Drawn, Entry, File, GetObject, IsIn, IsLegal, Known, NoSuchFile, NoSuchKey, Operation, Outcome, Part, Path, Refused, Reply, Request, Retried, Same, Scene, Script, Seen, Setting, Times, Upload, UploadPart, Who, WriteOver, answer, asks, begins, clean_asks, commit_asks, commit_start, commit_tells, drawn_in, effect, file_key, file_parts, file_record, files, files_set, is_begun, is_magic, is_staging, marker_key, record_key, record_text, see, set_read, set_request, step, task_abort_start, task_commit_start, tells, view, write_start}
-use Rattle.s3_types.specs.Tags.{joined_tag, plain_tag}
-use Rattle.job_facts.specs.Told.{Told, driver_entry, entry, known, nothing_told, strange_entry, tell, undoes}
-use Rattle.job_facts.specs.Stores.{at_id, at_key, sets_at}
-use Rattle.job_facts.specs.Foreign.{IsDriving, IsForeign, IsOwn}
+use Rattle.basics.specs.Members.{IsIn}
+use Rattle.job_facts.specs.Driver.{FitsClean, FitsJobCommit}
 use Rattle.job_facts.specs.Facts.{Facts, Hold, IsAttempt, IsSet, IsWritten, knowing}
 use Rattle.job_facts.specs.Fits.{Fits, FitsAbort, FitsCommit, FitsWrite, IsOpen}
-use Rattle.job_facts.specs.Driver.{FitsClean, FitsJobCommit}
-use Rattle.job_protocol.specs.Cleanups.{clean_after}
-use Rattle.retries.specs.Prelude.{IsHonestOutcome}
+use Rattle.job_facts.specs.Foreign.{IsDriving, IsForeign, IsOwn}
+use Rattle.job_facts.specs.Stores.{at_id, at_key, sets_at}
+use Rattle.job_facts.specs.Told.{Told, driver_entry, entry, known, nothing_told, strange_entry, tell, undoes}
+use Rattle.job_model.specs.Attempts.{Who}
+use Rattle.job_model.specs.Files.{File}
+use Rattle.job_model.specs.JobScript.{Script}
+use Rattle.job_model.specs.Known.{Drawn, Known}
+use Rattle.job_model.specs.Legal.{IsLegal}
+use Rattle.job_protocol.specs.Cleanups.{Clean, clean_after, clean_asks}
+use Rattle.job_protocol.specs.JobCommits.{Commit, commit_asks, commit_start, commit_tells, ok_set, set_read, set_request}
+use Rattle.job_protocol.specs.Knowledge.{drawn_in}
+use Rattle.job_protocol.specs.Operations.{Operation, Setting, asks, tells}
+use Rattle.job_protocol.specs.Outputs.{files}
+use Rattle.job_protocol.specs.Records.{file_key, file_record, files_set, marker_key, record_key, record_text}
+use Rattle.job_protocol.specs.Seen.{Seen, Times, is_begun, is_magic, is_staging, see}
+use Rattle.job_protocol.specs.TaskAborts.{task_abort_start}
+use Rattle.job_protocol.specs.TaskCommits.{task_commit_start}
+use Rattle.job_protocol.specs.Uploading.{file_parts}
+use Rattle.job_protocol.specs.View.{Same, view}
+use Rattle.job_protocol.specs.Writes.{WriteOver, write_start}
 use Rattle.magic_paths.specs.Layout.{cluster_prefix, magic_prefix}
-use Rattle.job_protocol.specs.JobCommits.{ok_set}
-use Rattle.job_model.specs.Prelude.{Completed, named_from}
+use Rattle.path_keys.specs.Paths.{Path}
+use Rattle.retries.specs.Retries.{Retried, step}
+use Rattle.s3_types.specs.Answer.{answer}
+use Rattle.s3_types.specs.Blocks.{named_from}
+use Rattle.s3_types.specs.Moment.{IsHonestOutcome, effect}
+use Rattle.s3_types.specs.Pages.{begins}
+use Rattle.s3_types.specs.Requests.{only_reads}
+use Rattle.s3_types.specs.Store.{Scene, Upload}
+use Rattle.s3_types.specs.Tags.{joined_tag, plain_tag}
+use Rattle.s3_types.specs.declared.journal.Entry.{Entry}
+use Rattle.s3_types.specs.declared.journal.Outcome.{Outcome}
+use Rattle.s3_types.specs.declared.reply.Refusal.TheVariants.{NoSuchFile, NoSuchKey}
+use Rattle.s3_types.specs.declared.reply.Reply.{Reply}
+use Rattle.s3_types.specs.declared.reply.Reply.TheVariants.{Completed, Object as Found, Part, Refused}
+use Rattle.s3_types.specs.declared.request.Request.{Request}
+use Rattle.s3_types.specs.declared.request.Request.TheVariants.{CompleteUpload, GetObject, UploadPart}
+use Rattle.std.specs.Prelude.{List, None, Ok, Option, Some, false, length, map, slice_get, true, ℕ, [], ◌+◌, ◌<◌, ◌^◌, ◌≡◌, ◌≤◌, ◌⊎◌}
+use Rattle.store_frame.specs.Held.{HasBucket}
 use Rattle.std.specs.FinMap as fin
 use Rattle.pending_json.specs.Reading as reading
 use Rattle.job_model.specs.declared.ends.TaskEnd.TheVariants as tasks
 use Rattle.magic_paths.specs.Finals as finals
-use Rattle.s3_types.specs.declared.reply.Reply.TheVariants.{Object as Found}
 
 -- ---- the beginning, and what changes nothing
 
@@ -29,44 +56,55 @@ pub record IsBare (w : Script) (s : Scene) : Type 0 where
 
 -- the facts begin where the set-up is done, before any attempt has sent anything
 abbrev pub FactsBegin : Type 0
-FactsBegin = (w : Script) (minimum : ℕ) (s : Scene) (last : ℕ → Option ℕ) → IsLegal w → HasBucket s.content w.dest.bucket → s.content.minimum ≡ minimum → ((id : ℕ) (x : Upload) → at_id w s.content id ≡ Some x → id < s.content.next)
+FactsBegin = (w : Script) (minimum : ℕ) (s : Scene) (last : ℕ → Option ℕ) → IsLegal w → HasBucket s.content w.dest.bucket
+    → s.content.minimum ≡ minimum → ((id : ℕ) (x : Upload) → at_id w s.content id ≡ Some x → id < s.content.next)
     → IsBare w s → ((t : ℕ) → last t ≡ None) → (c : Option ℕ) → Facts w minimum s last (nothing_told c)
 
 -- a request that only reads keeps them, whoever sends it
 abbrev pub ReadsKeep : Type 0
-ReadsKeep = (w : Script) (minimum : ℕ) (k : Times) (s : Seen) (m : Told) (e : Entry) → IsLegal w → only_reads e.request ≡ true → IsHonestOutcome e.outcome (answer s.scene e.request) → Hold w minimum s m → Hold w minimum (see w k s e) (tell w m e)
+ReadsKeep = (w : Script) (minimum : ℕ) (k : Times) (s : Seen) (m : Told) (e : Entry) → IsLegal w → only_reads e.request ≡ true
+    → IsHonestOutcome e.outcome (answer s.scene e.request) → Hold w minimum s m → Hold w minimum (see w k s e) (tell w m e)
 
 -- ---- strangers
 
 -- a foreign request keeps the facts, whatever becomes of it
 abbrev pub ForeignKeeps : Type 0
-ForeignKeeps = (w : Script) (minimum : ℕ) (k : Times) (s : Seen) (m : Told) (n : ℕ) (r : Request) (o : Outcome) → IsLegal w → IsForeign w m.drawn r
+ForeignKeeps = (w : Script) (minimum : ℕ) (k : Times) (s : Seen) (m : Told) (n : ℕ) (r : Request) (o : Outcome) → IsLegal w
+    → IsForeign w m.drawn r
     → Hold w minimum s m → Hold w minimum (see w k s (strange_entry n r o)) (tell w m (strange_entry n r o))
 
 -- ---- attempts
 
 -- after an entry of an attempt the facts hold of what is seen and told then, and its operation is as far as it says
-pub record Goes (g : Setting) (k : Times) (s : Seen) (m : Told) (a : Who) (n : ℕ) (r : Request) (o : Outcome) (op : Operation) : Type 0 where
-  pub hold : Hold g.script g.minimum (see g.script k s (entry a n r o)) (tell g.script m (entry a n r o))
-  pub fits : Fits g.script g.minimum a (tell g.script m (entry a n r o)) op
+pub record Goes (g : Setting) (k : Times) (s : Seen) (m : Told) (a : Who) (n : ℕ) (r : Request) (o : Outcome) (op : Operation) : Type 0
+  where
+    pub hold : Hold g.script g.minimum (see g.script k s (entry a n r o)) (tell g.script m (entry a n r o))
+    pub fits : Fits g.script g.minimum a (tell g.script m (entry a n r o)) op
 
 -- what an attempt's operation asks next keeps the facts, whatever becomes of it, for every committer
 abbrev pub AttemptGoes : Type 0
-AttemptGoes = (g : Setting) → IsLegal g.script → (k : Times) (s : Seen) (m : Told) (a : Who) (n : ℕ) → IsAttempt g.script a → Hold g.script g.minimum s m
-    → (op : Operation) → Fits g.script g.minimum a m op → (r : Request) → asks g a (known m a) op ≡ Some r → (o : Outcome) → IsHonestOutcome o (answer s.scene r)
+AttemptGoes = (g : Setting) → IsLegal g.script → (k : Times) (s : Seen) (m : Told) (a : Who) (n : ℕ) → IsAttempt g.script a
+    → Hold g.script g.minimum s m
+    → (op : Operation) → Fits g.script g.minimum a m op → (r : Request) → asks g a (known m a) op ≡ Some r → (o : Outcome)
+    → IsHonestOutcome o (answer s.scene r)
     → Goes g k s m a n r o (tells g a op o)
 
 -- an attempt's operations fit as they begin: a write where it knows nothing, a commit where its write is done, an abort always
 pub record AttemptBegins : Type 0 where
-  pub write : (g : Setting) → IsLegal g.script → (m : Told) (a : Who) → m.drawn a ≡ [] → IsOpen (known m a) → FitsWrite g.script g.minimum a (known m a) (write_start g.script a)
-  pub commit : (g : Setting) → IsLegal g.script → (m : Told) (a : Who) → FitsWrite g.script g.minimum a (known m a) (WriteOver tasks.Done) → FitsCommit g.script g.minimum a (known m a) (task_commit_start g.script a)
+  pub write : (g : Setting) → IsLegal g.script → (m : Told) (a : Who) → m.drawn a ≡ [] → IsOpen (known m a)
+      → FitsWrite g.script g.minimum a (known m a) (write_start g.script a)
+  pub commit : (g : Setting) → IsLegal g.script → (m : Told) (a : Who) → FitsWrite g.script g.minimum a (known m a) (WriteOver tasks.Done)
+      → FitsCommit g.script g.minimum a (known m a) (task_commit_start g.script a)
   pub abort : (w : Script) (a : Who) (k : Known) → FitsAbort w a k (task_abort_start w k)
 
 -- it names only what is its own, takes nothing back once it has sent its publishing request, and no reader of the destination sees it
 pub record AttemptNames : Type 0 where
-  pub own : (g : Setting) → IsLegal g.script → (m : Told) (a : Who) → IsAttempt g.script a → (op : Operation) → Fits g.script g.minimum a m op → (r : Request) → asks g a (known m a) op ≡ Some r → IsOwn g.script (m.drawn a) r
-  pub adds : (g : Setting) → IsLegal g.script → (m : Told) (a : Who) → IsAttempt g.script a → (op : Operation) → Fits g.script g.minimum a m op → (r : Request) → asks g a (known m a) op ≡ Some r → m.publish_sent a ≡ true → undoes r ≡ false
-  pub shows : (w : Script) → IsLegal w → (s : Scene) → HasBucket s.content w.dest.bucket → (m : Told) (a : Who) (r : Request) → IsOwn w (m.drawn a) r → (o : Outcome) → Same (view w.dest (effect s r o).content) (view w.dest s.content)
+  pub own : (g : Setting) → IsLegal g.script → (m : Told) (a : Who) → IsAttempt g.script a → (op : Operation)
+      → Fits g.script g.minimum a m op → (r : Request) → asks g a (known m a) op ≡ Some r → IsOwn g.script (m.drawn a) r
+  pub adds : (g : Setting) → IsLegal g.script → (m : Told) (a : Who) → IsAttempt g.script a → (op : Operation)
+      → Fits g.script g.minimum a m op → (r : Request) → asks g a (known m a) op ≡ Some r → m.publish_sent a ≡ true → undoes r ≡ false
+  pub shows : (w : Script) → IsLegal w → (s : Scene) → HasBucket s.content w.dest.bucket → (m : Told) (a : Who) (r : Request)
+      → IsOwn w (m.drawn a) r → (o : Outcome) → Same (view w.dest (effect s r o).content) (view w.dest s.content)
 
 -- `final_path` answers this path: `__magic` is an element, something is kept behind it, and these are the final elements
 pub record LeadsTo (from to : Path) : Type 0 where
@@ -81,13 +119,15 @@ at_dest w key = record { bucket = w.dest.bucket; key = key }
 
 -- a file's upload goes where the magic path of its marker leads
 abbrev pub MarkersLead : Type 0
-MarkersLead = (w : Script) (a : Who) (f : File) → IsLegal w → IsIn f (files w a) → LeadsTo (at_dest w (marker_key w a f)) (at_dest w (file_key w f))
+MarkersLead = (w : Script) (a : Who) (f : File) → IsLegal w → IsIn f (files w a)
+    → LeadsTo (at_dest w (marker_key w a f)) (at_dest w (file_key w f))
 
 -- ---- the driver
 
 -- a request of the driver that ends what uploads it changes, and changes nothing else of the job's own, keeps the facts
 abbrev pub DrivingKeeps : Type 0
-DrivingKeeps = (w : Script) (minimum : ℕ) (k : Times) (s : Seen) (m : Told) (n : ℕ) (r : Request) (o : Outcome) → IsLegal w → IsDriving w r → Hold w minimum s m → Hold w minimum (see w k s (driver_entry n r o)) (tell w m (driver_entry n r o))
+DrivingKeeps = (w : Script) (minimum : ℕ) (k : Times) (s : Seen) (m : Told) (n : ℕ) (r : Request) (o : Outcome) → IsLegal w → IsDriving w r
+    → Hold w minimum s m → Hold w minimum (see w k s (driver_entry n r o)) (tell w m (driver_entry n r o))
 
 -- after an entry of its abort or clean the facts hold, that has come as far as it says, and the destination shows what it showed
 pub record Cleans (g : Setting) (k : Times) (s : Seen) (m : Told) (n : ℕ) (r : Request) (o : Outcome) (t : Retried Clean) : Type 0 where
@@ -98,23 +138,30 @@ pub record Cleans (g : Setting) (k : Times) (s : Seen) (m : Told) (n : ℕ) (r :
 -- each request of an abort or clean of the job keeps the facts, and what a reader is shown
 abbrev pub CleanGoes : Type 0
 CleanGoes = (g : Setting) → IsLegal g.script → (k : Times) (s : Seen) (m : Told) (n : ℕ) → Hold g.script g.minimum s m
-    → is_begun m.cleans_at n ≡ true → (t : Retried Clean) → FitsClean g.script m.cleaned t.operation → (r : Request) → clean_asks g.script t.operation ≡ Some r → (o : Outcome) → IsHonestOutcome o (answer s.scene r)
+    → is_begun m.cleans_at n ≡ true → (t : Retried Clean) → FitsClean g.script m.cleaned t.operation → (r : Request)
+    → clean_asks g.script t.operation ≡ Some r → (o : Outcome) → IsHonestOutcome o (answer s.scene r)
     → Cleans g k s m n r o (step g.script.retries (clean_after g.script) t o)
 
 -- after an entry of its commit the facts hold, and it holds the sets as it read them and has come as far as it says
 pub record Commits (g : Setting) (k : Times) (s : Seen) (m : Told) (n : ℕ) (r : Request) (o : Outcome) (c : Commit) : Type 0 where
   pub hold : Hold g.script g.minimum (see g.script k s (driver_entry n r o)) (tell g.script m (driver_entry n r o))
-  pub fits : FitsJobCommit g.script g.minimum (tell g.script m (driver_entry n r o)).publish_sent (tell g.script m (driver_entry n r o)).drawn c
+  pub fits : FitsJobCommit g.script g.minimum (tell g.script m (driver_entry n r o)).publish_sent
+      (tell g.script m (driver_entry n r o)).drawn c
 
 -- each request of the driver's commit keeps the facts, for every committer and every number of lanes
 pub record CommitGoes : Type 0 where
-  pub begins : (w : Script) (minimum : ℕ) → IsLegal w → (m : Told) (missing : Option ℕ) → FitsJobCommit w minimum m.publish_sent m.drawn (commit_start w missing)
-  pub goes : (g : Setting) → IsLegal g.script → (k : Times) (s : Seen) (m : Told) (n : ℕ) → Hold g.script g.minimum s m → s.scene.content.next ≤ 2 ^ 64
-      → (c : Commit) → FitsJobCommit g.script g.minimum m.publish_sent m.drawn c → (r : Request) → commit_asks g.script c ≡ Some r → (o : Outcome) → IsHonestOutcome o (answer s.scene r)
+  pub begins : (w : Script) (minimum : ℕ) → IsLegal w → (m : Told) (missing : Option ℕ)
+      → FitsJobCommit w minimum m.publish_sent m.drawn (commit_start w missing)
+  pub goes : (g : Setting) → IsLegal g.script → (k : Times) (s : Seen) (m : Told) (n : ℕ) → Hold g.script g.minimum s m
+      → s.scene.content.next ≤ 2 ^ 64
+      → (c : Commit) → FitsJobCommit g.script g.minimum m.publish_sent m.drawn c → (r : Request) → commit_asks g.script c ≡ Some r
+      → (o : Outcome) → IsHonestOutcome o (answer s.scene r)
       → Commits g k s m n r o (commit_tells g.script c o)
   -- what an attempt sends leaves it as it is
-  pub beside : (g : Setting) (m : Told) (a : Who) (op : Operation) → Fits g.script g.minimum a m op → (r : Request) → asks g a (known m a) op ≡ Some r → (n : ℕ) (o : Outcome)
-      → let now = tell g.script m (entry a n r o) in (c : Commit) → FitsJobCommit g.script g.minimum m.publish_sent m.drawn c → FitsJobCommit g.script g.minimum now.publish_sent now.drawn c
+  pub beside : (g : Setting) (m : Told) (a : Who) (op : Operation) → Fits g.script g.minimum a m op → (r : Request)
+      → asks g a (known m a) op ≡ Some r → (n : ℕ) (o : Outcome)
+      → let now = tell g.script m (entry a n r o) in (c : Commit) → FitsJobCommit g.script g.minimum m.publish_sent m.drawn c
+      → FitsJobCommit g.script g.minimum now.publish_sent now.drawn c
 
 -- ---- answers that are due
 
@@ -137,16 +184,25 @@ SetAnswered w minimum s last m t = IsSetAnswer None (answer s (set_request w.com
 -- while the facts hold
 pub record AnswersFit : Type 0 where
   -- a part of an upload is taken while the driver has not ended it and its attempt has taken nothing back
-  pub part : (w : Script) (minimum : ℕ) (s : Scene) (last : ℕ → Option ℕ) (m : Told) → IsLegal w → Facts w minimum s last m → (a : Who) (x : Drawn) (g : File) (bytes : List ℕ) → IsIn x (m.drawn a) → IsIn g (files w a) → x.key ≡ file_key w g
-      → m.ended x.upload ≡ false → m.undone a ≡ false → slice_get (file_parts w minimum g) (length x.tags) ≡ Some bytes → answer s (UploadPart w.dest.bucket x.key x.upload (length x.tags + 1) bytes) ≡ Part (plain_tag bytes)
+  pub part : (w : Script) (minimum : ℕ) (s : Scene) (last : ℕ → Option ℕ) (m : Told) → IsLegal w → Facts w minimum s last m
+      → (a : Who) (x : Drawn) (g : File) (bytes : List ℕ) → IsIn x (m.drawn a) → IsIn g (files w a) → x.key ≡ file_key w g
+      → m.ended x.upload ≡ false → m.undone a ≡ false → slice_get (file_parts w minimum g) (length x.tags) ≡ Some bytes
+      → answer s (UploadPart w.dest.bucket x.key x.upload (length x.tags + 1) bytes) ≡ Part (plain_tag bytes)
   -- and one with all its parts is completed
-  pub complete : (w : Script) (minimum : ℕ) (s : Scene) (last : ℕ → Option ℕ) (m : Told) → IsLegal w → Facts w minimum s last m → (a : Who) (g : File) → IsIn g (files w a) → (x : IsWritten w minimum (m.drawn a) g)
-      → m.ended x.drawn.upload ≡ false → m.undone a ≡ false → answer s (CompleteUpload w.dest.bucket (file_key w g) x.drawn.upload (named_from 1 x.drawn.tags)) ≡ Completed (joined_tag (map (λ n. n.tag) (named_from 1 x.drawn.tags)))
+  pub complete : (w : Script) (minimum : ℕ) (s : Scene) (last : ℕ → Option ℕ) (m : Told) → IsLegal w → Facts w minimum s last m
+      → (a : Who) (g : File) → IsIn g (files w a) → (x : IsWritten w minimum (m.drawn a) g)
+      → m.ended x.drawn.upload ≡ false → m.undone a ≡ false
+      → answer s (CompleteUpload w.dest.bucket (file_key w g) x.drawn.upload (named_from 1 x.drawn.tags)) ≡ Completed
+      (joined_tag (map (λ n. n.tag) (named_from 1 x.drawn.tags)))
   -- a record is absent, or that of the upload which the attempt knows for the file, and is read as that
-  pub record_there : (w : Script) (minimum : ℕ) (s : Scene) (last : ℕ → Option ℕ) (m : Told) → IsLegal w → Facts w minimum s last m → is_magic w.committer ≡ true → (a : Who) (g : File) → IsIn g (files w a)
+  pub record_there : (w : Script) (minimum : ℕ) (s : Scene) (last : ℕ → Option ℕ) (m : Told) → IsLegal w → Facts w minimum s last m
+      → is_magic w.committer ≡ true → (a : Who) (g : File) → IsIn g (files w a)
       → (answer s (GetObject w.dest.bucket (record_key w a g)) ≡ Refused NoSuchKey)
-      ⊎ ((header : Option ℕ) × (answer s (GetObject w.dest.bucket (record_key w a g)) ≡ Found (record_text w a g (drawn_in (m.drawn a) (file_key w g))) header))
-  pub record_read : (w : Script) (minimum : ℕ) (s : Scene) (last : ℕ → Option ℕ) (m : Told) → IsLegal w → Facts w minimum s last m → s.content.next ≤ 2 ^ 64 → (a : Who) (g : File) → IsIn g (files w a) → (x : IsWritten w minimum (m.drawn a) g)
+      ⊎ ((header : Option ℕ) × (answer s (GetObject w.dest.bucket (record_key w a g)) ≡ Found
+      (record_text w a g (drawn_in (m.drawn a) (file_key w g))) header))
+  pub record_read : (w : Script) (minimum : ℕ) (s : Scene) (last : ℕ → Option ℕ) (m : Told) → IsLegal w → Facts w minimum s last m
+      → s.content.next ≤ 2 ^ 64 → (a : Who) (g : File) → IsIn g (files w a) → (x : IsWritten w minimum (m.drawn a) g)
       → reading.pending_of (record_text w a g x.drawn) ≡ Ok (file_record w a g x.drawn)
   -- a set is absent, or that of the last publisher, and is read as that
-  pub set_there : (w : Script) (minimum : ℕ) (s : Scene) (last : ℕ → Option ℕ) (m : Told) → IsLegal w → Facts w minimum s last m → s.content.next ≤ 2 ^ 64 → (t : ℕ) → t < w.tasks → SetAnswered w minimum s last m t
+  pub set_there : (w : Script) (minimum : ℕ) (s : Scene) (last : ℕ → Option ℕ) (m : Told) → IsLegal w → Facts w minimum s last m
+      → s.content.next ≤ 2 ^ 64 → (t : ℕ) → t < w.tasks → SetAnswered w minimum s last m t

@@ -14,5 +14,4 @@ pub mod Filed
 pub mod FiledLaws
 pub mod Within
 pub mod StandingLaws
-pub mod Prelude
 pub mod Spares

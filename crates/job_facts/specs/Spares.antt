@@ -1,11 +1,19 @@
 -- How far an abort or clean has come that spares what is another job's, and what stands in the job's directory of the cluster.
-use Rattle.std.specs.Prelude.{List, Some, true, ℕ, ◌<◌, ◌∷◌, ◌≡◌, ◌⊎◌}
-use Rattle.job_protocol.specs.Prelude.{Drawn, IsIn, Scene, Script, UploadRef, Who, begins, is_magic, is_staging, staged_set_path, temporary_path}
-use Rattle.job_protocol.specs.Sparing.{Aborting, Deleting, Naming, Reading, Removing, Sparing, SparingOver, Walking}
+use Rattle.basics.specs.Members.{IsIn}
 use Rattle.job_facts.specs.Driver.{AllCluster, AllMagic}
 use Rattle.job_facts.specs.Facts.{IsAttempt}
+use Rattle.job_model.specs.Attempts.{Who}
+use Rattle.job_model.specs.JobScript.{Script}
+use Rattle.job_model.specs.Known.{Drawn}
+use Rattle.job_protocol.specs.Seen.{is_magic, is_staging}
+use Rattle.job_protocol.specs.Sparing.{Aborting, Deleting, Naming, Reading, Removing, Sparing, SparingOver, Walking}
+use Rattle.job_protocol.specs.TaskCommits.{temporary_path}
+use Rattle.magic_paths.specs.Layout.{cluster_prefix, staged_set_path}
 use Rattle.magic_paths.specs.Places.{is_record}
-use Rattle.magic_paths.specs.Layout.{cluster_prefix}
+use Rattle.s3_types.specs.Pages.{begins}
+use Rattle.s3_types.specs.Store.{Scene}
+use Rattle.s3_types.specs.declared.request.UploadRef.{UploadRef}
+use Rattle.std.specs.Prelude.{List, Some, true, ℕ, ◌<◌, ◌∷◌, ◌≡◌, ◌⊎◌}
 use Rattle.std.specs.FinMap as fin
 
 -- each is an upload that an attempt of the job knows, with its key
@@ -21,7 +29,8 @@ pub record AllOwn (w : Script) (places : List (List ℕ)) : Type 0 where
 abbrev pub FitsSparing : Script → (Who → List Drawn) → Sparing → Type 0
 FitsSparing w drawn (Walking keys) = (is_magic w.committer ≡ true) × AllMagic w keys
 FitsSparing w drawn Naming = is_staging w.committer ≡ true
-FitsSparing w drawn (Reading named p ps all) = AllKnown drawn named × AllOwn w (p ∷ ps) × AllOwn w all × (is_magic w.committer ≡ true → (k : List ℕ) → IsIn k (p ∷ ps) → is_record k ≡ true)
+FitsSparing w drawn (Reading named p ps all) = AllKnown drawn named × AllOwn w (p ∷ ps) × AllOwn w all
+    × (is_magic w.committer ≡ true → (k : List ℕ) → IsIn k (p ∷ ps) → is_record k ≡ true)
 FitsSparing w drawn (Aborting u us all) = AllKnown drawn (u ∷ us) × AllOwn w all
 FitsSparing w drawn (Deleting k ks) = AllMagic w (k ∷ ks)
 FitsSparing w drawn (Removing p ps) = AllCluster w (p ∷ ps)
@@ -33,4 +42,5 @@ IsOwnPath w p = ((a : Who) × IsAttempt w a × (p ≡ temporary_path w a)) ⊎ (
 
 -- of the staging committers each file below the job's directory in the cluster stands at such a path
 abbrev pub Filed : Script → Scene → Type 0
-Filed w s = is_staging w.committer ≡ true → (p bytes : List ℕ) → begins (cluster_prefix w.job) p ≡ true → fin.get s.files p ≡ Some bytes → IsOwnPath w p
+Filed w s = is_staging w.committer ≡ true → (p bytes : List ℕ) → begins (cluster_prefix w.job) p ≡ true → fin.get s.files p ≡ Some bytes
+    → IsOwnPath w p

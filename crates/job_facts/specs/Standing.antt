@@ -1,10 +1,27 @@
--- Until the driver's abort or clean of the job begins, what an attempt has written stands, and the driver ends no upload that may still be sent to: so no write or commit finds its own gone.
-use Rattle.std.specs.Prelude.{Bool, List, Some, [], false, true, ℕ, ◌∷◌, ◌≡◌, ◌⊎◌}
-use Rattle.job_protocol.specs.Prelude.{Checking, Commit, Drawn, File, IsIn, Looking, Object, Operation, Publishing, Reading, Renaming, Request, Reverting, Script, Seen, Storing, TaskCommit, TaskCommitOver, TaskEnd, TheTaskCommit, TheWrite, Who, Write, WriteOver, files, is_lt, is_magic, last_of, record_key, text_cmp}
-use Rattle.job_protocol.specs.Writes.{Marking, Recording}
-use Rattle.job_facts.specs.Told.{Told, ends}
+-- Until the driver's abort or clean of the job begins, what an attempt has written stands, and the driver ends no upload that may still be
+-- sent to: so no write or commit finds its own gone.
+use Rattle.basics.specs.Members.{IsIn}
+use Rattle.basics.specs.Order.{text_cmp}
 use Rattle.job_facts.specs.Stores.{at_key, at_path}
+use Rattle.job_facts.specs.Told.{Told, ends}
+use Rattle.job_model.specs.Attempts.{Who}
+use Rattle.job_model.specs.Files.{File}
+use Rattle.job_model.specs.JobScript.{Script}
+use Rattle.job_model.specs.Known.{Drawn}
+use Rattle.job_model.specs.declared.ends.TaskEnd.{TaskEnd}
+use Rattle.job_protocol.specs.JobCommits.{Commit, Reverting}
+use Rattle.job_protocol.specs.Operations.{Operation, TheTaskCommit, TheWrite}
+use Rattle.job_protocol.specs.Outputs.{files}
+use Rattle.job_protocol.specs.Records.{record_key}
+use Rattle.job_protocol.specs.Seen.{Seen, is_magic}
+use Rattle.job_protocol.specs.TaskCommits.{Checking, Looking, Publishing, Reading, Renaming, Storing, TaskCommit, TaskCommitOver}
+use Rattle.job_protocol.specs.Writes.{Marking, Recording, Write, WriteOver}
+use Rattle.list_walk.specs.Walks.{last_of}
 use Rattle.magic_paths.specs.Places.{TemporaryPlace}
+use Rattle.s3_types.specs.declared.object.Object.{Object}
+use Rattle.s3_types.specs.declared.request.Request.{Request}
+use Rattle.std.specs.Ordering.{is_lt}
+use Rattle.std.specs.Prelude.{Bool, List, Some, false, true, ℕ, [], ◌∷◌, ◌≡◌, ◌⊎◌}
 use Rattle.job_model.specs.declared.ends.TaskEnd.TheVariants as tasks
 use Rattle.job_protocol.specs.Writes as writes
 use Rattle.job_protocol.specs.TaskCommits as commits
@@ -49,7 +66,8 @@ HasPublished s t = (n : ℕ) × (s.last t ≡ Some n)
 
 -- an attempt's records are among the keys that were listed, or behind the last of them
 abbrev pub Listed : Script → Who → List (List ℕ) → Type 0
-Listed w a keys = (f : File) → IsIn f (files w a) → IsIn (record_key w a f) keys ⊎ (is_lt (text_cmp (last_of keys) (record_key w a f)) ≡ true)
+Listed w a keys = (f : File) → IsIn f (files w a) → IsIn (record_key w a f) keys
+    ⊎ (is_lt (text_cmp (last_of keys) (record_key w a f)) ≡ true)
 
 -- an end that is not Gone
 abbrev pub NotGone : TaskEnd → Type 0

@@ -1,10 +1,22 @@
 -- What a store and the cluster have at the places of a job, and how a request may change it.
-use Rattle.std.specs.Prelude.{Bool, List, None, Option, Some, cond, false, true, ℕ, ◌&&◌, ◌+◌, ◌<◌, ◌≡◌, ◌≤◌}
-use Rattle.store_frame.specs.Prelude.{HasBucket, is_part_number, with_part}
+use Rattle.basics.specs.Members.{IsIn}
+use Rattle.basics.specs.Order.{text_eq}
+use Rattle.job_model.specs.Attempts.{Who}
+use Rattle.job_model.specs.JobScript.{Script}
+use Rattle.job_model.specs.Known.{Drawn}
+use Rattle.job_protocol.specs.Scope.{upload_at}
 use Rattle.job_protocol.specs.View.{object_at}
-use Rattle.job_protocol.specs.Prelude.{Committer, Content, Drawn, IsIn, Magic, Object, Scene, Script, Upload, Who, begins, option_map, text_eq, upload_at}
-use Rattle.magic_paths.specs.Places.{ClusterPlace, Place, SetPlace, StagedSetPlace, key_at, path_at}
 use Rattle.magic_paths.specs.Layout.{cluster_prefix, magic_prefix}
+use Rattle.magic_paths.specs.Places.{ClusterPlace, Place, SetPlace, StagedSetPlace, key_at, path_at}
+use Rattle.s3_types.specs.Multipart.{is_part_number, with_part}
+use Rattle.s3_types.specs.Pages.{begins}
+use Rattle.s3_types.specs.Store.{Content, Scene, Upload}
+use Rattle.s3_types.specs.declared.object.Object.{Object}
+use Rattle.s3_types.specs.declared.request.Committer.{Committer}
+use Rattle.s3_types.specs.declared.request.Committer.TheVariants.{Magic}
+use Rattle.std.specs.Option.{option_map}
+use Rattle.std.specs.Prelude.{Bool, List, None, Option, Some, cond, false, true, ℕ, ◌&&◌, ◌+◌, ◌<◌, ◌≡◌, ◌≤◌}
+use Rattle.store_frame.specs.Held.{HasBucket}
 use Rattle.std.specs.FinMap as fin
 
 -- what stands at a key of the job's bucket, and at a place
@@ -38,7 +50,8 @@ IsKnown drawn id = (a : Who) × (d : Drawn) × IsIn d (drawn a) × (d.upload ≡
 
 -- ---- how a scene may change
 
--- Nothing changes below the job's magic directory, below its directory in the cluster, nor at an upload that an attempt knows and the driver has not ended.
+-- Nothing changes below the job's magic directory, below its directory in the cluster, nor at an upload that an attempt knows and the
+-- driver has not ended.
 pub record Leaves (w : Script) (drawn : Who → List Drawn) (ended : ℕ → Bool) (s t : Scene) : Type 0 where
   pub there : HasBucket t.content w.dest.bucket
   pub least : t.content.minimum ≡ s.content.minimum

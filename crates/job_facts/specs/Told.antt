@@ -1,6 +1,17 @@
 -- What a journal tells beside what is seen: of each attempt what it knows and has undone, and which uploads the driver has ended.
-use Rattle.std.specs.Prelude.{Bool, List, Option, [], cond, false, nat_eq, true, ℕ, ◌&&◌, ◌||◌, ◌∷◌}
-use Rattle.job_protocol.specs.Prelude.{AbortUpload, Actor, Attempt, ClusterDelete, CompleteUpload, DeleteObject, DeleteObjects, Drawn, Driver, Entry, Known, Outcome, Request, Script, Shell, Who, actor_of, is_begun, is_effective, learn, same_name}
+use Rattle.job_model.specs.Attempts.{Who, actor_of, same_name}
+use Rattle.job_model.specs.JobScript.{Script}
+use Rattle.job_model.specs.Known.{Drawn, Known}
+use Rattle.job_protocol.specs.Knowledge.{learn}
+use Rattle.job_protocol.specs.Seen.{is_begun}
+use Rattle.s3_types.specs.Moment.{is_effective}
+use Rattle.s3_types.specs.declared.journal.Entry.{Entry}
+use Rattle.s3_types.specs.declared.journal.Outcome.{Outcome}
+use Rattle.s3_types.specs.declared.request.Actor.{Actor}
+use Rattle.s3_types.specs.declared.request.Actor.TheVariants.{Attempt, Driver, Shell}
+use Rattle.s3_types.specs.declared.request.Request.{Request}
+use Rattle.s3_types.specs.declared.request.Request.TheVariants.{AbortUpload, ClusterDelete, CompleteUpload, DeleteObject, DeleteObjects}
+use Rattle.std.specs.Prelude.{Bool, List, Option, cond, false, nat_eq, true, ℕ, [], ◌&&◌, ◌||◌, ◌∷◌}
 
 -- what a journal tells of a job's attempts and of what its driver ended
 pub record Told : Type 0 where
@@ -83,7 +94,15 @@ tell w m e = tell_by w m e.event e.request e.outcome e.actor
 
 -- what is told before the first entry
 abbrev pub nothing_told : Option ℕ → Told
-nothing_told c = record { drawn = λ a. []; put_sent = λ a. false; publish_sent = λ a. false; undone = λ a. false; ended = λ u. false; cleaned = false; cleans_at = c }
+nothing_told c = record {
+  drawn = λ a. [];
+  put_sent = λ a. false;
+  publish_sent = λ a. false;
+  undone = λ a. false;
+  ended = λ u. false;
+  cleaned = false;
+  cleans_at = c;
+}
 
 -- what is told after these entries
 abbrev pub tell_all : Script → Told → List Entry → Told

@@ -1,13 +1,28 @@
 -- Requests that leave all that is outside the destination as it is, and that no operation of the job sends others.
-use Rattle.std.specs.Prelude.{List, Some, true, ℕ, ◌≡◌}
-use Rattle.job_facts.specs.Told.{Told, driver_entry, entry, known}
-use Rattle.job_facts.specs.Facts.{Hold, IsAttempt}
-use Rattle.job_facts.specs.Fits.{Fits}
-use Rattle.job_facts.specs.Emptying.{SetsUp}
+use Rattle.basics.specs.Members.{IsIn}
 use Rattle.job_facts.specs.Driver.{FitsClean}
+use Rattle.job_facts.specs.Emptying.{SetsUp}
+use Rattle.job_facts.specs.Facts.{Hold, IsAttempt}
 use Rattle.job_facts.specs.FiledLaws.{Commits}
-use Rattle.job_protocol.specs.Prelude.{AbortUpload, Clean, Commit, CompleteUpload, CopyObject, CreateUpload, DeleteObject, DeleteObjects, IsIn, IsLegal, IsZeroRename, Operation, Outcome, PutObject, Request, Scene, Script, Seen, Setting, Setup, UploadPart, Who, asks, begins, clean_asks, commit_asks, dest_prefix, effect, setup_asks}
-use Rattle.retries.specs.Prelude.{MakeBucket}
+use Rattle.job_facts.specs.Fits.{Fits}
+use Rattle.job_facts.specs.Told.{Told, driver_entry, entry, known}
+use Rattle.job_model.specs.Attempts.{Who}
+use Rattle.job_model.specs.JobScript.{Script}
+use Rattle.job_model.specs.Legal.{IsLegal}
+use Rattle.job_protocol.specs.Cleanups.{Clean, clean_asks}
+use Rattle.job_protocol.specs.JobCommits.{Commit, commit_asks}
+use Rattle.job_protocol.specs.Operations.{Operation, Setting, asks}
+use Rattle.job_protocol.specs.Scope.{IsZeroRename}
+use Rattle.job_protocol.specs.Seen.{Seen}
+use Rattle.job_protocol.specs.Setup.{Setup, dest_prefix, setup_asks}
+use Rattle.s3_types.specs.Moment.{effect}
+use Rattle.s3_types.specs.Pages.{begins}
+use Rattle.s3_types.specs.Store.{Scene}
+use Rattle.s3_types.specs.declared.journal.Outcome.{Outcome}
+use Rattle.s3_types.specs.declared.request.Request.{Request}
+use Rattle.s3_types.specs.declared.request.Request.TheVariants.{AbortUpload, CompleteUpload, CopyObject, CreateUpload, DeleteObject}
+use Rattle.s3_types.specs.declared.request.Request.TheVariants.{DeleteObjects, MakeBucket, PutObject, UploadPart}
+use Rattle.std.specs.Prelude.{List, Some, true, ℕ, ◌≡◌}
 
 -- a key below the destination, in its bucket
 abbrev pub IsBelow : Script → List ℕ → List ℕ → Type 0
@@ -29,10 +44,14 @@ IsWithin w _ = Unit {0}
 -- Each request of the job's actors leaves what is outside the destination, copies nothing, is no data of the driver's, and changes
 -- what a reader is shown only where it is a completion or a deletion of the driver's commit that takes effect.
 pub record OwnChange : Type 0 where
-  pub setup : (w : Script) → IsLegal w → (s : Scene) (t : Setup) → SetsUp w s.content t → (r : Request) → setup_asks w t ≡ Some r → (n : ℕ) (o : Outcome) → IsZeroRename w (driver_entry n r o) s.content (effect s r o).content
-  pub attempts : (g : Setting) → IsLegal g.script → (s : Seen) (m : Told) → Hold g.script g.minimum s m → (a : Who) → IsAttempt g.script a → (op : Operation) → Fits g.script g.minimum a m op → (r : Request) → asks g a (known m a) op ≡ Some r → (n : ℕ) (o : Outcome)
+  pub setup : (w : Script) → IsLegal w → (s : Scene) (t : Setup) → SetsUp w s.content t → (r : Request) → setup_asks w t ≡ Some r
+      → (n : ℕ) (o : Outcome) → IsZeroRename w (driver_entry n r o) s.content (effect s r o).content
+  pub attempts : (g : Setting) → IsLegal g.script → (s : Seen) (m : Told) → Hold g.script g.minimum s m → (a : Who) → IsAttempt g.script a
+      → (op : Operation) → Fits g.script g.minimum a m op → (r : Request) → asks g a (known m a) op ≡ Some r → (n : ℕ) (o : Outcome)
       → IsZeroRename g.script (entry a n r o) s.scene.content (effect s.scene r o).content
-  pub commit : (g : Setting) → IsLegal g.script → (s : Seen) (m : Told) (c : Commit) → Commits g.script g.minimum s m c → (r : Request) → commit_asks g.script c ≡ Some r → (n : ℕ) (o : Outcome)
+  pub commit : (g : Setting) → IsLegal g.script → (s : Seen) (m : Told) (c : Commit) → Commits g.script g.minimum s m c → (r : Request)
+      → commit_asks g.script c ≡ Some r → (n : ℕ) (o : Outcome)
       → IsZeroRename g.script (driver_entry n r o) s.scene.content (effect s.scene r o).content
-  pub clean : (g : Setting) → IsLegal g.script → (s : Seen) (m : Told) → Hold g.script g.minimum s m → (t : Clean) → FitsClean g.script m.cleaned t → (r : Request) → clean_asks g.script t ≡ Some r → (n : ℕ) (o : Outcome)
+  pub clean : (g : Setting) → IsLegal g.script → (s : Seen) (m : Told) → Hold g.script g.minimum s m → (t : Clean)
+      → FitsClean g.script m.cleaned t → (r : Request) → clean_asks g.script t ≡ Some r → (n : ℕ) (o : Outcome)
       → IsZeroRename g.script (driver_entry n r o) s.scene.content (effect s.scene r o).content

@@ -1,14 +1,21 @@
 -- A made script keeps the bounds of a script.
-use Rattle.job_gen.proofs.Common.{AllByRecursion, AreFates, Declared, File, IsDest, IsLegal, List, [], ap, arith, bytes_in, bytes_of, false, files_in, length, length-append, nat_cmp, none_some, refl, suc, true, zero, ℕ, ◌%◌, ◌*◌, ◌++◌, ◌+◌, ◌∷◌, ◌≡◌, ◌≤◌}
-use Rattle.job_gen.specs.Made.{attempt_of, is_twice, attempts_of, part_files, made_attempts, made_dest, made_script}
-use Rattle.job_gen.proofs.Declaring.{attempts_from, one_or_two, attempts_fit, has_first, has_second, known}
+use Rattle.basics.proofs.Members.{none_some}
+use Rattle.basics.specs.Parts.{parts_from}
+use Rattle.job_gen.proofs.Declaring.{attempts_fit, attempts_from, has_first, has_second, known, one_or_two}
+use Rattle.job_gen.proofs.Happening.{events_count, events_fit}
+use Rattle.job_gen.proofs.PartFiles.{files_bytes, files_fit}
+use Rattle.job_gen.proofs.PartPaths.{text_fits}
+use Rattle.job_gen.specs.Made.{attempt_of, attempts_of, is_twice, made_attempts, made_dest, made_script, part_files}
+use Rattle.job_model.specs.Attempts.{Declared}
+use Rattle.job_model.specs.Files.{File}
+use Rattle.job_model.specs.Legal.{AreFates, IsDest, IsLegal, bytes_in, bytes_of, files_in}
+use Rattle.std.proofs.Common.{List, ap, arith, false, length, length-append, refl, suc, true, zero, ℕ, [], ◌%◌, ◌*◌, ◌++◌, ◌+◌, ◌∷◌, ◌≡◌}
+use Rattle.std.proofs.Common.{◌≤◌}
+use Rattle.std.specs.List.{AllByRecursion}
+use Rattle.std.specs.Ordering.{nat_cmp}
 use Rattle.std.specs.Prelude.{codes}
 use Rattle.std.specs.FinMap as fin
-use Rattle.basics.specs.Parts.{parts_from}
-use Rattle.job_gen.proofs.PartPaths.{text_fits}
-use Rattle.job_gen.proofs.PartFiles.{files_fit, files_bytes}
 use Rattle.job_gen.proofs.PartFiles as made
-use Rattle.job_gen.proofs.Happening.{events_fit, events_count}
 
 -- ---- how many attempts, files and bytes it has
 
@@ -33,7 +40,8 @@ IsFew d = (length d.1 ≤ 50) × (bytes_of d.1 ≤ 204750)
 
 all_few : (g : ℕ → List File) (a n : ℕ) → ((t k : ℕ) → IsFew (attempt_of t k, g t)) → AllByRecursion IsFew (attempts_from g a n)
 all_few g a zero h = tt
-all_few g a (suc n) h = elim (is_twice a) as (λ b. AllByRecursion IsFew (one_or_two b (g a) a ++ attempts_from g (a + 1) n)) [ true ↦ (h a 0, (h a 1, all_few g (a + 1) n h)) | false ↦ (h a 0, all_few g (a + 1) n h) ]
+all_few g a (suc n) h = elim (is_twice a) as (λ b. AllByRecursion IsFew (one_or_two b (g a) a ++ attempts_from g (a + 1) n))
+    [ true ↦ (h a 0, (h a 1, all_few g (a + 1) n h)) | false ↦ (h a 0, all_few g (a + 1) n h) ]
 
 few_sums : (xs : List Declared) → AllByRecursion IsFew xs → (files_in xs ≤ 50 * length xs) × (bytes_in xs ≤ 204750 * length xs)
 few_sums [] h = (omega arith, omega arith)
@@ -60,7 +68,8 @@ made_legal seed tasks files few short =
     let g = part_files seed files in
     let count = attempts_count g 0 tasks in
     let many : length (attempts_from g 0 tasks) ≤ 240 = omega (arith, count) in
-    let sums = few_sums (attempts_from g 0 tasks) (all_few g 0 tasks (λ t k. (omega (arith, made.files_count seed files t), omega (arith, files_bytes seed files t)))) in
+    let sums = few_sums (attempts_from g 0 tasks) (all_few g 0 tasks (λ t k.
+    (omega (arith, made.files_count seed files t), omega (arith, files_bytes seed files t)))) in
     let some = sums.0 in
     let long = sums.1 in
     record {
@@ -78,6 +87,7 @@ made_legal seed tasks files few short =
       few_attempts = omega (arith, many);
       few_files = omega (arith, some, many);
       few_bytes = omega (arith, long, many);
-      events = events_fit (attempts_from g 0 tasks) seed tasks (λ t less. known g 0 0 tasks t (λ rest. has_first (g t) rest t) (omega arith) (omega arith)) (λ t less two. known g 1 0 tasks t (λ rest. has_second (g t) rest t two) (omega arith) (omega arith));
+      events = events_fit (attempts_from g 0 tasks) seed tasks (λ t less. known g 0 0 tasks t (λ rest. has_first (g t) rest t) (omega arith)
+          (omega arith)) (λ t less two. known g 1 0 tasks t (λ rest. has_second (g t) rest t two) (omega arith) (omega arith));
       few_events = let e = events_count seed tasks in omega (arith, e);
     }

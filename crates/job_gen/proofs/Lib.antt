@@ -5,4 +5,3 @@ pub mod Adding
 pub mod Declaring
 pub mod Happening
 pub mod LegalScript
-mod Common

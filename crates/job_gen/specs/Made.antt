@@ -1,8 +1,18 @@
 -- The script that is made of a seed and the numbers of tasks and of files of each.
-use Rattle.std.specs.Prelude.{Bool, List, [], codes, filter, map, replicate, ℕ, ◌%◌, ◌*◌, ◌++◌, ◌+◌, ◌/◌, ◌==◌, ◌^◌, ◌∷◌, if◌then◌else◌}
-use Rattle.job_model.specs.Prelude.{Actor, Declared, Driver, File, Magic, Path, Script, Who, actor_of, flat_map, plain_script}
-use Rattle.job_spec.specs.Prelude.{Append, Do, Event, Kill, Mix, Start, draw, range_with_len}
+use Rattle.job_model.specs.Attempts.{Declared, Who, actor_of}
+use Rattle.job_model.specs.Files.{File}
+use Rattle.job_model.specs.JobScript.{Script, plain_script}
+use Rattle.job_model.specs.declared.events.Event.{Event}
+use Rattle.job_model.specs.declared.events.Event.TheVariants.{Do, Kill, Mix, Start}
 use Rattle.job_model.specs.declared.events.Op.TheVariants.{Clean, Commit, Setup, Write}
+use Rattle.job_spec.specs.Turns.{draw}
+use Rattle.path_keys.specs.Paths.{Path}
+use Rattle.s3_types.specs.declared.request.Actor.{Actor}
+use Rattle.s3_types.specs.declared.request.Actor.TheVariants.{Driver}
+use Rattle.s3_types.specs.declared.request.Committer.TheVariants.{Magic}
+use Rattle.s3_types.specs.declared.request.Mode.TheVariants.{Append}
+use Rattle.std.specs.List.{flat_map, range_with_len}
+use Rattle.std.specs.Prelude.{Bool, List, codes, filter, if◌then◌else◌, map, replicate, ℕ, [], ◌%◌, ◌*◌, ◌++◌, ◌+◌, ◌/◌, ◌==◌, ◌^◌, ◌∷◌}
 
 -- the i-th number of a seed's sequence, from 1 on
 abbrev pub number : ℕ → ℕ → ℕ
@@ -95,4 +105,5 @@ made_dest = record { bucket = codes "lake"; key = codes "gen" }
 
 -- the script; its head says what a script says where no line tells another thing
 unfoldable pub made_script : (seed tasks files : ℕ) → Script
-made_script seed tasks files = record (plain_script (codes "gen") made_dest Magic Append tasks) { attempts = made_attempts seed tasks files; events = made_events seed tasks }
+made_script seed tasks files = record (plain_script (codes "gen") made_dest Magic Append tasks)
+    { attempts = made_attempts seed tasks files; events = made_events seed tasks }

@@ -1,7 +1,12 @@
 -- The line that tells of a made job's run.
-use Rattle.std.specs.Prelude.{ℕ, ◌*◌, ◌==◌, List, [], ◌∷◌, codes, sum_by, if◌then◌else◌}
-use Rattle.job_spec.specs.Prelude.{decimal, Who, Script, bytes_of, Pick, files}
+use Rattle.job_model.specs.Attempts.{Who}
+use Rattle.job_model.specs.JobScript.{Script}
+use Rattle.job_model.specs.Legal.{bytes_of}
+use Rattle.job_model.specs.declared.ends.Pick.{Pick}
+use Rattle.job_protocol.specs.Outputs.{files}
 use Rattle.job_spec.specs.ReportText.{line}
+use Rattle.std.specs.Fmt.{decimal}
+use Rattle.std.specs.Prelude.{List, codes, if◌then◌else◌, sum_by, ℕ, [], ◌*◌, ◌==◌, ◌∷◌}
 
 -- the attempt that was picked
 abbrev pub picked : Pick → Who

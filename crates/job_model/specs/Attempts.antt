@@ -1,9 +1,10 @@
 -- The declared attempts with their files.
-use Rattle.std.specs.Prelude.{ℕ, List, [], ◌∷◌, ◌++◌, Bool, true, false, ◌&&◌, nat_eq, is_some}
-use Rattle.pending_json.specs.Prelude.{lookup, Actor}
-use Rattle.job_model.specs.declared.attempts.AttemptName.{AttemptName}
-use Rattle.s3_types.specs.declared.request.Actor.TheVariants as actor
 use Rattle.job_model.specs.Files.{File}
+use Rattle.job_model.specs.declared.attempts.AttemptName.{AttemptName}
+use Rattle.s3_types.specs.declared.request.Actor.{Actor}
+use Rattle.std.specs.Map.{lookup}
+use Rattle.std.specs.Prelude.{Bool, List, false, is_some, nat_eq, true, ℕ, [], ◌&&◌, ◌++◌, ◌∷◌}
+use Rattle.s3_types.specs.declared.request.Actor.TheVariants as actor
 
 -- an attempt by its task's number and its own
 abbrev pub Who : Type 0

@@ -1,13 +1,20 @@
 -- The parts of a script as numbers and pairs, by which proofs tell scripts apart.
-use Rattle.std.specs.Prelude.{◌≡◌, ℕ, zero, suc, Bool, List, Option, refl}
-use Rattle.s3_types.specs.Prelude.{Coded, code_by, coded×, coded_ℕ, coded_bool, coded_list, coded_option, coded_text, coded_fates}
-use Rattle.pending_json.specs.Prelude.{FateMap, Actor, Driver, Attempt, Shell, Committer, coded_committer, Mode, Fail, Append, Replace}
-use Rattle.path_keys.specs.Paths.{Path}
-use Rattle.job_model.specs.Attempts.{Who, Declared}
+use Rattle.job_model.specs.Attempts.{Declared, Who}
 use Rattle.job_model.specs.JobScript.{Script}
-use Rattle.job_model.specs.declared.events.Op.{Op}
-use Rattle.job_model.specs.declared.events.Op.TheVariants as op
 use Rattle.job_model.specs.declared.events.Event.{Event}
+use Rattle.job_model.specs.declared.events.Op.{Op}
+use Rattle.path_keys.specs.Paths.{Path}
+use Rattle.pending_json.specs.Committers.{coded_committer}
+use Rattle.s3_types.specs.Coded.{coded_text}
+use Rattle.s3_types.specs.Fates.{FateMap, coded_fates}
+use Rattle.s3_types.specs.declared.request.Actor.{Actor}
+use Rattle.s3_types.specs.declared.request.Actor.TheVariants.{Attempt, Driver, Shell}
+use Rattle.s3_types.specs.declared.request.Committer.{Committer}
+use Rattle.s3_types.specs.declared.request.Mode.{Mode}
+use Rattle.s3_types.specs.declared.request.Mode.TheVariants.{Append, Fail, Replace}
+use Rattle.std.specs.Coded.{Coded, code_by, coded_bool, coded_list, coded_option, coded_ℕ, coded×}
+use Rattle.std.specs.Prelude.{Bool, List, Option, refl, suc, zero, ℕ, ◌≡◌}
+use Rattle.job_model.specs.declared.events.Op.TheVariants as op
 use Rattle.job_model.specs.declared.events.Event.TheVariants as event
 
 -- conflict modes by number
@@ -67,7 +74,8 @@ actor_again _ = refl
 
 -- the code of an actor
 abbrev pub coded_actor : Coded Actor
-coded_actor = code_by (ℕ × (ℕ × ℕ)) (coded× coded_ℕ (coded× coded_ℕ coded_ℕ)) actor_numbers (λ p. numbered_actor p.0 p.1.0 p.1.1) actor_again
+coded_actor = code_by (ℕ × (ℕ × ℕ)) (coded× coded_ℕ (coded× coded_ℕ coded_ℕ)) actor_numbers (λ p. numbered_actor p.0 p.1.0 p.1.1)
+    actor_again
 
 -- the code of an operation
 abbrev pub coded_op : Coded Op
@@ -102,7 +110,8 @@ event_again _ = refl
 
 -- the code of an event
 abbrev pub coded_event : Coded Event
-coded_event = code_by (ℕ × (Actor × (Op × ℕ))) (coded× coded_ℕ (coded× coded_actor (coded× coded_op coded_ℕ))) event_parts (λ p. event_of p.0 p.1.0 p.1.1.0 p.1.1.1) event_again
+coded_event = code_by (ℕ × (Actor × (Op × ℕ))) (coded× coded_ℕ (coded× coded_actor (coded× coded_op coded_ℕ))) event_parts
+    (λ p. event_of p.0 p.1.0 p.1.1.0 p.1.1.1) event_again
 
 -- the code of an attempt's name
 abbrev pub coded_name : Coded Who
@@ -114,13 +123,52 @@ coded_declared = coded× coded_name (coded_list (coded× coded_text coded_text))
 
 -- the code of a path of a bucket and a key
 abbrev pub coded_path : Coded Path
-coded_path = code_by (List ℕ × List ℕ) (coded× coded_text coded_text) (λ p. (p.bucket, p.key)) (λ p. record { bucket = p.0; key = p.1 }) (λ _. refl)
+coded_path = code_by (List ℕ × List ℕ) (coded× coded_text coded_text) (λ p. (p.bucket, p.key)) (λ p. record { bucket = p.0; key = p.1 })
+    (λ _. refl)
 
 -- the code of a script
 abbrev pub coded_script : Coded Script
 coded_script =
-    code_by (List ℕ × (Path × (Committer × (Mode × (Bool × (ℕ × (ℕ × (ℕ × (ℕ × (Option ℕ × (FateMap × (List Declared × List Event))))))))))))
-    (coded× coded_text (coded× coded_path (coded× coded_committer (coded× (code_by ℕ coded_ℕ mode_number numbered_mode mode_again) (coded× coded_bool (coded× coded_ℕ (coded× coded_ℕ (coded× coded_ℕ (coded× coded_ℕ (coded× (coded_option coded_ℕ) (coded× coded_fates (coded× (coded_list coded_declared) (coded_list coded_event)))))))))))))
-    (λ s. (s.job, (s.dest, (s.committer, (s.mode, (s.unique, (s.tasks, (s.retries, (s.block, (s.lanes, (s.stamp, (s.fates, (s.attempts, s.events)))))))))))))
-    (λ p. record { job = p.0; dest = p.1.0; committer = p.1.1.0; mode = p.1.1.1.0; unique = p.1.1.1.1.0; tasks = p.1.1.1.1.1.0; retries = p.1.1.1.1.1.1.0; block = p.1.1.1.1.1.1.1.0; lanes = p.1.1.1.1.1.1.1.1.0; stamp = p.1.1.1.1.1.1.1.1.1.0; fates = p.1.1.1.1.1.1.1.1.1.1.0; attempts = p.1.1.1.1.1.1.1.1.1.1.1.0; events = p.1.1.1.1.1.1.1.1.1.1.1.1 })
+    code_by (List ℕ × (Path × (Committer × (Mode × (Bool ×
+    (ℕ × (ℕ × (ℕ × (ℕ × (Option ℕ × (FateMap × (List Declared × List Event))))))))))))
+    (coded× coded_text (coded× coded_path (coded× coded_committer (coded× (code_by ℕ coded_ℕ mode_number numbered_mode mode_again)
+    (coded× coded_bool (coded× coded_ℕ (coded× coded_ℕ (coded× coded_ℕ
+    (coded× coded_ℕ (coded× (coded_option coded_ℕ) (coded× coded_fates
+    (coded× (coded_list coded_declared) (coded_list coded_event)))))))))))))
+    (λ s. (
+      s.job,
+      (
+        s.dest,
+        (
+          s.committer,
+          (
+            s.mode,
+            (
+              s.unique,
+              (
+                s.tasks,
+                (s.retries, (s.block, (s.lanes, (s.stamp, (s.fates, (s.attempts, s.events)))))),
+              ),
+            ),
+          ),
+        ),
+      ),
+    ))
+    (λ p. record {
+      job = p.0;
+      dest = p.1.0;
+      committer = p.1.1.0;
+      mode = p.1.1.1.0;
+      unique = p.1.1.1.1.0;
+      tasks = p.1.1.1.1.1.0;
+      retries =
+          p.1.1.1.1.1.1.0;
+      block = p.1.1.1.1.1.1.1.0;
+      lanes = p.1.1.1.1.1.1.1.1.0;
+      stamp = p.1.1.1.1.1.1.1.1.1.0;
+      fates =
+          p.1.1.1.1.1.1.1.1.1.1.0;
+      attempts = p.1.1.1.1.1.1.1.1.1.1.1.0;
+      events = p.1.1.1.1.1.1.1.1.1.1.1.1;
+    })
     (λ _. refl)

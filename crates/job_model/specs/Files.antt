@@ -1,6 +1,7 @@
 -- The files of an attempt: paths with their bytes.
-use Rattle.std.specs.Prelude.{ℕ, List, Bool, is_some}
-use Rattle.pending_json.specs.Prelude.{lookup, text_eq}
+use Rattle.basics.specs.Order.{text_eq}
+use Rattle.std.specs.Map.{lookup}
+use Rattle.std.specs.Prelude.{Bool, List, is_some, ℕ}
 
 -- a file of an attempt: its path and its bytes
 abbrev pub File : Type 0

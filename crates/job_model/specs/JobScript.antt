@@ -1,10 +1,12 @@
 -- What a job script says.
-use Rattle.std.specs.Prelude.{ℕ, Bool, false, List, [], Option, None}
-use Rattle.pending_json.specs.Prelude.{FateMap, Committer, Mode}
-use Rattle.path_keys.specs.Paths.{Path}
-use Rattle.std.specs.FinMap as fin
 use Rattle.job_model.specs.Attempts.{Declared}
 use Rattle.job_model.specs.declared.events.Event.{Event}
+use Rattle.path_keys.specs.Paths.{Path}
+use Rattle.s3_types.specs.Fates.{FateMap}
+use Rattle.s3_types.specs.declared.request.Committer.{Committer}
+use Rattle.s3_types.specs.declared.request.Mode.{Mode}
+use Rattle.std.specs.Prelude.{Bool, List, None, Option, false, ℕ, []}
+use Rattle.std.specs.FinMap as fin
 
 -- a job's head, its attempts with their files, and the events of its run
 pub record Script : Type 0 where

@@ -1,9 +1,11 @@
 -- What a job is, and what an attempt of it knows.
-use Rattle.std.specs.Prelude.{ℕ, nat_eq, Bool, List, Option}
-use Rattle.pending_json.specs.Prelude.{list_any, Committer, Mode}
-use Rattle.path_keys.specs.Paths.{Path}
 use Rattle.job_model.specs.Files.{File}
 use Rattle.job_model.specs.Known.{Known}
+use Rattle.path_keys.specs.Paths.{Path}
+use Rattle.s3_types.specs.declared.request.Committer.{Committer}
+use Rattle.s3_types.specs.declared.request.Mode.{Mode}
+use Rattle.std.specs.List.{list_any}
+use Rattle.std.specs.Prelude.{Bool, List, Option, nat_eq, ℕ}
 
 -- a job's head
 pub record Job : Type 0 where

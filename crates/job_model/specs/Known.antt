@@ -1,6 +1,6 @@
 -- What an attempt knows by its own sendings.
-use Rattle.std.specs.Prelude.{ℕ, Bool, false, List, [], ◌∷◌, ◌++◌}
-use Rattle.pending_json.specs.Prelude.{Spelled}
+use Rattle.s3_types.specs.Tags.{Spelled}
+use Rattle.std.specs.Prelude.{Bool, List, false, ℕ, [], ◌++◌, ◌∷◌}
 
 -- an upload whose id came back: its key, its id, and of its parts that came back the tags and the sizes
 pub record Drawn : Type 0 where

@@ -1,14 +1,22 @@
 -- The bounds of what a script says.
-use Rattle.std.specs.Prelude.{Bool, IfSome, List, Some, [], false, length, nat_lt, true, ℕ, ◌++◌, ◌+◌, ◌<◌, ◌^◌, ◌∷◌, ◌≡◌, ◌≤◌}
-use Rattle.pending_json.specs.Prelude.{Actor, Committer, Fate, FateMap, MOST_SCRIPT_BYTES, Mode, is_answer, is_bucket, is_job_id, is_utf8, list_all}
-use Rattle.s3_types.specs.Prelude.{IsBare}
-use Rattle.path_keys.specs.Paths.{Path, is_key}
-use Rattle.job_model.specs.Files.{File, has_path}
+use Rattle.basics.specs.Words.{IsBare}
 use Rattle.job_model.specs.Attempts.{Declared, declares, is_known}
-use Rattle.job_model.specs.declared.events.Op.{Op}
-use Rattle.job_model.specs.declared.events.Event.{Event}
+use Rattle.job_model.specs.Files.{File, has_path}
 use Rattle.job_model.specs.JobScript.{Script}
 use Rattle.job_model.specs.Paths.{is_dest_key, is_hidden, is_path}
+use Rattle.job_model.specs.declared.events.Event.{Event}
+use Rattle.job_model.specs.declared.events.Op.{Op}
+use Rattle.path_keys.specs.Paths.{Path, is_key}
+use Rattle.s3_types.specs.Fates.{FateMap, is_answer}
+use Rattle.s3_types.specs.Names.{is_bucket, is_job_id}
+use Rattle.s3_types.specs.declared.fates.Fate.{Fate}
+use Rattle.s3_types.specs.declared.limits.TheConstants.{MOST_SCRIPT_BYTES}
+use Rattle.s3_types.specs.declared.request.Actor.{Actor}
+use Rattle.s3_types.specs.declared.request.Committer.{Committer}
+use Rattle.s3_types.specs.declared.request.Mode.{Mode}
+use Rattle.std.specs.List.{list_all}
+use Rattle.std.specs.Prelude.{Bool, IfSome, List, Some, false, length, nat_lt, true, ℕ, [], ◌++◌, ◌+◌, ◌<◌, ◌^◌, ◌∷◌, ◌≡◌, ◌≤◌}
+use Rattle.std.specs.Str.{is_utf8}
 use Rattle.std.specs.FinMap as map
 use Rattle.s3_types.specs.declared.request.Actor.TheVariants as actor
 use Rattle.s3_types.specs.declared.request.Committer.TheVariants as committer
@@ -59,7 +67,8 @@ AreFiles before (f ∷ fs) = IsFile f × (has_path before f.0 ≡ false) × AreF
 -- attempts of so many tasks behind others: each name is in its range and stands once
 abbrev pub AreAttempts : ℕ → List Declared → List Declared → Type 0
 AreAttempts tasks before [] = Unit {0}
-AreAttempts tasks before (a ∷ more) = (a.0.task < tasks) × (a.0.attempt ≤ 99) × (declares before a.0 ≡ false) × AreFiles [] a.1 × AreAttempts tasks (before ++ a ∷ []) more
+AreAttempts tasks before (a ∷ more) = (a.0.task < tasks) × (a.0.attempt ≤ 99) × (declares before a.0 ≡ false) × AreFiles [] a.1
+    × AreAttempts tasks (before ++ a ∷ []) more
 
 -- the number of files of attempts
 abbrev pub files_in : List Declared → ℕ

@@ -9,4 +9,3 @@ pub mod Legal
 pub mod Placed
 pub mod Plans
 pub mod Words
-pub mod Prelude

@@ -1,7 +1,7 @@
 -- The paths of files, and the keys of destinations.
-use Rattle.std.specs.Prelude.{ℕ, Bool, false, not, ◌&&◌, ◌||◌, List, [], ◌∷◌, length, nat_le, nat_lt, nat_eq, codes, bytes_eq}
-use Rattle.pending_json.specs.Prelude.{list_all, list_any, ends_with}
 use Rattle.basics.specs.Parts.{parts_of}
+use Rattle.std.specs.List.{ends_with, list_all, list_any}
+use Rattle.std.specs.Prelude.{Bool, List, bytes_eq, codes, false, length, nat_eq, nat_le, nat_lt, not, ℕ, [], ◌&&◌, ◌||◌, ◌∷◌}
 
 -- an element that is not empty
 abbrev pub is_full : List ℕ → Bool
@@ -9,7 +9,8 @@ is_full element = nat_lt 0 (length element)
 
 -- a file's path: 1 to 400 bytes, no element empty, and not `.pending` at the end
 abbrev pub is_path : List ℕ → Bool
-is_path path = nat_le 1 (length path) && nat_le (length path) 400 && list_all is_full (parts_of 47 path) && not (ends_with nat_eq path (codes ".pending"))
+is_path path = nat_le 1 (length path) && nat_le (length path) 400 && list_all is_full (parts_of 47 path) && not
+    (ends_with nat_eq path (codes ".pending"))
 
 -- an element that begins with `_` or `.`
 abbrev pub begins_hidden : List ℕ → Bool
@@ -26,4 +27,5 @@ is_reserved element = bytes_eq element (codes "__magic") || bytes_eq element (co
 
 -- a destination's key: 1 to 400 bytes, no CR at the end, and no reserved element
 abbrev pub is_dest_key : List ℕ → Bool
-is_dest_key key = nat_le 1 (length key) && nat_le (length key) 400 && not (ends_with nat_eq key (13 ∷ [])) && not (list_any is_reserved (parts_of 47 key))
+is_dest_key key = nat_le 1 (length key) && nat_le (length key) 400 && not (ends_with nat_eq key (13 ∷ [])) && not
+    (list_any is_reserved (parts_of 47 key))

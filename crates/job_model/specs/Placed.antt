@@ -1,10 +1,12 @@
 -- The files of an attempt at their paths below the destination.
-use Rattle.std.specs.Prelude.{ℕ, ◌==◌, Bool, true, false, List, [], ◌∷◌, ◌++◌, map, Option, if◌then◌else◌}
-use Rattle.pending_json.specs.Prelude.{join_with_byte, lookup, option_map}
 use Rattle.basics.specs.Parts.{parts_of}
-use Rattle.job_model.specs.Files.{File}
 use Rattle.job_model.specs.Attempts.{Who, same_name}
+use Rattle.job_model.specs.Files.{File}
 use Rattle.job_model.specs.JobScript.{Script}
+use Rattle.std.specs.List.{join_with_byte}
+use Rattle.std.specs.Map.{lookup}
+use Rattle.std.specs.Option.{option_map}
+use Rattle.std.specs.Prelude.{Bool, List, Option, false, if◌then◌else◌, map, true, ℕ, [], ◌++◌, ◌==◌, ◌∷◌}
 
 -- a name with `-` and the job's id before its first dot, or at its end
 abbrev pub with_id : List ℕ → List ℕ → List ℕ

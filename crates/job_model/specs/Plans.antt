@@ -1,11 +1,11 @@
 -- The bounds of what a job's driver and attempts know.
-use Rattle.std.specs.Prelude.{◌≡◌, ◌⊎◌, ℕ, ◌<◌, ◌≤◌, ◌^◌, true, false, List, [], ◌∷◌, ◌++◌, length, IfSome}
-use Rattle.pending_json.specs.Prelude.{MOST_SCRIPT_BYTES, is_job_id}
-use Rattle.s3_types.specs.declared.limits.TheConstants.{MOST_MINIMUM}
 use Rattle.job_model.specs.Files.{File, has_path}
 use Rattle.job_model.specs.Jobs.{Job, Task}
-use Rattle.job_model.specs.Legal.{IsDest, FitsMagic, IsGiven, are_bytes, bytes_of}
+use Rattle.job_model.specs.Legal.{FitsMagic, IsDest, IsGiven, are_bytes, bytes_of}
 use Rattle.job_model.specs.Placed.{unique_name}
+use Rattle.s3_types.specs.Names.{is_job_id}
+use Rattle.s3_types.specs.declared.limits.TheConstants.{MOST_MINIMUM, MOST_SCRIPT_BYTES}
+use Rattle.std.specs.Prelude.{IfSome, List, false, length, true, ℕ, [], ◌++◌, ◌<◌, ◌^◌, ◌∷◌, ◌≡◌, ◌≤◌, ◌⊎◌}
 
 -- the bounds of a job's head, as a script gives them
 pub record IsJob (j : Job) : Type 0 where

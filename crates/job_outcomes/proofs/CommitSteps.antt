@@ -1,18 +1,54 @@
 -- One entry of the driver's commit, and where it leads with the sets that it holds.
-use Rattle.job_outcomes.proofs.Common.{Bool, IsAt, List, None, Option, RequestsApart, Some, Stage, WhereCommitted, [], ap, arith, false, is_unanswered, length, none_some, not, or-true, puts, refl, some_is, subst, sym, text_true, true, uploads_apart, ℕ, ◌&&◌, ◌++◌, ◌<◌, ◌||◌, ◌∙◌, ◌∷◌, ◌≡◌}
-use Rattle.job_facts.specs.Prelude.{list_any, is_some, apply, Request, CompleteUpload, Reply, Outcome, Answered, Entry, run, IsLegal, Script, CommitEnd, same_path, mark_text, nth, completion, Sets, picks_of, all_commits, Commit, Fetching, Completing, Marking, CommitOver, fetching, commit_asks, commit_tells, commit_start, Sound, AllSound, Seen, see, is_marking, is_marked, HasBucket, Told, driver_entry, at_key, Hold, FitsJobCommit, Decides, Times}
-use Rattle.magic_paths.specs.Layout as layout
+use Rattle.basics.proofs.Members.{none_some, some_is, text_true}
+use Rattle.job_facts.proofs.Shapes.{puts}
+use Rattle.job_facts.proofs.Turning.{uploads_apart}
+use Rattle.job_facts.specs.Driver.{FitsJobCommit}
+use Rattle.job_facts.specs.Facts.{Hold}
+use Rattle.job_facts.specs.Filed.{Decides}
+use Rattle.job_facts.specs.Stores.{at_key}
+use Rattle.job_facts.specs.Told.{Told, driver_entry}
+use Rattle.job_model.specs.JobScript.{Script}
+use Rattle.job_model.specs.Legal.{IsLegal}
+use Rattle.job_model.specs.declared.ends.CommitEnd.{CommitEnd}
+use Rattle.job_model.specs.declared.ends.Stage.{Stage}
+use Rattle.job_outcomes.specs.CommitRuns.{IsAt, WhereCommitted}
+use Rattle.job_protocol.specs.JobCommits.{Commit, CommitOver, Completing, Fetching, Marking, Sets, all_commits, commit_asks, commit_start}
+use Rattle.job_protocol.specs.JobCommits.{commit_tells, fetching, picks_of}
+use Rattle.job_protocol.specs.LaneTable.{AllSound, RequestsApart, Sound}
+use Rattle.job_protocol.specs.Lanes.{completion, nth}
+use Rattle.job_protocol.specs.Outputs.{same_path}
+use Rattle.job_protocol.specs.Records.{mark_text}
+use Rattle.job_protocol.specs.Seen.{Seen, Times, is_marked, is_marking, see}
+use Rattle.job_spec.specs.Ends.{commit_due, end_or, is_driver, is_mark_answered}
+use Rattle.job_traces.proofs.Leads.{Enters, Leads, enters, fetches, is_marked as marked_now, is_reverted, leads, mark_worn, none_reverts}
+use Rattle.job_traces.proofs.Leads.{read_worn, reads_none, reverts, stays_over, sweep_worn}
 use Rattle.retries.proofs.SameRequest.{same_is}
+use Rattle.retries.specs.Operation.{run}
+use Rattle.s3_types.specs.Answer.{apply}
+use Rattle.s3_types.specs.Moment.{is_unanswered}
+use Rattle.s3_types.specs.declared.journal.Entry.{Entry}
+use Rattle.s3_types.specs.declared.journal.Outcome.{Outcome}
+use Rattle.s3_types.specs.declared.journal.Outcome.TheVariants.{Answered}
+use Rattle.s3_types.specs.declared.reply.Reply.{Reply}
+use Rattle.s3_types.specs.declared.request.Request.{Request}
+use Rattle.s3_types.specs.declared.request.Request.TheVariants.{CompleteUpload}
+use Rattle.std.proofs.Common.{Bool, List, None, Option, Some, ap, arith, false, length, not, refl, subst, sym, true, ℕ, [], ◌&&◌, ◌++◌, ◌<◌}
+use Rattle.std.proofs.Common.{◌||◌, ◌∙◌, ◌∷◌, ◌≡◌}
+use Rattle.std.proofs.Math.Bool.{or-true}
+use Rattle.std.specs.List.{list_any}
+use Rattle.std.specs.Option.{is_some}
+use Rattle.store_frame.specs.Held.{HasBucket}
+use Rattle.magic_paths.specs.Layout as layout
 use Rattle.job_model.specs.declared.ends.CommitEnd.TheVariants as commits
 use Rattle.job_model.specs.declared.ends.Stage.TheVariants as stages
-use Rattle.job_traces.proofs.Leads.{Enters, enters, Leads, fetches, reads_none, is_marked as marked_now, is_reverted, stays_over, read_worn, sweep_worn, mark_worn, reverts, none_reverts, leads}
-use Rattle.job_spec.specs.Prelude.{commit_due, end_or, is_driver, is_mark_answered}
 
 -- ---- where outcomes lead with the sets
 
 module _ (w : Script) where
-  none_due : (missing : Option ℕ) (sets : Sets) (end : CommitEnd) → missing ≡ None → (o : Option CommitEnd) → same_path w (picks_of sets) ≡ o → end ≡ end_or o commits.Committed → end ≡ commit_due w (picks_of sets) missing None
-  none_due missing sets end m o e is = is ∙ ap (λ v. end_or v commits.Committed) (sym e) ∙ ap (λ v. commit_due w (picks_of sets) v None) (sym m)
+  none_due : (missing : Option ℕ) (sets : Sets) (end : CommitEnd) → missing ≡ None → (o : Option CommitEnd)
+      → same_path w (picks_of sets) ≡ o → end ≡ end_or o commits.Committed → end ≡ commit_due w (picks_of sets) missing None
+  none_due missing sets end m o e is = is ∙ ap (λ v. end_or v commits.Committed) (sym e) ∙ ap (λ v. commit_due w (picks_of sets) v None)
+      (sym m)
 
   at_enters : (missing : Option ℕ) (sets : Sets) → missing ≡ None → {d : Commit} → Enters w sets d → IsAt w missing sets d
   at_enters missing sets h g = grind arith
@@ -32,10 +68,12 @@ module _ (w : Script) where
     abbrev D : Commit → Type 0
     D c = Decides w minimum m.publish_sent m.drawn c
 
-    at_leads : (missing : Option ℕ) (sets : Sets) {c d : Commit} {o : Outcome} → Leads w c o d → (IsRead c o → ⊥) → D c → IsAt w missing sets c → IsAt w missing sets d
+    at_leads : (missing : Option ℕ) (sets : Sets) {c d : Commit} {o : Outcome} → Leads w c o d → (IsRead c o → ⊥) → D c
+        → IsAt w missing sets c → IsAt w missing sets d
     at_leads missing sets (fetches y e n) unread d h = absurd (unread tt)
     at_leads missing sets (reads_none e) unread d h = absurd (unread tt)
-    at_leads missing sets marked_now unread d h = none_due missing sets commits.Committed h.0 None (ap (λ v. same_path w (picks_of v)) (sym h.1) ∙ d.apart) refl
+    at_leads missing sets marked_now unread d h = none_due missing sets commits.Committed h.0 None
+        (ap (λ v. same_path w (picks_of v)) (sym h.1) ∙ d.apart) refl
     at_leads missing sets read_worn unread d h = (h.0, subst (λ l. length l < w.tasks) h.1 d)
     at_leads missing sets sweep_worn unread d h = h.0
     at_leads missing sets mark_worn unread d h = h.0
@@ -43,7 +81,8 @@ module _ (w : Script) where
     at_leads missing sets none_reverts unread d h = h.0
     at_leads missing sets _ unread d h = h
 
-    pub at_tells : (missing : Option ℕ) (sets : Sets) (c : Commit) (o : Outcome) → (IsRead c o → ⊥) → D c → IsAt w missing sets c → IsAt w missing sets (commit_tells w c o)
+    pub at_tells : (missing : Option ℕ) (sets : Sets) (c : Commit) (o : Outcome) → (IsRead c o → ⊥) → D c → IsAt w missing sets c
+        → IsAt w missing sets (commit_tells w c o)
     at_tells missing sets c o unread d h = at_leads missing sets (leads w c o) unread d h
 
 -- ---- how it may end
@@ -58,7 +97,8 @@ abbrev pub IsMarkAnswer : Commit → Outcome → Type 0
 IsMarkAnswer (Marking s n) (Answered x) = Unit {0}
 IsMarkAnswer _ _ = ⊥
 
-module _ (w : Script) (P : CommitEnd → Type 0) (fault : (t : Stage) → P (commits.StoreFault t)) (shared : (p : List ℕ) (t u : ℕ) → P (commits.SamePath p t u)) where
+module _ (w : Script) (P : CommitEnd → Type 0) (fault : (t : Stage) → P (commits.StoreFault t))
+    (shared : (p : List ℕ) (t u : ℕ) → P (commits.SamePath p t u)) where
   by_enters : {sets : Sets} {d : Commit} → Enters w sets d → EndsBy P d
   by_enters h = grind arith
 
@@ -93,12 +133,16 @@ module _ (w : Script) where
   over_run : (end : CommitEnd) (es : List Entry) → run (commit_tells w) (CommitOver end) es ≡ CommitOver end
   over_run end [] = refl
   over_run end (e ∷ es) =
-      ap (λ c. run (commit_tells w) c es) (elim e.outcome as (λ o. commit_tells w (CommitOver end) o ≡ CommitOver end) [ Answered x ↦ refl | _ ↦ refl ]) ∙ over_run end es
+      ap (λ c. run (commit_tells w) c es) (elim e.outcome as (λ o. commit_tells w (CommitOver end) o ≡ CommitOver end)
+      [ Answered x ↦ refl | _ ↦ refl ]) ∙ over_run end es
 
-  missing_over : (t : ℕ) (es : List Entry) → run (commit_tells w) (CommitOver (commits.Missing t)) es ≡ run (commit_tells w) (commit_start w None) es → ⊥
-  missing_over t es e = subst (EndsBy NotMissing) (sym e ∙ over_run (commits.Missing t) es) (not_run (commit_start w None) es (by_fetching w NotMissing (λ t. tt) (λ p t u. tt) []))
+  missing_over : (t : ℕ) (es : List Entry) → run (commit_tells w) (CommitOver (commits.Missing t)) es ≡ run (commit_tells w)
+      (commit_start w None) es → ⊥
+  missing_over t es e = subst (EndsBy NotMissing) (sym e ∙ over_run (commits.Missing t) es)
+      (not_run (commit_start w None) es (by_fetching w NotMissing (λ t. tt) (λ p t u. tt) []))
 
-  pub one_start : (a b : Option ℕ) (es : List Entry) → run (commit_tells w) (commit_start w a) es ≡ run (commit_tells w) (commit_start w b) es → a ≡ b
+  pub one_start : (a b : Option ℕ) (es : List Entry)
+      → run (commit_tells w) (commit_start w a) es ≡ run (commit_tells w) (commit_start w b) es → a ≡ b
   one_start a b es h = grind (arith, missing_over, over_run)
 
 -- ---- the marker
@@ -122,27 +166,37 @@ any_last p (x ∷ es) e h = ap (λ b. p x || b) (any_last p es e h) ∙ or-true 
 
 module _ (w : Script) (k : Times) (s : Seen) (there : HasBucket s.scene.content w.dest.bucket) (n : ℕ) (r : Request) (es : List Entry) where
   marks_request : (sets : Sets) (x : ℕ) → commit_asks w (Marking sets x) ≡ Some r → is_marking w r ≡ true
-  marks_request sets x asked = ap (is_marking w) (sym (some_is asked)) ∙ rw (text_true w.dest.bucket w.dest.bucket refl, text_true (layout.success_key w.dest.key) (layout.success_key w.dest.key) refl) refl
+  marks_request sets x asked = ap (is_marking w) (sym (some_is asked)) ∙ rw (
+    text_true w.dest.bucket w.dest.bucket refl,
+    text_true
+        (layout.success_key w.dest.key) (layout.success_key w.dest.key) refl,
+  ) refl
 
   -- the answer to the put of the marker
-  put_stands : (sets : Sets) (x : ℕ) → commit_asks w (Marking sets x) ≡ Some r → (y : Reply) → is_marked w (see w k s (driver_entry n r (Answered y))) ≡ true
+  put_stands : (sets : Sets) (x : ℕ) → commit_asks w (Marking sets x) ≡ Some r → (y : Reply)
+      → is_marked w (see w k s (driver_entry n r (Answered y))) ≡ true
   put_stands sets x asked y =
-      ap (λ b. (s.put_mark || b) && is_some (at_key w (apply s.scene r).content (layout.success_key w.dest.key))) (marks_request sets x asked)
-      ∙ ap (λ o. (s.put_mark || true) && is_some o) (ap (λ q. at_key w (apply s.scene q).content (layout.success_key w.dest.key)) (sym (some_is asked)) ∙ (puts w s.scene there.0 there.1 (layout.success_key w.dest.key) (mark_text w (picks_of sets)) None).here)
+      ap (λ b. (s.put_mark || b) && is_some (at_key w (apply s.scene r).content (layout.success_key w.dest.key)))
+      (marks_request sets x asked)
+      ∙ ap (λ o. (s.put_mark || true) && is_some o) (ap (λ q. at_key w (apply s.scene q).content (layout.success_key w.dest.key))
+      (sym (some_is asked)) ∙ (puts w s.scene there.0 there.1 (layout.success_key w.dest.key) (mark_text w (picks_of sets)) None).here)
       ∙ ap (λ b. b && true) (or-true s.put_mark)
 
   -- after one more entry of the commit
-  where_next : (P : Outcome → Type 0) → ((sets : Sets) (x : ℕ) → commit_asks w (Marking sets x) ≡ Some r → (y : Reply) → P (Answered y)) → (c : Commit) → commit_asks w c ≡ Some r → (o : Outcome) → WhereCommitted (P o) (commit_tells w c o)
+  where_next : (P : Outcome → Type 0) → ((sets : Sets) (x : ℕ) → commit_asks w (Marking sets x) ≡ Some r → (y : Reply) → P (Answered y))
+      → (c : Commit) → commit_asks w c ≡ Some r → (o : Outcome) → WhereCommitted (P o) (commit_tells w c o)
   where_next P put (Marking sets x) asked (Answered y) = put sets x asked y
   where_next P put (CommitOver end) asked o = absurd (none_some refl asked)
   where_next P put c asked o = uncommitted (P o) (commit_tells w c o) (by_tells w NotCommitted (λ t. tt) (λ p t u. tt) c o (λ i. i) tt)
 
-  pub answered_next : (c : Commit) → commit_asks w c ≡ Some r → (o : Outcome) → WhereCommitted (is_mark_answered w (es ++ driver_entry n r o ∷ []) ≡ true) (commit_tells w c o)
+  pub answered_next : (c : Commit) → commit_asks w c ≡ Some r → (o : Outcome)
+      → WhereCommitted (is_mark_answered w (es ++ driver_entry n r o ∷ []) ≡ true) (commit_tells w c o)
   answered_next = where_next (λ o. is_mark_answered w (es ++ driver_entry n r o ∷ []) ≡ true) (λ sets x asked y.
       any_last (λ e. is_driver e.actor && (is_marking w e.request && not (is_unanswered e.outcome))) es (driver_entry n r (Answered y))
       (ap (λ b. b && true) (marks_request sets x asked)))
 
-  pub marked_next : (c : Commit) → commit_asks w c ≡ Some r → (o : Outcome) → WhereCommitted (is_marked w (see w k s (driver_entry n r o)) ≡ true) (commit_tells w c o)
+  pub marked_next : (c : Commit) → commit_asks w c ≡ Some r → (o : Outcome)
+      → WhereCommitted (is_marked w (see w k s (driver_entry n r o)) ≡ true) (commit_tells w c o)
   marked_next = where_next (λ o. is_marked w (see w k s (driver_entry n r o)) ≡ true) put_stands
 
 -- ---- its requests
@@ -155,13 +209,15 @@ module _ (w : Script) (minimum : ℕ) (s : Seen) (m : Told) (j : IsLegal w) (f :
   -- uploads that it completes are two requests
   apart_of : (sets : Sets) → FitsJobCommit w minimum m.publish_sent m.drawn (Marking sets 0) → RequestsApart sets
   unfolding upload_of
-  apart_of sets reads = λ i n low high e. uploads_apart w minimum s m j f sets reads i n low high (ap upload_of (same_is (completion (nth (all_commits sets) i)) (completion (nth (all_commits sets) n)) e))
+  apart_of sets reads = λ i n low high e. uploads_apart w minimum s m j f sets reads i n low high
+      (ap upload_of (same_is (completion (nth (all_commits sets) i)) (completion (nth (all_commits sets) n)) e))
 
   pub sound_now : (c : Commit) → FitsJobCommit w minimum m.publish_sent m.drawn c → Sound c
   sound_now (Completing sets x xs finished) fits = apart_of sets fits
   sound_now _ fits = tt
 
 -- one more entry, where all before it were sound
-pub sound_more : (w : Script) (c : Commit) (es : List Entry) (e : Entry) → AllSound w c es → Sound (run (commit_tells w) c es) → AllSound w c (es ++ e ∷ [])
+pub sound_more : (w : Script) (c : Commit) (es : List Entry) (e : Entry) → AllSound w c es → Sound (run (commit_tells w) c es)
+    → AllSound w c (es ++ e ∷ [])
 sound_more w c [] e h s = (s, tt)
 sound_more w c (x ∷ es) e h s = (h.0, sound_more w (commit_tells w c x.outcome) es e h.1 s)

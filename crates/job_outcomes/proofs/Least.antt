@@ -1,12 +1,28 @@
 -- The first file that is shown among the keys below a destination, as they are listed page by page.
-use Rattle.job_outcomes.proofs.Common.{Bool, IsIn, IsLegal, List, None, Option, RisesFrom, Script, Some, [], ap, append_assoc, arith, begins, begins_back, behind, below, below_is, codes, cond, dest_prefix, false, false_true, first_shown, inl, inr, irrefl, is_file_path, is_lt, last_from, le_lt, lt_not, nat_cmp, nat_cmp_total, none_some, or_next, ordering_then, refl, relative_in, shown_path, some_dest, some_is, sym, text_cmp, text_total, true, true_or_false, ℕ, ◌++◌, ◌∙◌, ◌∷◌, ◌≡◌, ◌⊎◌}
+use Rattle.basics.proofs.Less.{equal_self, irrefl, le_lt, lt_not}
+use Rattle.basics.proofs.Members.{false_true, none_some, some_is, true_or_false}
+use Rattle.basics.specs.Members.{IsIn, RisesFrom, last_from}
+use Rattle.basics.specs.Order.{text_cmp, text_total}
+use Rattle.job_facts.proofs.Legal.{some_dest}
+use Rattle.job_model.specs.JobScript.{Script}
+use Rattle.job_model.specs.Legal.{IsLegal}
+use Rattle.job_protocol.specs.Setup.{dest_prefix, first_shown, or_next, shown_path}
+use Rattle.job_protocol.specs.View.{is_file_path}
+use Rattle.magic_paths.proofs.Tails.{begins_back, below_is}
 use Rattle.path_keys.proofs.Beneath.{behind_some}
-use Rattle.basics.proofs.Less.{equal_self}
+use Rattle.path_keys.specs.Paths.{below, relative_in}
+use Rattle.s3_types.specs.Pages.{begins}
+use Rattle.std.proofs.Common.{Bool, List, None, Option, Some, ap, append_assoc, arith, codes, cond, false, inl, inr, refl, sym, true, ℕ, []}
+use Rattle.std.proofs.Common.{◌++◌, ◌∙◌, ◌∷◌, ◌≡◌, ◌⊎◌}
+use Rattle.std.proofs.lemmas.Cmp.{nat_cmp_total}
+use Rattle.std.specs.Ordering.{is_lt, nat_cmp, ordering_then}
+use Rattle.store_frame.proofs.Flat.{behind}
 
 -- a common front does not matter
 pub front_cmp : (pre p q : List ℕ) → text_cmp (pre ++ p) (pre ++ q) ≡ text_cmp p q
 front_cmp [] p q = refl
-front_cmp (x ∷ pre) p q = ap (λ o. ordering_then o (text_cmp (pre ++ p) (pre ++ q))) (equal_self (nat_cmp x x) (nat_cmp_total.antisymm x x)) ∙ front_cmp pre p q
+front_cmp (x ∷ pre) p q = ap (λ o. ordering_then o (text_cmp (pre ++ p) (pre ++ q))) (equal_self (nat_cmp x x) (nat_cmp_total.antisymm x x))
+    ∙ front_cmp pre p q
 
 -- ---- keys that rise
 
@@ -31,7 +47,9 @@ pub shown_later : (w : Script) (ks more : List (List ℕ)) → first_shown w ks 
 shown_later w [] more h = refl
 shown_later w (k ∷ ks) more h = by (shown_path (relative_in w.dest.key k)) h (λ g. shown_later w ks more g)
   where
-    by : (o : Option (List ℕ)) → or_next o (first_shown w ks) ≡ None → (first_shown w ks ≡ None → first_shown w (ks ++ more) ≡ first_shown w more) → or_next o (first_shown w (ks ++ more)) ≡ first_shown w more
+    by : (o : Option (List ℕ)) → or_next o (first_shown w ks) ≡ None
+        → (first_shown w ks ≡ None → first_shown w (ks ++ more) ≡ first_shown w more)
+        → or_next o (first_shown w (ks ++ more)) ≡ first_shown w more
     by o h g = grind arith
 
 -- ---- the path of a key
@@ -42,7 +60,8 @@ module _ (w : Script) (j : IsLegal w) where
 
   pub seen_below : (q : List ℕ) → is_file_path q ≡ true → seen_at (below w.dest.key q) ≡ Some q
   seen_below q h =
-      ap shown_path (behind_some w.dest.key (below w.dest.key q) (47 ∷ q) q (omega (arith, some_dest j)) (below_is w.dest.key q (some_dest j)) refl)
+      ap shown_path (behind_some w.dest.key (below w.dest.key q) (47 ∷ q) q (omega (arith, some_dest j))
+      (below_is w.dest.key q (some_dest j)) refl)
       ∙ ap (λ b. cond b (Some q) None) h
 
   -- a key below the destination at which a file is shown
@@ -62,7 +81,11 @@ module _ (w : Script) (j : IsLegal w) where
       let is : k ≡ w.dest.key ++ 47 ∷ c.0 = c.1 ∙ append_assoc w.dest.key (codes "/") c.0 in
       let rel : relative_in w.dest.key k ≡ Some c.0 = behind_some w.dest.key k (47 ∷ c.0) c.0 (omega (arith, some_dest j)) is refl in
       let f = shown_file c.0 p (sym (ap shown_path rel) ∙ e) in
-      record { is = is ∙ ap (λ v. w.dest.key ++ 47 ∷ v) f.0 ∙ sym (below_is w.dest.key p (some_dest j)); file = sym (ap is_file_path f.0) ∙ f.1 }
+      record {
+        is = is ∙ ap (λ v. w.dest.key ++ 47 ∷ v) f.0 ∙ sym (below_is w.dest.key p (some_dest j));
+        file = sym (ap is_file_path f.0) ∙
+            f.1;
+      }
 
   -- keys are in the order of their paths
   pub below_cmp : (q p : List ℕ) → text_cmp (below w.dest.key q) (below w.dest.key p) ≡ text_cmp q p
@@ -91,8 +114,20 @@ module _ (w : Script) (j : IsLegal w) where
   pub first_of : (l : List ℕ) (ks : List (List ℕ)) → RisesFrom l ks → (p : List ℕ) → first_shown w ks ≡ Some p → IsFirst ks p
   first_of l [] h p e = absurd (none_some refl e)
   first_of l (q ∷ ks) h p e = elim (or_some (seen_at q) (first_shown w ks) p e) [
-    | inl here ↦ record { key = q; one = inl refl; shown = here; least = λ k r i s. elim i [ inl is ↦ ap (λ v. lt v q) is ∙ irrefl text_total q | inr later ↦ lt_not text_total q k (behind q k ks h.1 later) ] }
+    | inl here ↦ record {
+      key = q;
+      one = inl refl;
+      shown = here;
+      least = λ k r i s. elim i
+          [ inl is ↦ ap (λ v. lt v q) is ∙ irrefl text_total q | inr later ↦ lt_not text_total q k (behind q k ks h.1 later) ];
+    }
     | inr later ↦
         let o = first_of q ks h.1 p later.1 in
-        record { key = o.key; one = inr o.one; shown = o.shown; least = λ k r i s. elim i [ inl is ↦ absurd (none_some (ap seen_at is ∙ later.0) s) | inr more ↦ o.least k r more s ] }
+        record {
+          key = o.key;
+          one = inr o.one;
+          shown = o.shown;
+          least = λ k r i s. elim i
+              [ inl is ↦ absurd (none_some (ap seen_at is ∙ later.0) s) | inr more ↦ o.least k r more s ];
+        }
   ]

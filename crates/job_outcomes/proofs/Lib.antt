@@ -14,4 +14,3 @@ pub mod RunEntries
 pub mod CommitMoments
 pub mod Served
 pub mod EventRows
-mod Common

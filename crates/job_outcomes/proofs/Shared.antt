@@ -1,5 +1,11 @@
 -- Picks that are the same of all tasks share the same path.
-use Rattle.job_outcomes.proofs.Common.{Bool, List, None, Option, Picks, Script, Some, [], ap, arith, cond, files_picked, first_shared, first_where, has_path, option_map, paths_of, refl, same_path, same_wanted, second_where, shared_by, suc, two_where, wanted_paths, writes, zero, ℕ, ◌+◌, ◌-◌, ◌<◌, ◌∙◌, ◌∷◌, ◌≡◌, ◌≤◌}
+use Rattle.job_facts.proofs.Wanted.{same_wanted}
+use Rattle.job_model.specs.Files.{has_path}
+use Rattle.job_model.specs.JobScript.{Script}
+use Rattle.job_protocol.specs.Outputs.{Picks, files_picked, first_shared, first_where, paths_of, same_path, second_where, shared_by}
+use Rattle.job_protocol.specs.Outputs.{two_where, wanted_paths, writes}
+use Rattle.std.proofs.Common.{Bool, List, None, Option, Some, ap, arith, cond, refl, suc, zero, ℕ, [], ◌+◌, ◌-◌, ◌<◌, ◌∙◌, ◌∷◌, ◌≡◌, ◌≤◌}
+use Rattle.std.specs.Option.{option_map}
 
 first_same : (a b : ℕ → Bool) (t n : ℕ) → ((u : ℕ) → t ≤ u → u < t + n → a u ≡ b u) → first_where a t n ≡ first_where b t n
 first_same a b t zero h = refl
@@ -15,9 +21,11 @@ module _ (w : Script) (picks more : Picks) (agree : (t : ℕ) → t < w.tasks �
   first_so : (ps : List (List ℕ)) → first_shared w more ps ≡ first_shared w picks ps
   first_so [] = refl
   first_so (p ∷ ps) =
-      let same : (t : ℕ) → t < w.tasks → writes w more p t ≡ writes w picks p t = λ t l. ap (λ o. has_path (files_picked w t o) p) (agree t l) in
+      let same : (t : ℕ) → t < w.tasks → writes w more p t ≡ writes w picks p t = λ t l. ap (λ o. has_path (files_picked w t o) p)
+      (agree t l) in
       let two : two_where (writes w more p) w.tasks ≡ two_where (writes w picks p) w.tasks =
-      ap (λ o. second_where (writes w more p) w.tasks o) (first_same (writes w more p) (writes w picks p) 0 w.tasks (λ u l k. same u (omega arith)))
+      ap (λ o. second_where (writes w more p) w.tasks o) (first_same (writes w more p) (writes w picks p) 0 w.tasks
+      (λ u l k. same u (omega arith)))
       ∙ second_same (writes w more p) (writes w picks p) w.tasks (first_where (writes w picks p) 0 w.tasks) same in
       ap (λ o. shared_by p o (first_shared w more ps)) two ∙ ap (shared_by p (two_where (writes w picks p) w.tasks)) (first_so ps)
 

@@ -1,12 +1,44 @@
 -- How an attempt's operations end, by its own entries alone.
-use Rattle.job_outcomes.proofs.Common.{All, Bool, Contains, List, None, Option, Some, TaskMay, WasListed, [], ap, append_assoc, arith, checks_partitions, cond, false, faults, first_spent, inl, inr, is_serial, none_some, refl, some_is, step_so, subst, sym, true, ℕ, ◌++◌, ◌∙◌, ◌∷◌, ◌≡◌, ◌⊎◌}
-use Rattle.job_facts.specs.Prelude.{option_map, is_some, Actor, Attempt, Committer, Magic, Request, ListPage, PageEntry, Reply, Page, Answered, Entry, run, Follows, spent_in, WornFirst, File, Who, Script, Known, Op, TaskEnd, files, paths_of, partitions, Walked, GoesOn, AllSent, IsGone, upload_hears, Setting, Operation, TheWrite, TheTaskCommit, TheTaskAbort, Running, who, asks, wants, advance, tells, start_of, over, spare_of, is_fault, Reports, actor_of}
+use Rattle.basics.proofs.Members.{none_some, some_is}
+use Rattle.job_facts.proofs.Going.{step_so}
+use Rattle.job_model.specs.Attempts.{Who, actor_of}
+use Rattle.job_model.specs.Files.{File}
+use Rattle.job_model.specs.JobScript.{Script}
+use Rattle.job_model.specs.Known.{Known}
+use Rattle.job_model.specs.declared.ends.TaskEnd.{TaskEnd}
+use Rattle.job_model.specs.declared.events.Op.{Op}
+use Rattle.job_protocol.proofs.Faults.{faults}
+use Rattle.job_protocol.proofs.Wearing.{first_spent}
+use Rattle.job_protocol.specs.Conflicts.{checks_partitions, partitions}
+use Rattle.job_protocol.specs.Laws.{is_fault, is_serial, spare_of}
+use Rattle.job_protocol.specs.Operations.{Operation, Reports, Running, Setting, TheTaskAbort, TheTaskCommit, TheWrite, advance, asks, over}
+use Rattle.job_protocol.specs.Operations.{start_of, tells, wants, who}
+use Rattle.job_protocol.specs.Outputs.{files, paths_of}
+use Rattle.job_protocol.specs.Uploading.{AllSent, GoesOn, IsGone, upload_hears}
+use Rattle.job_spec.specs.OperationEnds.{TaskIs, TaskMay, WasListed}
+use Rattle.list_walk.specs.Walks.{Walked, walked}
+use Rattle.retries.specs.Operation.{Follows, run}
+use Rattle.retries.specs.Retries.{spent_in}
+use Rattle.retries.specs.Worn.{WornFirst}
+use Rattle.s3_types.specs.declared.journal.Entry.{Entry}
+use Rattle.s3_types.specs.declared.journal.Outcome.TheVariants.{Answered}
+use Rattle.s3_types.specs.declared.reply.PageEntry.{PageEntry}
+use Rattle.s3_types.specs.declared.reply.Reply.{Reply}
+use Rattle.s3_types.specs.declared.reply.Reply.TheVariants.{Page}
+use Rattle.s3_types.specs.declared.request.Actor.{Actor}
+use Rattle.s3_types.specs.declared.request.Actor.TheVariants.{Attempt}
+use Rattle.s3_types.specs.declared.request.Committer.{Committer}
+use Rattle.s3_types.specs.declared.request.Committer.TheVariants.{Magic}
+use Rattle.s3_types.specs.declared.request.Request.{Request}
+use Rattle.s3_types.specs.declared.request.Request.TheVariants.{ListPage}
+use Rattle.std.proofs.Common.{Bool, List, None, Option, Some, ap, append_assoc, arith, cond, false, inl, inr, refl, subst, sym, true, ℕ, []}
+use Rattle.std.proofs.Common.{◌++◌, ◌∙◌, ◌∷◌, ◌≡◌, ◌⊎◌}
 use Rattle.std.proofs.lemmas.List.Elements.{All-push, Contains-append_left, Contains-append_right, Contains-push}
+use Rattle.std.specs.List.{All, Contains}
+use Rattle.std.specs.Option.{is_some, option_map}
 use Rattle.job_model.specs.declared.events.Op.TheVariants as ops
 use Rattle.job_model.specs.declared.ends.TaskEnd.TheVariants as tasks
 use Rattle.job_model.specs.declared.ends.OpEnd.TheVariants as ends
-use Rattle.list_walk.specs.Walks.{walked}
-use Rattle.job_spec.specs.Prelude.{TaskIs}
 use Rattle.job_protocol.specs.Writes as writes
 use Rattle.job_protocol.specs.TaskCommits as commits
 use Rattle.job_protocol.specs.TaskAborts as aborts
@@ -59,7 +91,8 @@ module _ (w : Script) (a : Who) (all : List Entry) (sent : Bool) where
   checking_so ds h = grind arith
 
   -- by the entry that tells the page
-  module _ (d : List ℕ) (ds : List (List ℕ)) (e : Entry) (is_entry : Contains all e) (asked : e.request ≡ ListPage w.dest.bucket (commits.partition_prefix w d) false [] 1) (h : Checked (d ∷ ds)) where
+  module _ (d : List ℕ) (ds : List (List ℕ)) (e : Entry) (is_entry : Contains all e)
+      (asked : e.request ≡ ListPage w.dest.bucket (commits.partition_prefix w d) false [] 1) (h : Checked (d ∷ ds)) where
     listed_so : (page : List PageEntry) (more : Bool) → e.outcome ≡ Answered (Page page more) → WasListed w all d page
     listed_so page more o = record { entry = e; is_entry = is_entry; asks = asked; more = more; answered = o }
 
@@ -70,24 +103,39 @@ module _ (w : Script) (a : Who) (all : List Entry) (sent : Bool) where
       parts = append_assoc h.before (d ∷ []) ds ∙ h.parts;
       free = All-push (λ b. WasListed w all b []) h.before d h.free (listed_so [] more o);
     })
-    checked_so (Page (x ∷ xs) more) o = inr (h.checks, record { before = h.before; rest = ds; parts = h.parts; free = h.free; key = x; others = xs; listed = listed_so (x ∷ xs) more o })
+    checked_so (Page (x ∷ xs) more) o = inr (
+      h.checks,
+      record {
+        before = h.before;
+        rest = ds;
+        parts = h.parts;
+        free = h.free;
+        key = x;
+        others = xs;
+        listed = listed_so (x ∷ xs) more o;
+      },
+    )
     checked_so _ o = h
 
   renamed_so : (r : Reply) (b : Bool) → Commit (commits.renamed w a r b)
   renamed_so r b = grind arith
 
-  commit_so : (minimum : ℕ) (k : Known) (t : commits.TaskCommit) (e : Entry) → Contains all e → commits.task_commit_asks w a k t ≡ Some e.request → (r : Reply) (b : Bool) → e.outcome ≡ Answered r → Commit t → Commit (commits.task_commit_hears w minimum a t r b)
+  commit_so : (minimum : ℕ) (k : Known) (t : commits.TaskCommit) (e : Entry) → Contains all e
+      → commits.task_commit_asks w a k t ≡ Some e.request → (r : Reply) (b : Bool) → e.outcome ≡ Answered r → Commit t
+      → Commit (commits.task_commit_hears w minimum a t r b)
   commit_so minimum k (commits.Looking keys) e i asked r b o h = looked_so (walked keys r)
   commit_so minimum k (commits.Reading cs f fs) e i asked r b o h = record_so cs f fs r
   commit_so minimum k (commits.Publishing cs) e i asked r b o h = inr tt
   commit_so minimum k (commits.Checking d ds) e i asked r b o h = checked_so d ds e i (sym (some_is asked)) h r o
   commit_so minimum k (commits.Uploads f fs u) e i asked r b o h =
-      elim (upload_hears w minimum f u r) as (λ v. Commit (commits.uploaded w f fs v)) [ GoesOn v ↦ tt | AllSent ↦ storing_so fs | IsGone ↦ inr refl ]
+      elim (upload_hears w minimum f u r) as (λ v. Commit (commits.uploaded w f fs v))
+      [ GoesOn v ↦ tt | AllSent ↦ storing_so fs | IsGone ↦ inr refl ]
   commit_so minimum k commits.Storing e i asked r b o h = tt
   commit_so minimum k commits.Renaming e i asked r b o h = renamed_so r b
   commit_so minimum k (commits.TaskCommitOver end) e i asked r b o h = h
 
-  to_check_so : (b : Bool) → checks_partitions w.committer w.mode ≡ b → Commit (commits.checking w a (cond b (partitions (paths_of (files w a))) []))
+  to_check_so : (b : Bool) → checks_partitions w.committer w.mode ≡ b
+      → Commit (commits.checking w a (cond b (partitions (paths_of (files w a))) []))
   to_check_so b h = grind arith
 
   commit_begun : (c : Committer) → Commit (commits.task_commit_start_by c w a)
@@ -103,7 +151,8 @@ module _ (w : Script) (a : Who) (all : List Entry) (sent : Bool) where
   abort_so : (t : aborts.TaskAbort) (r : Reply) → Abort t → Abort (aborts.task_abort_hears w t r)
   abort_so t r h = grind arith
 
-abort_begun : (w : Script) (a : Who) (all : List Entry) (sent : Bool) (k : Known) → Abort w a all sent (aborts.task_abort_by sent w.committer k)
+abort_begun : (w : Script) (a : Who) (all : List Entry) (sent : Bool) (k : Known)
+    → Abort w a all sent (aborts.task_abort_by sent w.committer k)
 abort_begun w a all sent k = grind arith
 
 -- ---- an attempt's operation
@@ -118,17 +167,22 @@ task_is : {d e : TaskEnd} → Some (ends.Task d) ≡ Some (ends.Task e) → d �
 task_is e = cc
 
 module _ (g : Setting) (a : Who) (all : List Entry) (sent : Bool) where
-  goes : (op : Op) (m : Operation) (k : Known) (e : Entry) → Contains all e → asks g a k m ≡ Some e.request → Op_is op g.script a all sent m → Op_is op g.script a all sent (tells g a m e.outcome)
+  goes : (op : Op) (m : Operation) (k : Known) (e : Entry) → Contains all e → asks g a k m ≡ Some e.request → Op_is op g.script a all sent m
+      → Op_is op g.script a all sent (tells g a m e.outcome)
   goes ops.Write (TheWrite t) k e i asked h =
-      step_so g.script.retries (writes.write_after g.script g.minimum) t e.outcome (Write g.script a all sent) (λ x o. write_so g.script a all sent g.minimum t.operation x h) (λ n. h) (λ n. inl refl)
+      step_so g.script.retries (writes.write_after g.script g.minimum) t e.outcome (Write g.script a all sent)
+      (λ x o. write_so g.script a all sent g.minimum t.operation x h) (λ n. h) (λ n. inl refl)
   goes ops.Commit (TheTaskCommit t) k e i asked h =
-      step_so g.script.retries (commits.task_commit_after g.script g.minimum a) t e.outcome (Commit g.script a all sent) (λ x o. commit_so g.script a all sent g.minimum k t.operation e i asked x t.repeated o h) (λ n. h) (λ n. inl refl)
+      step_so g.script.retries (commits.task_commit_after g.script g.minimum a) t e.outcome (Commit g.script a all sent)
+      (λ x o. commit_so g.script a all sent g.minimum k t.operation e i asked x t.repeated o h) (λ n. h) (λ n. inl refl)
   goes ops.Abort (TheTaskAbort t) k e i asked h =
-      step_so g.script.retries (aborts.task_abort_after g.script) t e.outcome (Abort g.script a all sent) (λ x o. abort_so g.script a all sent t.operation x h) (λ n. h) (λ n. inl refl)
+      step_so g.script.retries (aborts.task_abort_after g.script) t e.outcome (Abort g.script a all sent)
+      (λ x o. abort_so g.script a all sent t.operation x h) (λ n. h) (λ n. inl refl)
   goes _ _ k e i asked h = absurd h
 
   -- where it is over, its end is one of these
-  over_so : (op : Op) (m : Operation) → Op_is op g.script a all sent m → (e : TaskEnd) → over m ≡ Some (ends.Task e) → Ends op g.script a all sent e
+  over_so : (op : Op) (m : Operation) → Op_is op g.script a all sent m → (e : TaskEnd) → over m ≡ Some (ends.Task e)
+      → Ends op g.script a all sent e
   over_so op m h e g = grind arith
 
 -- ---- as it begins it is not at fault
@@ -140,7 +194,8 @@ write_calm c fs = grind arith
 pub commit_going : (c : Committer) (w : Script) (a : Who) → commits.task_commit_over (commits.task_commit_start_by c w a) ≡ None
 commit_going c w a = grind arith
 
-abort_calm : (sent : Bool) (c : Committer) (k : Known) → is_fault (option_map ends.Task (aborts.task_abort_over (aborts.task_abort_by sent c k))) ≡ false
+abort_calm : (sent : Bool) (c : Committer) (k : Known)
+    → is_fault (option_map ends.Task (aborts.task_abort_over (aborts.task_abort_by sent c k))) ≡ false
 abort_calm sent c k = grind arith
 
 -- ---- by its entries
@@ -151,16 +206,37 @@ record Begun (g : Setting) (a : Who) (all : List Entry) (op : Op) (k : Known) (m
   pub calm : is_fault (over m) ≡ false
   pub is : Op_is op g.script a all k.publish_sent m
 
-begun : (g : Setting) (one : Who) (all : List Entry) (op : Op) (r : Reports) (k : Known) (m : Operation) → start_of g (actor_of one) op r k ≡ Some m → Begun g one all op k m
+begun : (g : Setting) (one : Who) (all : List Entry) (op : Op) (r : Reports) (k : Known) (m : Operation)
+    → start_of g (actor_of one) op r k ≡ Some m → Begun g one all op k m
 begun g one all ops.Write missing k m e = subst (Begun g one all ops.Write k) (some_is e)
-    (record { serial = refl; spare = refl; calm = write_calm g.script.committer (files g.script one); is = write_begun g.script one all k.publish_sent g.script.committer (files g.script one) })
+    (record {
+      serial = refl;
+      spare = refl;
+      calm = write_calm g.script.committer (files g.script one);
+      is = write_begun g.script one all
+          k.publish_sent g.script.committer (files g.script one);
+    })
 begun g one all ops.Commit missing k m e = subst (Begun g one all ops.Commit k) (some_is e)
-    (record { serial = refl; spare = refl; calm = ap (λ o. is_fault (option_map ends.Task o)) (commit_going g.script.committer g.script one); is = commit_begun g.script one all k.publish_sent g.script.committer })
+    (record {
+      serial = refl;
+      spare = refl;
+      calm = ap (λ o. is_fault (option_map ends.Task o))
+          (commit_going g.script.committer g.script one);
+      is = commit_begun g.script one all k.publish_sent g.script.committer;
+    })
 begun g one all ops.Abort missing k m e = subst (Begun g one all ops.Abort k) (some_is e)
-    (record { serial = refl; spare = refl; calm = abort_calm k.publish_sent g.script.committer k; is = abort_begun g.script one all k.publish_sent k })
+    (record {
+      serial = refl;
+      spare = refl;
+      calm = abort_calm k.publish_sent g.script.committer k;
+      is = abort_begun g.script one all
+          k.publish_sent k;
+    })
 begun g one all _ missing k m e = absurd (none_some refl e)
 
-run_so : (g : Setting) (a : Actor) (all : List Entry) (sent : Bool) (op : Op) (m : Running) (es : List Entry) → ((e : Entry) → Contains es e → Contains all e) → Follows (wants g a) (advance g a) m es → Op_is op g.script (who a) all sent m.operation
+run_so : (g : Setting) (a : Actor) (all : List Entry) (sent : Bool) (op : Op) (m : Running) (es : List Entry)
+    → ((e : Entry) → Contains es e → Contains all e) → Follows (wants g a) (advance g a) m es
+    → Op_is op g.script (who a) all sent m.operation
     → Op_is op g.script (who a) all sent (run (advance g a) m es).operation
 run_so g a all sent op m [] among f h = h
 run_so g a all sent op m (e ∷ es) among f h =
@@ -170,11 +246,15 @@ run_so g a all sent op m (e ∷ es) among f h =
 fault_end : (e : TaskEnd) → is_fault (Some (ends.Task e)) ≡ true → e ≡ tasks.StoreFault
 fault_end e h = grind arith
 
-not_fault : (op : Op) (w : Script) (a : Who) (all : List Entry) (sent : Bool) (e : TaskEnd) → is_fault (Some (ends.Task e)) ≡ false → Ends op w a all sent e → TaskMay op w a all sent true e
+not_fault : (op : Op) (w : Script) (a : Who) (all : List Entry) (sent : Bool) (e : TaskEnd) → is_fault (Some (ends.Task e)) ≡ false
+    → Ends op w a all sent e → TaskMay op w a all sent true e
 not_fault op w a all sent e h g = grind arith
 
-pub task_ends : (g : Setting) (t a : ℕ) (op : Op) (r : Reports) (k : Known) (m : Operation) → start_of g (Attempt t a) op r k ≡ Some m → (es : List Entry) → Follows (wants g (Attempt t a)) (advance g (Attempt t a)) (record { operation = m; known = k }) es
-    → (e : TaskEnd) → over (run (advance g (Attempt t a)) (record { operation = m; known = k }) es).operation ≡ Some (ends.Task e) → (worn : Option Request) × WornFirst g.script.retries es worn × TaskIs op g.script (who (Attempt t a)) es k.publish_sent true worn e
+pub task_ends : (g : Setting) (t a : ℕ) (op : Op) (r : Reports) (k : Known) (m : Operation) → start_of g (Attempt t a) op r k ≡ Some m
+    → (es : List Entry) → Follows (wants g (Attempt t a)) (advance g (Attempt t a)) (record { operation = m; known = k }) es
+    → (e : TaskEnd) → over (run (advance g (Attempt t a)) (record { operation = m; known = k }) es).operation ≡ Some (ends.Task e)
+    → (worn : Option Request) × WornFirst g.script.retries es worn
+    × TaskIs op g.script (who (Attempt t a)) es k.publish_sent true worn e
 task_ends g t a op missing k m start es f e is =
     let one : Who = who (Attempt t a) in
     let x : Running = record { operation = m; known = k } in
@@ -182,14 +262,19 @@ task_ends g t a op missing k m start es f e is =
     let worn = spent_in (advance g (Attempt t a)) (λ y. spare_of y.operation) x es in (
       worn,
       first_spent g (Attempt t a) x b.serial b.spare es f,
-      by worn (sym (ap is_fault is) ∙ faults g (Attempt t a) x b.serial b.calm es f) (over_so g one es k.publish_sent op (run (advance g (Attempt t a)) x es).operation (run_so g (Attempt t a) es k.publish_sent op x es (λ e i. i) f b.is) e is),
+      by worn (sym (ap is_fault is) ∙ faults g (Attempt t a) x b.serial b.calm es f)
+          (over_so g one es k.publish_sent op (run (advance g (Attempt t a)) x es).operation
+          (run_so g (Attempt t a) es k.publish_sent op x es (λ e i. i) f b.is) e is),
     )
   where
-    by : (worn : Option Request) → is_fault (Some (ends.Task e)) ≡ is_some worn → Ends op g.script (who (Attempt t a)) es k.publish_sent e → TaskIs op g.script (who (Attempt t a)) es k.publish_sent true worn e
+    by : (worn : Option Request) → is_fault (Some (ends.Task e)) ≡ is_some worn → Ends op g.script (who (Attempt t a)) es k.publish_sent e
+        → TaskIs op g.script (who (Attempt t a)) es k.publish_sent true worn e
     by (Some r) h d = fault_end e h
     by None h d = not_fault op g.script (who (Attempt t a)) es k.publish_sent e h d
 
 -- ---- with what a run says of what is gone
 
-pub task_joined : (op : Op) (w : Script) (a : Who) (es : List Entry) (sent cleaned : Bool) (worn : Option Request) (e : TaskEnd) → TaskIs op w a es sent true worn e → ((op ≡ ops.Abort → ⊥) → (name : List ℕ) → e ≡ tasks.Gone name → cleaned ≡ true) → TaskIs op w a es sent cleaned worn e
+pub task_joined : (op : Op) (w : Script) (a : Who) (es : List Entry) (sent cleaned : Bool) (worn : Option Request) (e : TaskEnd)
+    → TaskIs op w a es sent true worn e → ((op ≡ ops.Abort → ⊥) → (name : List ℕ) → e ≡ tasks.Gone name → cleaned ≡ true)
+    → TaskIs op w a es sent cleaned worn e
 task_joined op w a es sent cleaned worn e h g = grind arith

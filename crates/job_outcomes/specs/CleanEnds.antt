@@ -1,7 +1,19 @@
 -- How the driver's abort or clean of the job ends.
-use Rattle.std.specs.Prelude.{◌≡◌, List, Option, Some}
-use Rattle.job_facts.specs.Prelude.{Scene, after_all, AreHonest, Actor, Request, Entry, run, Follows, fresh, WornFirst, IsLegal, Known, CleanEnd, clean_start, Setting, Running, TheClean, wants, advance, over}
+use Rattle.job_model.specs.Known.{Known}
+use Rattle.job_model.specs.Legal.{IsLegal}
+use Rattle.job_model.specs.declared.ends.CleanEnd.{CleanEnd}
+use Rattle.job_protocol.specs.Cleanups.{clean_start}
+use Rattle.job_protocol.specs.Operations.{Running, Setting, TheClean, advance, over, wants}
 use Rattle.job_spec.specs.OperationEnds.{CleanIs, Cleaned}
+use Rattle.retries.specs.Operation.{Follows, run}
+use Rattle.retries.specs.Retries.{fresh}
+use Rattle.retries.specs.Worn.{WornFirst}
+use Rattle.s3_types.specs.Moment.{AreHonest, after_all}
+use Rattle.s3_types.specs.Store.{Scene}
+use Rattle.s3_types.specs.declared.journal.Entry.{Entry}
+use Rattle.s3_types.specs.declared.request.Actor.{Actor}
+use Rattle.s3_types.specs.declared.request.Request.{Request}
+use Rattle.std.specs.Prelude.{List, Option, Some, ◌≡◌}
 use Rattle.job_model.specs.declared.ends.CleanEnd.TheVariants as cleans
 use Rattle.job_model.specs.declared.ends.OpEnd.TheVariants as op_ends
 
@@ -12,8 +24,10 @@ cleaning g k = record { operation = TheClean (fresh g.script.retries clean_start
 -- how a job's abort or clean ends, for every committer
 pub record CleanEnds : Type 0 where
   -- by its own entries alone, whatever was answered and whoever sent between them
-  pub ends : (g : Setting) (a : Actor) (k : Known) (es : List Entry) → Follows (wants g a) (advance g a) (cleaning g k) es → (e : CleanEnd) → over (run (advance g a) (cleaning g k) es).operation ≡ Some (op_ends.Clean e)
+  pub ends : (g : Setting) (a : Actor) (k : Known) (es : List Entry) → Follows (wants g a) (advance g a) (cleaning g k) es → (e : CleanEnd)
+      → over (run (advance g a) (cleaning g k) es).operation ≡ Some (op_ends.Clean e)
       → (worn : Option Request) × WornFirst g.script.retries es worn × CleanIs worn e
   -- where nobody else sends between them it leaves nothing and hides nothing, from whatever scene it began
-  pub cleaned : (g : Setting) → IsLegal g.script → (a : Actor) (k : Known) (s : Scene) (es : List Entry) → Follows (wants g a) (advance g a) (cleaning g k) es → AreHonest s es
+  pub cleaned : (g : Setting) → IsLegal g.script → (a : Actor) (k : Known) (s : Scene) (es : List Entry)
+      → Follows (wants g a) (advance g a) (cleaning g k) es → AreHonest s es
       → over (run (advance g a) (cleaning g k) es).operation ≡ Some (op_ends.Clean cleans.Done) → Cleaned g.script s (after_all s es)

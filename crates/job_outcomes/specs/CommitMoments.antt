@@ -1,8 +1,20 @@
 -- The picks at each moment of a run, and that a commit which ended before its first completion has hidden nothing.
-use Rattle.std.specs.Prelude.{List, None, Some, [], false, length, true, ℕ, ◌++◌, ◌<◌, ◌∷◌, ◌≡◌, ◌≤◌, ◌⊎◌}
-use Rattle.job_protocol.specs.Prelude.{Clean, CommitEnd, CommitOver, Content, Driver, Entry, IsLegal, Request, Same, Script, Seen, Setting, TheCommit, Times, clean_asks, is_reading, is_untouched, moment, see_all, seen, view}
+use Rattle.job_model.specs.JobScript.{Script}
+use Rattle.job_model.specs.Legal.{IsLegal}
+use Rattle.job_model.specs.declared.ends.CommitEnd.{CommitEnd}
+use Rattle.job_protocol.specs.Cleanups.{Clean, clean_asks}
+use Rattle.job_protocol.specs.JobCommits.{CommitOver, is_untouched}
+use Rattle.job_protocol.specs.Operations.{Setting, TheCommit}
+use Rattle.job_protocol.specs.Seen.{Seen, Times, is_reading, see_all, seen}
+use Rattle.job_protocol.specs.View.{Same, view}
+use Rattle.job_spec.specs.Headline.{Always}
 use Rattle.job_traces.specs.Runs.{IsOpening, Runs, Stand}
-use Rattle.job_spec.specs.Prelude.{Always}
+use Rattle.s3_types.specs.Moment.{moment}
+use Rattle.s3_types.specs.Store.{Content}
+use Rattle.s3_types.specs.declared.journal.Entry.{Entry}
+use Rattle.s3_types.specs.declared.request.Actor.TheVariants.{Driver}
+use Rattle.s3_types.specs.declared.request.Request.{Request}
+use Rattle.std.specs.Prelude.{List, None, Some, false, length, true, ℕ, [], ◌++◌, ◌<◌, ◌∷◌, ◌≡◌, ◌≤◌, ◌⊎◌}
 use Rattle.job_model.specs.declared.ends.CommitEnd.TheVariants as commits
 
 -- none of these reads a task's set for the driver
@@ -13,13 +25,18 @@ NoneRead w (e ∷ es) = (e.actor ≡ Driver → (t : ℕ) → is_reading w t e.r
 -- picks stay once they are made, and a commit that ended before its first completion has shown nothing
 pub record CommitMoments : Type 0 where
   -- each pick stays as it was made
-  pub earlier : (g : Setting) → IsLegal g.script → (k : Times) (opening : Content) → IsOpening g opening → (es : List Entry) (x : Stand) → Runs g k opening es x → (m : ℕ) → m ≤ length es
-      → (t : ℕ) → t < g.script.tasks → ((seen g.script k opening es m).picks t ≡ None) ⊎ ((seen g.script k opening es m).picks t ≡ x.seen.picks t)
+  pub earlier : (g : Setting) → IsLegal g.script → (k : Times) (opening : Content) → IsOpening g opening → (es : List Entry) (x : Stand)
+      → Runs g k opening es x → (m : ℕ) → m ≤ length es
+      → (t : ℕ) → t < g.script.tasks → ((seen g.script k opening es m).picks t ≡ None)
+      ⊎ ((seen g.script k opening es m).picks t ≡ x.seen.picks t)
   -- none is made where no set is read
   pub later : (w : Script) (k : Times) (s : Seen) (es : List Entry) → NoneRead w es → (t : ℕ) → (see_all w k s es).picks t ≡ s.picks t
   -- an abort or clean of the job reads none
   pub cleans : (w : Script) (c : Clean) (r : Request) → clean_asks w c ≡ Some r → (t : ℕ) → is_reading w t r ≡ false
   -- where the commit ended before its first completion, and the driver read no set after it, the opening files are shown at each moment
-  pub untouched : (g : Setting) → IsLegal g.script → (k : Times) (opening : Content) → IsOpening g opening → (es : List Entry) (x : Stand) → Runs g k opening es x
-      → (end : CommitEnd) → x.driver ≡ Some (TheCommit (CommitOver end)) → is_untouched end ≡ true → ((t : ℕ) → end ≡ commits.Missing t → t < g.script.tasks)
-      → (more : List Entry) → NoneRead g.script more → Always g.script k opening (es ++ more) → (m : ℕ) → m ≤ length (es ++ more) → Same (view g.script.dest (moment opening (es ++ more) m).content) (view g.script.dest opening)
+  pub untouched : (g : Setting) → IsLegal g.script → (k : Times) (opening : Content) → IsOpening g opening → (es : List Entry) (x : Stand)
+      → Runs g k opening es x
+      → (end : CommitEnd) → x.driver ≡ Some (TheCommit (CommitOver end)) → is_untouched end ≡ true
+      → ((t : ℕ) → end ≡ commits.Missing t → t < g.script.tasks)
+      → (more : List Entry) → NoneRead g.script more → Always g.script k opening (es ++ more) → (m : ℕ) → m ≤ length (es ++ more)
+      → Same (view g.script.dest (moment opening (es ++ more) m).content) (view g.script.dest opening)

@@ -1,13 +1,41 @@
--- The driver's commit in a run: by which entries it came where it stands, the sets that it holds and the picks that are seen; and how it ends.
-use Rattle.std.specs.Prelude.{◌≡◌, ℕ, ◌<◌, ◌≤◌, ◌^◌, ◌⊎◌, true, List, [], ◌∷◌, ◌++◌, length, Option, Some, None, IsSome, false}
-use Rattle.job_facts.specs.Prelude.{Content, answer, IsHonestOutcome, Driver, Request, Refusal, NoSuchUpload, Reply, Refused, Outcome, Answered, Entry, PendingSet, run, Follows, WornFirst, Who, IsLegal, Script, CommitEnd, Picks, Sets, picks_of, Commit, Fetching, Replacing, Completing, Marking, Reverting, CommitOver, commit_start, commit_asks, commit_tells, fetching, set_request, set_read, stage_of, Setup, setup_asks, Clean, clean_asks, AllSound, Setting, TheCommit, Seen, see, see_all, nothing_seen, is_marked, entry, driver_entry, Times, is_begun}
+-- The driver's commit in a run: by which entries it came where it stands, the sets that it holds and the picks that are seen; and how it
+-- ends.
+use Rattle.job_facts.specs.Told.{driver_entry, entry}
+use Rattle.job_model.specs.Attempts.{Who}
+use Rattle.job_model.specs.JobScript.{Script}
+use Rattle.job_model.specs.Legal.{IsLegal}
+use Rattle.job_model.specs.declared.ends.CommitEnd.{CommitEnd}
+use Rattle.job_protocol.specs.Cleanups.{Clean, clean_asks}
+use Rattle.job_protocol.specs.JobCommits.{Commit, CommitOver, Completing, Fetching, Marking, Replacing, Reverting, Sets, commit_asks}
+use Rattle.job_protocol.specs.JobCommits.{commit_start, commit_tells, fetching, picks_of, set_read, set_request, stage_of}
+use Rattle.job_protocol.specs.LaneTable.{AllSound}
+use Rattle.job_protocol.specs.Operations.{Setting, TheCommit}
+use Rattle.job_protocol.specs.Outputs.{Picks}
+use Rattle.job_protocol.specs.Seen.{Seen, Times, is_begun, is_marked, nothing_seen, see, see_all}
+use Rattle.job_protocol.specs.Setup.{Setup, setup_asks}
+use Rattle.job_spec.specs.Ends.{CommitEnded, commit_due, is_mark_answered}
+use Rattle.job_spec.specs.Entries.{AreOwn}
+use Rattle.job_spec.specs.OperationEnds.{was_lost}
+use Rattle.job_spec.specs.Promise.{picked, picks_below}
+use Rattle.job_traces.specs.Runs.{IsOpening, IsTimely, Runs, Stand}
+use Rattle.pending_json.specs.declared.records.PendingSet.{PendingSet}
+use Rattle.retries.specs.Operation.{Follows, run}
+use Rattle.retries.specs.Worn.{WornFirst}
+use Rattle.s3_types.specs.Answer.{answer}
+use Rattle.s3_types.specs.Moment.{IsHonestOutcome}
+use Rattle.s3_types.specs.Store.{Content}
+use Rattle.s3_types.specs.declared.journal.Entry.{Entry}
+use Rattle.s3_types.specs.declared.journal.Outcome.{Outcome}
+use Rattle.s3_types.specs.declared.journal.Outcome.TheVariants.{Answered}
+use Rattle.s3_types.specs.declared.reply.Refusal.{Refusal}
+use Rattle.s3_types.specs.declared.reply.Refusal.TheVariants.{NoSuchUpload}
+use Rattle.s3_types.specs.declared.reply.Reply.{Reply}
+use Rattle.s3_types.specs.declared.reply.Reply.TheVariants.{Refused}
+use Rattle.s3_types.specs.declared.request.Actor.TheVariants.{Driver}
+use Rattle.s3_types.specs.declared.request.Request.{Request}
+use Rattle.std.specs.Prelude.{IsSome, List, None, Option, Some, false, length, true, ℕ, [], ◌++◌, ◌<◌, ◌^◌, ◌∷◌, ◌≡◌, ◌≤◌, ◌⊎◌}
 use Rattle.job_model.specs.declared.ends.CommitEnd.TheVariants as commits
 use Rattle.job_model.specs.declared.ends.Stage.TheVariants as stages
-use Rattle.job_traces.specs.Runs.{Stand, Runs, IsOpening, IsTimely}
-use Rattle.job_spec.specs.Promise.{picks_below, picked}
-use Rattle.job_spec.specs.Ends.{CommitEnded}
-use Rattle.job_spec.specs.Prelude.{AreOwn, commit_due, is_mark_answered}
-use Rattle.job_spec.specs.OperationEnds.{was_lost}
 
 -- the end that is due with these sets, where no request wore out; of a read that wore out that not all were read
 abbrev pub IsDue : Script → Option ℕ → Sets → CommitEnd → Type 0
@@ -76,33 +104,47 @@ EndsDue w picks missing es end = (worn : Option Request) × WornFirst w.retries 
 
 -- In every run of a job, of every committer and mode, with every number of lanes, among strangers.
 pub record CommitRuns : Type 0 where
-  pub stands : (g : Setting) → IsLegal g.script → (k : Times) (opening : Content) → IsOpening g opening → (es : List Entry) (x : Stand) → Runs g k opening es x → (c : Commit) → x.driver ≡ Some (TheCommit c) → CommitStands g x c
+  pub stands : (g : Setting) → IsLegal g.script → (k : Times) (opening : Content) → IsOpening g opening → (es : List Entry) (x : Stand)
+      → Runs g k opening es x → (c : Commit) → x.driver ≡ Some (TheCommit c) → CommitStands g x c
   -- where it stands tells which task it missed
-  pub one_start : (w : Script) (a b : Option ℕ) (es : List Entry) → run (commit_tells w) (commit_start w a) es ≡ run (commit_tells w) (commit_start w b) es → a ≡ b
+  pub one_start : (w : Script) (a b : Option ℕ) (es : List Entry)
+      → run (commit_tells w) (commit_start w a) es ≡ run (commit_tells w) (commit_start w b) es → a ≡ b
   -- it ends as is due by the picks that are seen then; where it ends Committed its marker was answered
-  pub ends : (g : Setting) → IsLegal g.script → (x : Stand) (end : CommitEnd) → (h : CommitStands g x (CommitOver end)) → EndsDue g.script x.seen.picks h.missing x.commit end
-  pub answered : (g : Setting) (x : Stand) (end : CommitEnd) → CommitStands g x (CommitOver end) → end ≡ commits.Committed → is_mark_answered g.script x.commit ≡ true
+  pub ends : (g : Setting) → IsLegal g.script → (x : Stand) (end : CommitEnd) → (h : CommitStands g x (CommitOver end))
+      → EndsDue g.script x.seen.picks h.missing x.commit end
+  pub answered : (g : Setting) (x : Stand) (end : CommitEnd) → CommitStands g x (CommitOver end) → end ≡ commits.Committed
+      → is_mark_answered g.script x.commit ≡ true
   -- and stands, where no stranger sends
-  pub marked : (g : Setting) → IsLegal g.script → (k : Times) (opening : Content) → IsOpening g opening → (es : List Entry) (x : Stand) → Runs g k opening es x → AreOwn es → x.driver ≡ Some (TheCommit (CommitOver commits.Committed)) → is_marked g.script x.seen ≡ true
+  pub marked : (g : Setting) → IsLegal g.script → (k : Times) (opening : Content) → IsOpening g opening → (es : List Entry) (x : Stand)
+      → Runs g k opening es x → AreOwn es → x.driver ≡ Some (TheCommit (CommitOver commits.Committed)) → is_marked g.script x.seen ≡ true
   -- all of it, with the task that it missed as it began
-  pub ended : (g : Setting) → IsLegal g.script → (k : Times) (opening : Content) → IsOpening g opening → (es : List Entry) (x : Stand) → Runs g k opening es x → (end : CommitEnd) → x.driver ≡ Some (TheCommit (CommitOver end))
-      → (missing : Option ℕ) → run (commit_tells g.script) (commit_start g.script missing) x.commit ≡ CommitOver end → CommitEnded g.script x.seen missing x.commit end
+  pub ended : (g : Setting) → IsLegal g.script → (k : Times) (opening : Content) → IsOpening g opening → (es : List Entry) (x : Stand)
+      → Runs g k opening es x → (end : CommitEnd) → x.driver ≡ Some (TheCommit (CommitOver end))
+      → (missing : Option ℕ) → run (commit_tells g.script) (commit_start g.script missing) x.commit ≡ CommitOver end
+      → CommitEnded g.script x.seen missing x.commit end
   -- how the picks grow with its entries, and that those of other operations leave them
-  pub grows : (g : Setting) → IsLegal g.script → (k : Times) (opening : Content) → IsOpening g opening → (es : List Entry) (x : Stand) → Runs g k opening es x → (c : Commit) → x.driver ≡ Some (TheCommit c)
-      → (n : ℕ) (r : Request) (o : Outcome) → commit_asks g.script c ≡ Some r → IsTimely k n (TheCommit c) → x.seen.scene.content.next ≤ 2 ^ 64 → IsHonestOutcome o (answer x.seen.scene r)
+  pub grows : (g : Setting) → IsLegal g.script → (k : Times) (opening : Content) → IsOpening g opening → (es : List Entry) (x : Stand)
+      → Runs g k opening es x → (c : Commit) → x.driver ≡ Some (TheCommit c)
+      → (n : ℕ) (r : Request) (o : Outcome) → commit_asks g.script c ≡ Some r → IsTimely k n (TheCommit c)
+      → x.seen.scene.content.next ≤ 2 ^ 64 → IsHonestOutcome o (answer x.seen.scene r)
       → PicksGrow g.script x.seen.picks (see g.script k x.seen (driver_entry n r o)).picks c (commit_tells g.script c o)
   -- so does their list
-  pub list : (w : Script) (before now : Picks) (c d : Commit) → (m : PicksOneMore w before now c d) → picks_below now w.tasks ≡ picks_below before w.tasks ++ picked (length m.sets) (Some m.set.attempt)
+  pub list : (w : Script) (before now : Picks) (c d : Commit) → (m : PicksOneMore w before now c d)
+      → picks_below now w.tasks ≡ picks_below before w.tasks ++ picked (length m.sets) (Some m.set.attempt)
   pub same : (before now : Picks) (n : ℕ) → ((t : ℕ) → t < n → now t ≡ before t) → picks_below now n ≡ picks_below before n
-  pub attempts : (w : Script) (k : Times) (s : Seen) (a : Who) (n : ℕ) (r : Request) (o : Outcome) → (see w k s (entry a n r o)).picks ≡ s.picks
-  pub setup : (w : Script) (k : Times) (s : Seen) (n : ℕ) (c : Setup) (r : Request) (o : Outcome) → setup_asks w c ≡ Some r → (t : ℕ) → (see w k s (driver_entry n r o)).picks t ≡ s.picks t
-  pub clean : (w : Script) (k : Times) (s : Seen) (n : ℕ) (c : Clean) (r : Request) (o : Outcome) → clean_asks w c ≡ Some r → (t : ℕ) → (see w k s (driver_entry n r o)).picks t ≡ s.picks t
+  pub attempts : (w : Script) (k : Times) (s : Seen) (a : Who) (n : ℕ) (r : Request) (o : Outcome)
+      → (see w k s (entry a n r o)).picks ≡ s.picks
+  pub setup : (w : Script) (k : Times) (s : Seen) (n : ℕ) (c : Setup) (r : Request) (o : Outcome) → setup_asks w c ≡ Some r → (t : ℕ)
+      → (see w k s (driver_entry n r o)).picks t ≡ s.picks t
+  pub clean : (w : Script) (k : Times) (s : Seen) (n : ℕ) (c : Clean) (r : Request) (o : Outcome) → clean_asks w c ≡ Some r → (t : ℕ)
+      → (see w k s (driver_entry n r o)).picks t ≡ s.picks t
 
 -- What it is answered in every run.
 pub record CommitAnswers : Type 0 where
   -- a refused completion found no upload, and an earlier sending of it was lost
   pub refused : (g : Setting) → IsLegal g.script → (k : Times) (opening : Content) → IsOpening g opening → (es : List Entry) (x : Stand)
-      → Runs g k opening es x → (c : Commit) → x.driver ≡ Some (TheCommit c) → (before : List Entry) (e : Entry) (later : List Entry) (why : Refusal)
+      → Runs g k opening es x → (c : Commit) → x.driver ≡ Some (TheCommit c)
+      → (before : List Entry) (e : Entry) (later : List Entry) (why : Refusal)
       → x.commit ≡ before ++ e ∷ later → stage_of e.request ≡ stages.Complete → e.outcome ≡ Answered (Refused why)
       → (why ≡ NoSuchUpload) × (was_lost e.request before ≡ true)
   -- a read of a set before an abort or clean finds one where each task has a last publisher

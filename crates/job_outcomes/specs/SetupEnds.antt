@@ -1,7 +1,28 @@
--- How the driver's set-up ends, by its entries alone: by what its pages listed, and, where nobody else sends between them, by what stood as it began.
-use Rattle.std.specs.Prelude.{◌≡◌, ℕ, true, List, [], ◌∷◌, ◌++◌, Option, Some, None}
-use Rattle.job_facts.specs.Prelude.{Scene, AreHonest, Actor, Request, ListPage, Reply, Page, Outcome, Answered, Entry, run, Follows, fresh, step, wants_of, WornFirst, IsLegal, Script, Known, SetupEnd, checks_all, keys_on, first_shown, setup_start, setup_asks, setup_after, setup_over, Setting, Running, TheSetup, wants, advance, over}
-use Rattle.job_spec.specs.Prelude.{SetupIs}
+-- How the driver's set-up ends, by its entries alone: by what its pages listed, and, where nobody else sends between them, by what stood as
+-- it began.
+use Rattle.job_model.specs.JobScript.{Script}
+use Rattle.job_model.specs.Known.{Known}
+use Rattle.job_model.specs.Legal.{IsLegal}
+use Rattle.job_model.specs.declared.ends.SetupEnd.{SetupEnd}
+use Rattle.job_protocol.specs.Conflicts.{checks_all}
+use Rattle.job_protocol.specs.Operations.{Running, Setting, TheSetup, advance, over, wants}
+use Rattle.job_protocol.specs.Setup.{first_shown, setup_after, setup_asks, setup_over, setup_start}
+use Rattle.job_spec.specs.OperationEnds.{SetupIs}
+use Rattle.list_walk.specs.Walks.{keys_on}
+use Rattle.retries.specs.Operation.{Follows, run}
+use Rattle.retries.specs.Retries.{fresh, step, wants_of}
+use Rattle.retries.specs.Worn.{WornFirst}
+use Rattle.s3_types.specs.Moment.{AreHonest}
+use Rattle.s3_types.specs.Store.{Scene}
+use Rattle.s3_types.specs.declared.journal.Entry.{Entry}
+use Rattle.s3_types.specs.declared.journal.Outcome.{Outcome}
+use Rattle.s3_types.specs.declared.journal.Outcome.TheVariants.{Answered}
+use Rattle.s3_types.specs.declared.reply.Reply.{Reply}
+use Rattle.s3_types.specs.declared.reply.Reply.TheVariants.{Page}
+use Rattle.s3_types.specs.declared.request.Actor.{Actor}
+use Rattle.s3_types.specs.declared.request.Request.{Request}
+use Rattle.s3_types.specs.declared.request.Request.TheVariants.{ListPage}
+use Rattle.std.specs.Prelude.{List, None, Option, Some, true, ℕ, [], ◌++◌, ◌∷◌, ◌≡◌}
 use Rattle.job_model.specs.declared.ends.OpEnd.TheVariants as op_ends
 use Rattle.job_model.specs.declared.ends.SetupEnd.TheVariants as setups
 
@@ -24,7 +45,8 @@ abbrev pub keys_listed : List Entry → List (List ℕ)
 keys_listed [] = []
 keys_listed (e ∷ es) = keys_told e.request e.outcome ++ keys_listed es
 
--- the end of a set-up whose pages listed these keys, by whether a request of it wore out: a conflict is with the first path of the view among them, and where it has another end none is
+-- the end of a set-up whose pages listed these keys, by whether a request of it wore out: a conflict is with the first path of the view
+-- among them, and where it has another end none is
 abbrev pub SetupListed : Script → List (List ℕ) → Option Request → SetupEnd → Type 0
 SetupListed w keys (Some r) e = e ≡ setups.StoreFault
 SetupListed w keys None setups.NoSuchBucket = checks_all w.committer w.mode ≡ true → first_shown w keys ≡ None
@@ -35,11 +57,16 @@ SetupListed w keys None _ = ⊥
 
 -- how a set-up ends, for every committer and mode, over every store, whatever became of its sendings
 pub record SetupEnds : Type 0 where
-  pub ends : (w : Script) → IsLegal w → (s : Scene) (es : List Entry) → Follows (wants_of (setup_asks w)) (step w.retries (setup_after w)) (fresh w.retries setup_start) es → AreHonest s es
-      → (e : SetupEnd) → setup_over (run (step w.retries (setup_after w)) (fresh w.retries setup_start) es).operation ≡ Some e → (worn : Option Request) × WornFirst w.retries es worn × SetupIs w s.content worn e
+  pub ends : (w : Script) → IsLegal w → (s : Scene) (es : List Entry)
+      → Follows (wants_of (setup_asks w)) (step w.retries (setup_after w)) (fresh w.retries setup_start) es → AreHonest s es
+      → (e : SetupEnd) → setup_over (run (step w.retries (setup_after w)) (fresh w.retries setup_start) es).operation ≡ Some e
+      → (worn : Option Request) × WornFirst w.retries es worn × SetupIs w s.content worn e
   -- the same of an actor's operation
-  pub running : (g : Setting) → IsLegal g.script → (a : Actor) (k : Known) (s : Scene) (es : List Entry) → Follows (wants g a) (advance g a) (setting_up g k) es → AreHonest s es → (e : SetupEnd) → over (run (advance g a) (setting_up g k) es).operation ≡ Some (op_ends.Setup e)
+  pub running : (g : Setting) → IsLegal g.script → (a : Actor) (k : Known) (s : Scene) (es : List Entry)
+      → Follows (wants g a) (advance g a) (setting_up g k) es → AreHonest s es → (e : SetupEnd)
+      → over (run (advance g a) (setting_up g k) es).operation ≡ Some (op_ends.Setup e)
       → (worn : Option Request) × WornFirst g.script.retries es worn × SetupIs g.script s.content worn e
   -- by its own entries alone, whatever was answered and whoever sent between them
-  pub listed : (g : Setting) (a : Actor) (k : Known) (es : List Entry) → Follows (wants g a) (advance g a) (setting_up g k) es → (e : SetupEnd) → over (run (advance g a) (setting_up g k) es).operation ≡ Some (op_ends.Setup e)
+  pub listed : (g : Setting) (a : Actor) (k : Known) (es : List Entry) → Follows (wants g a) (advance g a) (setting_up g k) es
+      → (e : SetupEnd) → over (run (advance g a) (setting_up g k) es).operation ≡ Some (op_ends.Setup e)
       → (worn : Option Request) × WornFirst g.script.retries es worn × SetupListed g.script (keys_listed es) worn e

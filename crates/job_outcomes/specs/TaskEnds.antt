@@ -1,11 +1,27 @@
 -- How an attempt's operations end.
-use Rattle.std.specs.Prelude.{◌≡◌, ℕ, Bool, true, false, List, Option, Some}
-use Rattle.job_facts.specs.Prelude.{Content, Attempt, Request, Entry, run, Follows, WornFirst, Who, actor_of, IsLegal, Script, Known, Op, TaskEnd, TaskCommitOver, Setting, Operation, TheTaskCommit, TheTaskAbort, wants, advance, start_of, over, Times, Reports}
+use Rattle.job_model.specs.Attempts.{Who, actor_of}
+use Rattle.job_model.specs.JobScript.{Script}
+use Rattle.job_model.specs.Known.{Known}
+use Rattle.job_model.specs.Legal.{IsLegal}
+use Rattle.job_model.specs.declared.ends.TaskEnd.{TaskEnd}
+use Rattle.job_model.specs.declared.events.Op.{Op}
+use Rattle.job_protocol.specs.Operations.{Operation, Reports, Setting, TheTaskAbort, TheTaskCommit, advance, over, start_of, wants}
+use Rattle.job_protocol.specs.Seen.{Times}
+use Rattle.job_protocol.specs.TaskCommits.{TaskCommitOver}
+use Rattle.job_spec.specs.Ends.{has_cleaned}
+use Rattle.job_spec.specs.OperationEnds.{TaskIs, WasPublished}
+use Rattle.job_spec.specs.Turns.{until_last}
+use Rattle.job_traces.specs.Runs.{IsOpening, Runs, Stand}
+use Rattle.retries.specs.Operation.{Follows, run}
+use Rattle.retries.specs.Worn.{WornFirst}
+use Rattle.s3_types.specs.Store.{Content}
+use Rattle.s3_types.specs.declared.journal.Entry.{Entry}
+use Rattle.s3_types.specs.declared.request.Actor.TheVariants.{Attempt}
+use Rattle.s3_types.specs.declared.request.Request.{Request}
+use Rattle.std.specs.Prelude.{Bool, List, Option, Some, false, true, ℕ, ◌≡◌}
 use Rattle.job_model.specs.declared.events.Op.TheVariants as ops
 use Rattle.job_model.specs.declared.ends.TaskEnd.TheVariants as tasks
 use Rattle.job_model.specs.declared.ends.OpEnd.TheVariants as op_ends
-use Rattle.job_traces.specs.Runs.{Runs, Stand, IsOpening}
-use Rattle.job_spec.specs.Prelude.{has_cleaned, TaskIs, WasPublished, until_last}
 
 -- the operation is a task's abort
 abbrev pub is_abort : Operation → Bool
@@ -15,13 +31,23 @@ is_abort _ = false
 -- how an attempt's operations end, for every committer and mode
 pub record TaskEnds : Type 0 where
   -- by its own entries alone, whatever was answered, as if the driver had cleaned up
-  pub ends : (g : Setting) (t a : ℕ) (op : Op) (r : Reports) (k : Known) (m : Operation) → start_of g (Attempt t a) op r k ≡ Some m → (es : List Entry) → Follows (wants g (Attempt t a)) (advance g (Attempt t a)) (record { operation = m; known = k }) es
-      → (e : TaskEnd) → over (run (advance g (Attempt t a)) (record { operation = m; known = k }) es).operation ≡ Some (op_ends.Task e) → (worn : Option Request) × WornFirst g.script.retries es worn × TaskIs op g.script (record { task = t; attempt = a }) es k.publish_sent true worn e
+  pub ends : (g : Setting) (t a : ℕ) (op : Op) (r : Reports) (k : Known) (m : Operation) → start_of g (Attempt t a) op r k ≡ Some m
+      → (es : List Entry) → Follows (wants g (Attempt t a)) (advance g (Attempt t a)) (record { operation = m; known = k }) es
+      → (e : TaskEnd) → over (run (advance g (Attempt t a)) (record { operation = m; known = k }) es).operation ≡ Some (op_ends.Task e)
+      → (worn : Option Request) × WornFirst g.script.retries es worn
+      × TaskIs op g.script (record { task = t; attempt = a }) es k.publish_sent true worn e
   -- in a run a write or commit finds something gone only where the driver's abort or clean has begun before the attempt's last entry
-  pub gone : (g : Setting) → IsLegal g.script → (k : Times) (opening : Content) → IsOpening g opening → (es : List Entry) (x : Stand) → Runs g k opening es x → (a : Who) (op : Operation) (name : List ℕ)
-      → x.attempts a ≡ Some op → is_abort op ≡ false → over op ≡ Some (op_ends.Task (tasks.Gone name)) → has_cleaned x.told.cleans_at (until_last (actor_of a) es) ≡ true
+  pub gone : (g : Setting) → IsLegal g.script → (k : Times) (opening : Content) → IsOpening g opening → (es : List Entry) (x : Stand)
+      → Runs g k opening es x → (a : Who) (op : Operation) (name : List ℕ)
+      → x.attempts a ≡ Some op → is_abort op ≡ false → over op ≡ Some (op_ends.Task (tasks.Gone name))
+      → has_cleaned x.told.cleans_at (until_last (actor_of a) es) ≡ true
   -- and a commit that is done has published where it has not
-  pub published : (g : Setting) → IsLegal g.script → (k : Times) (opening : Content) → IsOpening g opening → (es : List Entry) (x : Stand) → Runs g k opening es x → (a : Who) (spare : ℕ) (repeated : Bool)
-      → x.attempts a ≡ Some (TheTaskCommit (record { operation = TaskCommitOver tasks.Done; spare = spare; repeated = repeated })) → has_cleaned x.told.cleans_at (until_last (actor_of a) es) ≡ false → (n : ℕ) × WasPublished g.script opening es a.task a.attempt n
+  pub published : (g : Setting) → IsLegal g.script → (k : Times) (opening : Content) → IsOpening g opening → (es : List Entry) (x : Stand)
+      → Runs g k opening es x → (a : Who) (spare : ℕ) (repeated : Bool)
+      → x.attempts a ≡ Some (TheTaskCommit (record { operation = TaskCommitOver tasks.Done; spare = spare; repeated = repeated }))
+      → has_cleaned x.told.cleans_at (until_last (actor_of a) es) ≡ false → (n : ℕ)
+      × WasPublished g.script opening es a.task a.attempt n
   -- both together
-  pub joined : (op : Op) (w : Script) (a : Who) (es : List Entry) (sent cleaned : Bool) (worn : Option Request) (e : TaskEnd) → TaskIs op w a es sent true worn e → ((op ≡ ops.Abort → ⊥) → (name : List ℕ) → e ≡ tasks.Gone name → cleaned ≡ true) → TaskIs op w a es sent cleaned worn e
+  pub joined : (op : Op) (w : Script) (a : Who) (es : List Entry) (sent cleaned : Bool) (worn : Option Request) (e : TaskEnd)
+      → TaskIs op w a es sent true worn e → ((op ≡ ops.Abort → ⊥) → (name : List ℕ) → e ≡ tasks.Gone name → cleaned ≡ true)
+      → TaskIs op w a es sent cleaned worn e

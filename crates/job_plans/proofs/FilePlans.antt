@@ -1,17 +1,29 @@
 -- The files of a legal script at the paths where they go: each path stands once.
-use Rattle.job_plans.proofs.Common.{AreFiles, ArePlaced, Bool, File, IsGiven, IsPlaced, List, Some, [], ap, append-nil, append_assoc, bytes_of, cond, false, false_true, has_path, inl, inr, is_job_id, is_some, length, length-map, lookup, map-append, path_of, placed, refl, subst, sym, text_eq, text_is, text_true, true, ℕ, ◌++◌, ◌+◌, ◌∙◌, ◌∷◌, ◌≡◌}
+use Rattle.basics.proofs.Members.{false_true, text_is, text_true}
+use Rattle.basics.specs.Order.{text_eq}
 use Rattle.job_model.proofs.Unique.{path_same}
+use Rattle.job_model.specs.Files.{File, has_path}
+use Rattle.job_model.specs.Legal.{AreFiles, IsGiven, bytes_of}
+use Rattle.job_model.specs.Placed.{path_of, placed}
+use Rattle.job_model.specs.Plans.{ArePlaced, IsPlaced}
+use Rattle.s3_types.specs.Names.{is_job_id}
+use Rattle.std.proofs.Common.{Bool, List, Some, ap, append_assoc, cond, false, inl, inr, is_some, length, refl, subst, sym, true, ℕ, []}
+use Rattle.std.proofs.Common.{◌++◌, ◌+◌, ◌∙◌, ◌∷◌, ◌≡◌}
+use Rattle.std.proofs.lemmas.List.{append-nil, length-map, map-append}
+use Rattle.std.specs.Map.{lookup}
 
 -- a file at its path
 abbrev one_placed : Bool → List ℕ → File → File
 one_placed unique id f = (path_of unique id f.0, f.1)
 
-placed_more : (unique : Bool) (id : List ℕ) (f : File) (fs : List File) → placed unique id (fs ++ f ∷ []) ≡ placed unique id fs ++ one_placed unique id f ∷ []
+placed_more : (unique : Bool) (id : List ℕ) (f : File) (fs : List File)
+    → placed unique id (fs ++ f ∷ []) ≡ placed unique id fs ++ one_placed unique id f ∷ []
 placed_more unique id f fs = map-append (one_placed unique id) fs (f ∷ [])
 
 -- ---- paths stay apart
 
-other_path : (unique : Bool) (id p q : List ℕ) → is_job_id id ≡ true → text_eq p q ≡ false → text_eq (path_of unique id p) (path_of unique id q) ≡ false
+other_path : (unique : Bool) (id p q : List ℕ) → is_job_id id ≡ true → text_eq p q ≡ false
+    → text_eq (path_of unique id p) (path_of unique id q) ≡ false
 other_path unique id p q job h = by (text_eq (path_of unique id p) (path_of unique id q)) refl
   where
     by : (b : Bool) → text_eq (path_of unique id p) (path_of unique id q) ≡ b → b ≡ false
@@ -19,11 +31,13 @@ other_path unique id p q job h = by (text_eq (path_of unique id p) (path_of uniq
     by false e = refl
 
 -- a path that no file has
-still_free : (unique : Bool) (id p : List ℕ) (fs : List File) → is_job_id id ≡ true → has_path fs p ≡ false → has_path (placed unique id fs) (path_of unique id p) ≡ false
+still_free : (unique : Bool) (id p : List ℕ) (fs : List File) → is_job_id id ≡ true → has_path fs p ≡ false
+    → has_path (placed unique id fs) (path_of unique id p) ≡ false
 still_free unique id p [] job h = refl
 still_free unique id p (f ∷ fs) job h = by (text_eq p f.0) refl h (still_free unique id p fs job)
   where
-    by : (b : Bool) → text_eq p f.0 ≡ b → is_some (cond b (Some f.1) (lookup (text_eq p) fs)) ≡ false → (has_path fs p ≡ false → has_path (placed unique id fs) (path_of unique id p) ≡ false)
+    by : (b : Bool) → text_eq p f.0 ≡ b → is_some (cond b (Some f.1) (lookup (text_eq p) fs)) ≡ false
+        → (has_path fs p ≡ false → has_path (placed unique id fs) (path_of unique id p) ≡ false)
         → has_path (placed unique id (f ∷ fs)) (path_of unique id p) ≡ false
     by true e h old = absurd cc
     by false e h old = rw (other_path unique id p f.0 job e) (old h)
@@ -31,7 +45,8 @@ still_free unique id p (f ∷ fs) job h = by (text_eq p f.0) refl h (still_free 
 -- the path of a file behind others
 first_here : (before done rest : List File) (f : File) → AreFiles before (done ++ f ∷ rest) → has_path (before ++ done) f.0 ≡ false
 first_here before [] rest f h = subst (λ (l : List File). has_path l f.0 ≡ false) (sym (append-nil before)) h.1
-first_here before (d ∷ done) rest f h = subst (λ (l : List File). has_path l f.0 ≡ false) (append_assoc before (d ∷ []) done) (first_here (before ++ d ∷ []) done rest f h.2)
+first_here before (d ∷ done) rest f h = subst (λ (l : List File). has_path l f.0 ≡ false) (append_assoc before (d ∷ []) done)
+    (first_here (before ++ d ∷ []) done rest f h.2)
 
 -- ---- files that are placed one by one
 
@@ -41,13 +56,16 @@ pub record IsPlacing (unique : Bool) (id : List ℕ) (files copy rest : List Fil
   pub all : files ≡ done ++ rest
   pub so_far : copy ≡ placed unique id done
 
-pub next_free : {unique : Bool} {id : List ℕ} {files copy all rest : List File} {f : File} → is_job_id id ≡ true → AreFiles [] files → IsPlacing unique id files copy all → all ≡ f ∷ rest
+pub next_free : {unique : Bool} {id : List ℕ} {files copy all rest : List File} {f : File} → is_job_id id ≡ true → AreFiles [] files
+    → IsPlacing unique id files copy all → all ≡ f ∷ rest
     → has_path copy (path_of unique id f.0) ≡ false
 next_free {unique = unique} {id = id} {rest = rest} {f = f} job h p e =
-    let here : has_path p.done f.0 ≡ false = first_here [] p.done rest f (subst (AreFiles []) (p.all ∙ ap (λ (l : List File). p.done ++ l) e) h) in
+    let here : has_path p.done f.0 ≡ false = first_here [] p.done rest f (subst (AreFiles [])
+    (p.all ∙ ap (λ (l : List File). p.done ++ l) e) h) in
     subst (λ (l : List File). has_path l (path_of unique id f.0) ≡ false) (sym p.so_far) (still_free unique id f.0 p.done job here)
 
-pub next_placed : {unique : Bool} {id : List ℕ} {files copy all rest more : List File} {f g : File} → IsPlacing unique id files copy all → all ≡ f ∷ rest → g.0 ≡ path_of unique id f.0 → g.1 ≡ f.1 → more ≡ copy ++ g ∷ []
+pub next_placed : {unique : Bool} {id : List ℕ} {files copy all rest more : List File} {f g : File} → IsPlacing unique id files copy all
+    → all ≡ f ∷ rest → g.0 ≡ path_of unique id f.0 → g.1 ≡ f.1 → more ≡ copy ++ g ∷ []
     → IsPlacing unique id files more rest
 next_placed {unique = unique} {id = id} {copy = copy} {rest = rest} {f = f} {g = g} p e path bytes made = record {
   done = p.done ++ f ∷ [];
@@ -60,8 +78,10 @@ next_placed {unique = unique} {id = id} {copy = copy} {rest = rest} {f = f} {g =
       ∙ sym (placed_more unique id f p.done);
 }
 
-pub all_placed : {unique : Bool} {id : List ℕ} {files copy rest : List File} → IsPlacing unique id files copy rest → rest ≡ [] → copy ≡ placed unique id files
-all_placed {unique = unique} {id = id} p e = p.so_far ∙ ap (placed unique id) (sym (p.all ∙ ap (λ (l : List File). p.done ++ l) e ∙ append-nil p.done))
+pub all_placed : {unique : Bool} {id : List ℕ} {files copy rest : List File} → IsPlacing unique id files copy rest → rest ≡ []
+    → copy ≡ placed unique id files
+all_placed {unique = unique} {id = id} p e = p.so_far ∙ ap (placed unique id)
+    (sym (p.all ∙ ap (λ (l : List File). p.done ++ l) e ∙ append-nil p.done))
 
 -- ---- the bounds of a plan
 
@@ -69,13 +89,15 @@ is_placed : (unique : Bool) (id p : List ℕ) → IsGiven p → IsPlaced id (pat
 is_placed true id p g = inr (p, g, refl)
 is_placed false id p g = inl g
 
-pub are_placed : (unique : Bool) (id : List ℕ) (before fs : List File) → is_job_id id ≡ true → AreFiles before fs → ArePlaced id (placed unique id before) (placed unique id fs)
+pub are_placed : (unique : Bool) (id : List ℕ) (before fs : List File) → is_job_id id ≡ true → AreFiles before fs
+    → ArePlaced id (placed unique id before) (placed unique id fs)
 are_placed unique id before [] job h = tt
 are_placed unique id before (f ∷ fs) job h = (
   is_placed unique id f.0 h.0.path,
   h.0.bytes,
   still_free unique id f.0 before job h.1,
-  subst (λ (l : List File). ArePlaced id l (placed unique id fs)) (placed_more unique id f before) (are_placed unique id (before ++ f ∷ []) fs job h.2),
+  subst (λ (l : List File). ArePlaced id l (placed unique id fs)) (placed_more unique id f before)
+      (are_placed unique id (before ++ f ∷ []) fs job h.2),
 )
 
 pub as_many : (unique : Bool) (id : List ℕ) (fs : List File) → length (placed unique id fs) ≡ length fs

@@ -2,4 +2,3 @@ pub mod CutNames
 pub mod FilePlans
 pub mod PlanBounds
 pub mod Reports
-mod Common

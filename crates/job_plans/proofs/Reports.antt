@@ -1,9 +1,21 @@
 -- The paths of the files of reported attempts, attempt by attempt.
-use Rattle.job_plans.proofs.Common.{Bool, Declared, File, List, Option, Script, Some, Who, [], ap, append-nil, arith, cond, false, files, files_of_all, get_or, lookup, map, map-append, option_map, placed, refl, same_name, slice_get, suc, sym, take, those, true, unwrap_or, zero, ℕ, ◌++◌, ◌+◌, ◌∙◌, ◌∷◌, ◌≡◌}
+use Rattle.job_model.specs.Attempts.{Declared, Who, same_name}
+use Rattle.job_model.specs.Files.{File}
+use Rattle.job_model.specs.JobScript.{Script}
+use Rattle.job_model.specs.Placed.{placed}
+use Rattle.job_plans.specs.Reported.{those}
+use Rattle.job_protocol.specs.Outputs.{files}
+use Rattle.job_protocol.specs.Rechecks.{files_of_all}
+use Rattle.std.proofs.Common.{Bool, List, Option, Some, ap, arith, cond, false, get_or, map, refl, slice_get, suc, sym, take, true, zero, ℕ}
+use Rattle.std.proofs.Common.{[], ◌++◌, ◌+◌, ◌∙◌, ◌∷◌, ◌≡◌}
 use Rattle.std.proofs.lemmas.Grind.{flat_map-append}
+use Rattle.std.proofs.lemmas.List.{append-nil, map-append}
+use Rattle.std.specs.Map.{lookup}
+use Rattle.std.specs.Option.{option_map, unwrap_or}
 
 -- one attempt more, which is reported
-those_more : (ds : List Declared) (bs : List Bool) (i : ℕ) (d : Declared) → slice_get ds i ≡ Some d → get_or bs i false ≡ true → those (take (suc i) ds) (take (suc i) bs) ≡ those (take i ds) (take i bs) ++ d.0 ∷ []
+those_more : (ds : List Declared) (bs : List Bool) (i : ℕ) (d : Declared) → slice_get ds i ≡ Some d → get_or bs i false ≡ true
+    → those (take (suc i) ds) (take (suc i) bs) ≡ those (take i ds) (take i bs) ++ d.0 ∷ []
 those_more [] bs i d e h = absurd cc
 those_more (x ∷ ds) [] i d e h = absurd cc
 those_more (x ∷ ds) (y ∷ bs) zero d e h = let same : x ≡ d = cc in rw (h, same) refl
@@ -14,7 +26,8 @@ those_more (x ∷ ds) (y ∷ bs) (suc i) d e h = by y _ _ (those_more ds bs i d 
     by false now before e = e
 
 -- one that is not
-those_same : (ds : List Declared) (bs : List Bool) (i : ℕ) → get_or bs i false ≡ false → those (take (suc i) ds) (take (suc i) bs) ≡ those (take i ds) (take i bs)
+those_same : (ds : List Declared) (bs : List Bool) (i : ℕ) → get_or bs i false ≡ false
+    → those (take (suc i) ds) (take (suc i) bs) ≡ those (take i ds) (take i bs)
 those_same [] bs zero h = refl
 those_same [] bs (suc i) h = refl
 those_same (x ∷ ds) [] zero h = refl
@@ -34,9 +47,11 @@ to_next : (w : Script) (bs : List Bool) (i : ℕ) → paths_to w bs (suc i) ≡ 
 to_next w bs i = let n : suc i ≡ i + 1 = omega arith in ap (paths_to w bs) n
 
 pub paths_same : (w : Script) (bs : List Bool) (i : ℕ) → get_or bs i false ≡ false → paths_to w bs i ≡ paths_to w bs (i + 1)
-paths_same w bs i h = sym (ap (λ (l : List Who). map (λ (f : File). f.0) (files_of_all w l)) (those_same w.attempts bs i h)) ∙ to_next w bs i
+paths_same w bs i h = sym (ap (λ (l : List Who). map (λ (f : File). f.0) (files_of_all w l)) (those_same w.attempts bs i h)) ∙ to_next w bs
+    i
 
-one_more : (w : Script) (bs : List Bool) (i : ℕ) (d : Declared) → slice_get w.attempts i ≡ Some d → lookup (same_name d.0) w.attempts ≡ Some d.1 → get_or bs i false ≡ true
+one_more : (w : Script) (bs : List Bool) (i : ℕ) (d : Declared) → slice_get w.attempts i ≡ Some d
+    → lookup (same_name d.0) w.attempts ≡ Some d.1 → get_or bs i false ≡ true
     → paths_to w bs i ++ map (λ f. f.0) (placed w.unique w.job d.1) ≡ paths_to w bs (i + 1)
 one_more w bs i d here found h =
     let others = those (take i w.attempts) (take i bs) in
@@ -46,9 +61,11 @@ one_more w bs i d here found h =
     ∙ ap (λ (l : List Who). map (λ (f : File). f.0) (files_of_all w l)) (sym (those_more w.attempts bs i d here h))
     ∙ to_next w bs i
 
-pub paths_more : (v w : Script) (bs : List Bool) (i : ℕ) (d : Declared) (before : List (List ℕ)) → v ≡ w → slice_get v.attempts i ≡ Some d → lookup (same_name d.0) v.attempts ≡ Some d.1 → get_or bs i false ≡ true
+pub paths_more : (v w : Script) (bs : List Bool) (i : ℕ) (d : Declared) (before : List (List ℕ)) → v ≡ w → slice_get v.attempts i ≡ Some d
+    → lookup (same_name d.0) v.attempts ≡ Some d.1 → get_or bs i false ≡ true
     → before ≡ paths_to w bs i → before ++ map (λ f. f.0) (placed v.unique v.job d.1) ≡ paths_to w bs (i + 1)
 paths_more v w bs i d before same here found h so_far =
-    ap (λ (l : List (List ℕ)). l ++ map (λ (f : File). f.0) (placed v.unique v.job d.1)) (so_far ∙ sym (ap (λ (x : Script). paths_to x bs i) same))
+    ap (λ (l : List (List ℕ)). l ++ map (λ (f : File). f.0) (placed v.unique v.job d.1))
+    (so_far ∙ sym (ap (λ (x : Script). paths_to x bs i) same))
     ∙ one_more v bs i d here found h
     ∙ ap (λ (x : Script). paths_to x bs (i + 1)) same

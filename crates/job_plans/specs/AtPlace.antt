@@ -1,6 +1,9 @@
 -- The plan of an attempt by its place in the script.
-use Rattle.std.specs.Prelude.{ℕ, Option, slice_get, option_map}
-use Rattle.job_protocol.specs.Prelude.{Task, nothing_known, Script, task_of}
+use Rattle.job_model.specs.JobScript.{Script}
+use Rattle.job_model.specs.Jobs.{Task}
+use Rattle.job_model.specs.Known.{nothing_known}
+use Rattle.job_protocol.specs.AtWork.{task_of}
+use Rattle.std.specs.Prelude.{Option, option_map, slice_get, ℕ}
 
 -- the plan of the attempt that is declared behind so many others, before it knows anything; none where none is
 abbrev pub task_at : Script → ℕ → ℕ → Option Task

@@ -1,6 +1,6 @@
 -- The attempts of a script of which something is so.
-use Rattle.std.specs.Prelude.{Bool, cond, List, [], ◌∷◌}
-use Rattle.job_protocol.specs.Prelude.{Declared, Who}
+use Rattle.job_model.specs.Attempts.{Declared, Who}
+use Rattle.std.specs.Prelude.{Bool, List, cond, [], ◌∷◌}
 
 -- those of these attempts of which it is so, in script order
 abbrev pub those : List Declared → List Bool → List Who

@@ -1,7 +1,15 @@
 -- one more sending, and what is in hand
-use Rattle.job_protocol.proofs.Common.{Entry, In, IsFirstWorn, IsWorn, List, Request, [], ap, append_assoc, arith, cond, false, inl, inr, refl, same_is, same_request, streak, subst, sym, true, was_answered, ℕ, ◌++◌, ◌+◌, ◌<◌, ◌∙◌, ◌∷◌, ◌≡◌, ◌≤◌}
-use Rattle.retries.proofs.Misses.{streak_same, streak_other, worn_now, worn_grows}
-use Rattle.job_protocol.proofs.Members.{true_or_false, none_some, false_true, in_append, in_left, in_push, in_last}
+use Rattle.basics.proofs.Members.{false_true, none_some, true_or_false}
+use Rattle.job_protocol.proofs.Members.{in_append, in_last, in_left, in_push}
+use Rattle.job_protocol.specs.LaneTable.{In}
+use Rattle.retries.proofs.Misses.{streak_other, streak_same, worn_grows, worn_now}
+use Rattle.retries.proofs.SameRequest.{same_is}
+use Rattle.retries.specs.Same.{same_request}
+use Rattle.retries.specs.Worn.{IsFirstWorn, IsWorn, streak, was_answered}
+use Rattle.s3_types.specs.declared.journal.Entry.{Entry}
+use Rattle.s3_types.specs.declared.request.Request.{Request}
+use Rattle.std.proofs.Common.{List, ap, append_assoc, arith, cond, false, inl, inr, refl, subst, sym, true, ℕ, [], ◌++◌, ◌+◌, ◌<◌, ◌∙◌, ◌∷◌}
+use Rattle.std.proofs.Common.{◌≡◌, ◌≤◌}
 
 -- a request that is in hand, and how many of its last sendings got no answer
 pub record Held : Type 0 where
@@ -17,17 +25,22 @@ pub record Counted (retries : ℕ) (es : List Entry) (hs : List Held) : Type 0 w
 
 -- ---- sendings of what is first in hand
 
-pub hand_heard : {r : ℕ} {es : List Entry} {rest : List Held} (new : List Held) (h : Held) (e : Entry) → Counted r es (h ∷ rest) → e.request ≡ h.request → same_request h.request h.request ≡ true → was_answered e.outcome ≡ true
+pub hand_heard : {r : ℕ} {es : List Entry} {rest : List Held} (new : List Held) (h : Held) (e : Entry) → Counted r es (h ∷ rest)
+    → e.request ≡ h.request → same_request h.request h.request ≡ true → was_answered e.outcome ≡ true
     → ((k : Held) → In k rest → same_request k.request h.request ≡ false)
     → ((k : Held) → In k new → (k.missed ≡ 0) × ((l : Held) → In l rest → l.request ≡ k.request → ⊥))
     → Counted r (es ++ e ∷ []) (rest ++ new)
 hand_heard {r = r} {es = es} {rest = rest} new h e c is self told apart fresh =
     let S : Request → Type 0 = λ q. same_request h.request q ≡ true in
-    let zero_at : (q : Request) → same_request q e.request ≡ true → streak q (es ++ e ∷ []) ≡ 0 = λ q s. streak_same q es e s ∙ ap (λ b. cond b 0 (streak q es + 1)) told in
-    let not_head : (q : Request) → same_request q e.request ≡ false → h.request ≡ q → ⊥ = λ q s i. false_true (ap (λ p. same_request p e.request) i ∙ s) (subst S (sym is) self) in
-    let away : (q : Request) → ((k : Held) → In k rest → k.request ≡ q → ⊥) → streak q (es ++ e ∷ []) ≡ 0 = λ q none. elim (true_or_false (same_request q e.request)) [
+    let zero_at : (q : Request) → same_request q e.request ≡ true
+    → streak q (es ++ e ∷ []) ≡ 0 = λ q s. streak_same q es e s ∙ ap (λ b. cond b 0 (streak q es + 1)) told in
+    let not_head : (q : Request) → same_request q e.request ≡ false → h.request ≡ q
+    → ⊥ = λ q s i. false_true (ap (λ p. same_request p e.request) i ∙ s) (subst S (sym is) self) in
+    let away : (q : Request) → ((k : Held) → In k rest → k.request ≡ q → ⊥)
+    → streak q (es ++ e ∷ []) ≡ 0 = λ q none. elim (true_or_false (same_request q e.request)) [
       | inl s ↦ zero_at q s
-      | inr s ↦ streak_other q es e s ∙ c.others q (λ k i eq. elim i [ inl f ↦ not_head q s (ap (λ (v : Held). v.request) f ∙ eq) | inr j ↦ none k j eq ])
+      | inr s ↦ streak_other q es e s ∙ c.others q (λ k i eq. elim i
+          [ inl f ↦ not_head q s (ap (λ (v : Held). v.request) f ∙ eq) | inr j ↦ none k j eq ])
     ] in
     record {
       counts = λ k i. elim (in_append k rest new i) [
@@ -36,15 +49,20 @@ hand_heard {r = r} {es = es} {rest = rest} new h e c is self told apart fresh =
       ];
       few = λ k i. elim (in_append k rest new i) [ inl j ↦ c.few k (inr j) | inr j ↦ let z : k.missed ≡ 0 = (fresh k j).0 in omega arith ];
       others = λ q none. away q (λ k j eq. none k (in_left k rest new j) eq);
-      none = λ q w. elim (worn_grows r q es e w) [ inl v ↦ c.none q v | inr v ↦ let z : streak q (es ++ e ∷ []) ≡ 0 = zero_at q v.0 in let b : r < streak q (es ++ e ∷ []) = v.1 in absurd (omega arith) ];
+      none = λ q w. elim (worn_grows r q es e w) [
+        | inl v ↦ c.none q v
+        | inr v ↦ let z : streak q (es ++ e ∷ []) ≡ 0 = zero_at q v.0 in let b : r < streak q (es ++ e ∷ []) = v.1 in absurd (omega arith)
+      ];
     }
 
 -- one more that got no answer
-missed_now : {r : ℕ} {es : List Entry} {rest : List Held} (h : Held) (e : Entry) → Counted r es (h ∷ rest) → e.request ≡ h.request → same_request h.request h.request ≡ true → was_answered e.outcome ≡ false → streak h.request (es ++ e ∷ []) ≡ h.missed + 1
+missed_now : {r : ℕ} {es : List Entry} {rest : List Held} (h : Held) (e : Entry) → Counted r es (h ∷ rest) → e.request ≡ h.request
+    → same_request h.request h.request ≡ true → was_answered e.outcome ≡ false → streak h.request (es ++ e ∷ []) ≡ h.missed + 1
 missed_now {es = es} h e c is self missed =
     streak_same h.request es e (rw is self) ∙ ap (λ b. cond b 0 (streak h.request es + 1)) missed ∙ ap (λ n. n + 1) (c.counts h (inl refl))
 
-pub hand_missed : {r : ℕ} {es : List Entry} {rest : List Held} (h : Held) (e : Entry) → Counted r es (h ∷ rest) → e.request ≡ h.request → same_request h.request h.request ≡ true → was_answered e.outcome ≡ false → h.missed < r
+pub hand_missed : {r : ℕ} {es : List Entry} {rest : List Held} (h : Held) (e : Entry) → Counted r es (h ∷ rest) → e.request ≡ h.request
+    → same_request h.request h.request ≡ true → was_answered e.outcome ≡ false → h.missed < r
     → ((k : Held) → In k rest → same_request k.request h.request ≡ false)
     → Counted r (es ++ e ∷ []) (rest ++ record { request = h.request; missed = h.missed + 1 } ∷ [])
 hand_missed {r = r} {es = es} {rest = rest} h e c is self missed low apart =
@@ -73,11 +91,21 @@ hand_missed {r = r} {es = es} {rest = rest} h e c is self missed low apart =
       ];
     }
 
-pub hand_worn : {r : ℕ} {es : List Entry} {rest : List Held} (h : Held) (e : Entry) → Counted r es (h ∷ rest) → e.request ≡ h.request → same_request h.request h.request ≡ true → was_answered e.outcome ≡ false → r ≤ h.missed
+pub hand_worn : {r : ℕ} {es : List Entry} {rest : List Held} (h : Held) (e : Entry) → Counted r es (h ∷ rest) → e.request ≡ h.request
+    → same_request h.request h.request ≡ true → was_answered e.outcome ≡ false → r ≤ h.missed
     → IsFirstWorn r (es ++ e ∷ []) h.request
 hand_worn {r = r} {es = es} h e c is self missed high =
     let here : streak h.request (es ++ e ∷ []) ≡ h.missed + 1 = missed_now h e c is self missed in
-    record { before = es; last = e; later = []; parts = refl; is_of = is; worn = worn_now r h.request (es ++ e ∷ []) (omega arith); first = c.none }
+    record {
+      before = es;
+      last = e;
+      later = [];
+      parts = refl;
+      is_of = is;
+      worn = worn_now r h.request (es ++ e ∷ []) (omega arith);
+      first =
+          c.none;
+    }
 
 -- ---- nothing in hand was missed
 
@@ -88,7 +116,8 @@ pub record Quiet (r : ℕ) (es : List Entry) : Type 0 where
 pub quiet_at_first : (r : ℕ) → Quiet r []
 quiet_at_first r = record { zeros = λ q. refl; none = λ q w. none_some refl (w.1 0 (omega arith)) }
 
-pub quiet_heard : {r : ℕ} {es : List Entry} (h : Held) (e : Entry) → Counted r es (h ∷ []) → e.request ≡ h.request → same_request h.request h.request ≡ true → was_answered e.outcome ≡ true → Quiet r (es ++ e ∷ [])
+pub quiet_heard : {r : ℕ} {es : List Entry} (h : Held) (e : Entry) → Counted r es (h ∷ []) → e.request ≡ h.request
+    → same_request h.request h.request ≡ true → was_answered e.outcome ≡ true → Quiet r (es ++ e ∷ [])
 quiet_heard {r = r} {es = es} h e c is self told =
     let d : Counted r (es ++ e ∷ []) [] = hand_heard {rest = []} [] h e c is self told (λ k i. absurd i) (λ k i. absurd i) in
     record { zeros = λ q. d.others q (λ k i eq. i); none = d.none }

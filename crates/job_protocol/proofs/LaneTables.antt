@@ -1,7 +1,20 @@
 -- the table of lanes is kept by each sending
-use Rattle.job_protocol.proofs.Common.{Bool, Commit, CommitEnd, CommitOver, Completing, Fetching, List, None, Option, Outcome, PendingSet, Picks, Replacing, Reply, Request, Reverting, Script, Sets, Some, Sweep, Table, Tabled, Turn, [], again, all_commits, arith, commit_hears, commit_misses, commit_start, commit_tells, completing, cond, dealt, decided, fetched, fetching, first_shared, follow, inl, inr, is_no_magic, length, picks_of, replaced, replacing, revert, reverting, set_read, shared_by, subst, sweep_hears, swept, sym, two_where, worn_completion, writes, ℕ, ◌++◌, ◌<◌, ◌∷◌}
+use Rattle.job_model.specs.JobScript.{Script}
+use Rattle.job_model.specs.declared.ends.CommitEnd.{CommitEnd}
+use Rattle.job_protocol.proofs.Tables.{lt_or_not, table_again, table_answered, table_dealt}
+use Rattle.job_protocol.specs.JobCommits.{Commit, CommitOver, Completing, Fetching, Replacing, Reverting, Sets, all_commits, commit_hears}
+use Rattle.job_protocol.specs.JobCommits.{commit_misses, commit_start, commit_tells, completing, decided, fetched, fetching, is_no_magic}
+use Rattle.job_protocol.specs.JobCommits.{picks_of, replaced, replacing, reverting, set_read, swept, worn_completion}
+use Rattle.job_protocol.specs.LaneTable.{Table, Tabled}
+use Rattle.job_protocol.specs.Lanes.{Turn, again, dealt, follow, revert}
+use Rattle.job_protocol.specs.Outputs.{Picks, first_shared, shared_by, two_where, writes}
+use Rattle.list_walk.specs.Walks.{Sweep, sweep_hears}
+use Rattle.pending_json.specs.declared.records.PendingSet.{PendingSet}
+use Rattle.s3_types.specs.declared.journal.Outcome.{Outcome}
+use Rattle.s3_types.specs.declared.reply.Reply.{Reply}
+use Rattle.s3_types.specs.declared.request.Request.{Request}
+use Rattle.std.proofs.Common.{Bool, List, None, Option, Some, arith, cond, inl, inr, length, subst, sym, ℕ, [], ◌++◌, ◌<◌, ◌∷◌}
 use Rattle.job_model.specs.declared.ends.CommitEnd.TheVariants as ends
-use Rattle.job_protocol.proofs.Tables.{lt_or_not, table_dealt, table_answered, table_again}
 
 -- ---- where a commit goes on to, by what holds of its stages as they begin
 
@@ -13,7 +26,8 @@ IsSharedEnd (Some _) = ⊥
 
 first_end : (w : Script) (picks : Picks) (ps : List (List ℕ)) → IsSharedEnd (first_shared w picks ps)
 first_end w picks [] = tt
-first_end w picks (p ∷ ps) = elim (two_where (writes w picks p) w.tasks) as (λ o. IsSharedEnd (shared_by p o (first_shared w picks ps))) [ Some x ↦ tt | None ↦ first_end w picks ps ]
+first_end w picks (p ∷ ps) = elim (two_where (writes w picks p) w.tasks) as (λ o. IsSharedEnd (shared_by p o (first_shared w picks ps)))
+    [ Some x ↦ tt | None ↦ first_end w picks ps ]
 
 pub record Begins (w : Script) (P : Commit → Type 0) : Type 0 where
   pub reads : (sets : Sets) → P (Fetching sets 0)
@@ -46,7 +60,8 @@ either_so P b c d h g = grind arith
 
 -- ---- the table
 
-tabled_completing : (w : Script) (sets : Sets) (xs : List Turn) (done : List ℕ) → Table w.lanes w.retries (length (all_commits sets)) xs done → Tabled w (completing sets xs done)
+tabled_completing : (w : Script) (sets : Sets) (xs : List Turn) (done : List ℕ)
+    → Table w.lanes w.retries (length (all_commits sets)) xs done → Tabled w (completing sets xs done)
 tabled_completing w sets xs done t = grind arith
 
 tabled_reverting : (w : Script) (qs : List Request) → Tabled w (reverting qs)
@@ -56,14 +71,16 @@ begins : (w : Script) → 0 < w.lanes → Begins w (Tabled w)
 begins w some = record {
   reads = λ sets. tt;
   deletes = λ sets p ps s. tt;
-  completes = λ sets. tabled_completing w sets (dealt w.lanes (length (all_commits sets))) [] (table_dealt w.lanes w.retries (length (all_commits sets)) some);
+  completes = λ sets. tabled_completing w sets (dealt w.lanes (length (all_commits sets))) []
+      (table_dealt w.lanes w.retries (length (all_commits sets)) some);
   ends = λ p t u. tt;
 }
 
 tabled_heard : (w : Script) (c : Commit) (r : Reply) → 0 < w.lanes → Tabled w c → Tabled w (commit_hears w c r)
 tabled_heard w (Fetching sets m) r some h = fetched_so w (Tabled w) (begins w some) sets (set_read r)
 tabled_heard w (Replacing sets p ps s m) r some h = swept_so w (Tabled w) (begins w some) sets p ps (sweep_hears (is_no_magic w) s r)
-tabled_heard w (Completing sets x xs done) r some h = tabled_completing w sets (xs ++ follow w.lanes (length (all_commits sets)) x.number) (x.number ∷ done) (table_answered x some h)
+tabled_heard w (Completing sets x xs done) r some h = tabled_completing w sets (xs ++ follow w.lanes (length (all_commits sets)) x.number)
+    (x.number ∷ done) (table_answered x some h)
 tabled_heard w (Reverting q qs m) r some h = tabled_reverting w qs
 tabled_heard w _ r some h = tt
 

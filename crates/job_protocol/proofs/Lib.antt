@@ -12,4 +12,3 @@ pub mod Orders
 pub mod Told
 pub mod Sizes
 pub mod Begun
-mod Common

@@ -1,6 +1,8 @@
 -- members, places and appended lists
-use Rattle.job_protocol.proofs.Common.{In, List, [], ap, inl, inr, map, refl, ◌++◌, ◌∷◌, ◌≡◌, ◌⊎◌}
-pub use Rattle.path_keys.proofs.Common.{false_true, map-append, none_some, some_is, true_or_false}
+use Rattle.basics.proofs.Members.{false_true, none_some, some_is, true_or_false}
+use Rattle.job_protocol.specs.LaneTable.{In}
+use Rattle.std.proofs.Common.{List, ap, inl, inr, map, refl, [], ◌++◌, ◌∷◌, ◌≡◌, ◌⊎◌}
+use Rattle.std.proofs.lemmas.List.{map-append}
 
 pub in_append : {X : Type 0} (x : X) (xs ys : List X) → In x (xs ++ ys) → In x xs ⊎ In x ys
 in_append x [] ys h = inr h

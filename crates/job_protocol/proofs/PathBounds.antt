@@ -1,9 +1,14 @@
 -- The paths of files that scripts give keep the bounds of places.
-use Rattle.std.proofs.Common.{◌≡◌, ℕ, ◌==◌, ◌&&◌, ◌||◌, not, nat_eq, nat_le, Bool, true, false, List, [], ◌∷◌, ◌++◌, length, refl, sym, ap, ◌∙◌, codes, inl, inr}
-use Rattle.job_model.specs.Prelude.{list_all, list_any, ends_with, join_with_byte, is_path, is_full, is_hidden, begins_hidden, with_id_last, unique_name, IsGiven, IsPlaced}
-use Rattle.path_keys.proofs.Common.{and_parts, or_parts, true≢false, not-true}
 use Rattle.basics.specs.Parts.{parts_from, parts_of}
+use Rattle.job_model.specs.Legal.{IsGiven}
+use Rattle.job_model.specs.Paths.{begins_hidden, is_full, is_hidden, is_path}
+use Rattle.job_model.specs.Placed.{unique_name, with_id_last}
+use Rattle.job_model.specs.Plans.{IsPlaced}
 use Rattle.magic_paths.specs.Places.{is_open, is_record}
+use Rattle.std.proofs.Common.{Bool, List, ap, codes, false, inl, inr, length, nat_eq, nat_le, not, refl, sym, true, ℕ, [], ◌&&◌, ◌++◌, ◌==◌}
+use Rattle.std.proofs.Common.{◌||◌, ◌∙◌, ◌∷◌, ◌≡◌}
+use Rattle.std.proofs.lemmas.Bool.{and_parts, not-true, or_parts, true≢false}
+use Rattle.std.specs.List.{ends_with, join_with_byte, list_all, list_any}
 
 -- the parts of a text that begins with a byte of its first part
 record Begins (x : ℕ) (parts : List (List ℕ)) : Type 0 where
@@ -31,7 +36,8 @@ record Shown (path : List ℕ) : Type 0 where
   pub no_mark : nat_eq first 95 ≡ false
   pub no_dot : nat_eq first 46 ≡ false
 
-shown_from : (x : ℕ) (rest front : List ℕ) (others : List (List ℕ)) → parts_of 47 (x ∷ rest) ≡ (x ∷ front) ∷ others → is_hidden (x ∷ rest) ≡ false → Shown (x ∷ rest)
+shown_from : (x : ℕ) (rest front : List ℕ) (others : List (List ℕ)) → parts_of 47 (x ∷ rest) ≡ (x ∷ front) ∷ others
+    → is_hidden (x ∷ rest) ≡ false → Shown (x ∷ rest)
 shown_from x rest front others e h =
     let any : (begins_hidden (x ∷ front) || list_any begins_hidden others) ≡ false = sym (ap (list_any begins_hidden) e) ∙ h in
     let first : (nat_eq x 95 || nat_eq x 46) ≡ false = (or_parts (begins_hidden (x ∷ front)) _ any).0 in
@@ -40,7 +46,8 @@ shown_from x rest front others e h =
 
 full_parts : (path : List ℕ) → is_path path ≡ true → list_all is_full (parts_of 47 path) ≡ true
 full_parts path h =
-    let a = and_parts (nat_le 1 (length path) && nat_le (length path) 400 && list_all is_full (parts_of 47 path)) (not (ends_with nat_eq path (codes ".pending"))) h in
+    let a = and_parts (nat_le 1 (length path) && nat_le (length path) 400 && list_all is_full (parts_of 47 path))
+    (not (ends_with nat_eq path (codes ".pending"))) h in
     (and_parts (nat_le 1 (length path) && nat_le (length path) 400) (list_all is_full (parts_of 47 path)) a.0).1
 
 given_shown : (path : List ℕ) → IsGiven path → Shown path
@@ -69,7 +76,8 @@ given_place path g = (open_shown path (given_shown path g), not-true (is_record 
 
 -- ---- a path made unique
 
-named_first : (id : List ℕ) (x : ℕ) (front : List ℕ) (others : List (List ℕ)) → nat_eq x 46 ≡ false → nat_eq x 95 ≡ false → is_open (join_with_byte 47 (with_id_last id ((x ∷ front) ∷ others))) ≡ true
+named_first : (id : List ℕ) (x : ℕ) (front : List ℕ) (others : List (List ℕ)) → nat_eq x 46 ≡ false → nat_eq x 95 ≡ false
+    → is_open (join_with_byte 47 (with_id_last id ((x ∷ front) ∷ others))) ≡ true
 named_first id x front [] dot mark = rw (dot, mark) refl
 named_first id x front (o ∷ others) dot mark = by (with_id_last id (o ∷ others))
   where
@@ -78,7 +86,8 @@ named_first id x front (o ∷ others) dot mark = by (with_id_last id (o ∷ othe
     by (e ∷ l) = rw mark refl
 
 unique_open : (id path : List ℕ) → Shown path → is_open (unique_name path id) ≡ true
-unique_open id path s = ap (λ (l : List (List ℕ)). is_open (join_with_byte 47 (with_id_last id l))) s.parts ∙ named_first id s.first s.front s.others s.no_dot s.no_mark
+unique_open id path s = ap (λ (l : List (List ℕ)). is_open (join_with_byte 47 (with_id_last id l))) s.parts ∙ named_first id s.first s.front
+    s.others s.no_dot s.no_mark
 
 pub placed_open : (id path : List ℕ) → IsPlaced id path → is_open path ≡ true
 placed_open id path (inl g) = open_shown path (given_shown path g)

@@ -1,7 +1,26 @@
 -- the least path that two picks write, with the two least tasks that do
-use Rattle.job_protocol.proofs.Common.{Bool, CommitEnd, Equal, File, Greater, In, IsShared, Less, List, None, Option, Ordering, Picks, SamePath, Script, Some, [], ap, arith, bytes_decides, cond, false, files_picked, first_shared, first_where, has_path, inl, inr, insert_key, is_lt, map, match_ordering, nat_cmp-IsAntisymmetric, option_map, ordered, ordering_reverse, refl, same_path, second_where, shared_by, slice_cmp-IsAntisymmetric, subst, suc, sym, text_cmp, text_eq, text_total, true, two_where, wanted, wanted_below, wanted_paths, writes, zero, ℕ, ◌+◌, ◌-◌, ◌<◌, ◌∙◌, ◌∷◌, ◌≡◌, ◌≤◌, ◌⊎◌}
 use Rattle.basics.proofs.Less.{irrefl, lt_not}
-use Rattle.job_protocol.proofs.Members.{false_true, true_or_false, in_left, in_right, map-append}
+use Rattle.basics.proofs.Members.{false_true, true_or_false}
+use Rattle.basics.specs.Order.{text_cmp, text_eq, text_total}
+use Rattle.job_model.specs.Files.{File, has_path}
+use Rattle.job_model.specs.JobScript.{Script}
+use Rattle.job_model.specs.declared.ends.CommitEnd.{CommitEnd}
+use Rattle.job_model.specs.declared.ends.CommitEnd.TheVariants.{SamePath}
+use Rattle.job_protocol.proofs.Members.{in_left, in_right}
+use Rattle.job_protocol.specs.LaneTable.{In}
+use Rattle.job_protocol.specs.Laws.{IsShared}
+use Rattle.job_protocol.specs.Outputs.{Picks, files_picked, first_shared, first_where, ordered, same_path, second_where, shared_by}
+use Rattle.job_protocol.specs.Outputs.{two_where, wanted, wanted_below, wanted_paths, writes}
+use Rattle.std.proofs.Common.{Bool, List, None, Option, Some, ap, arith, cond, false, inl, inr, map, refl, subst, suc, sym, true, zero, ℕ}
+use Rattle.std.proofs.Common.{[], ◌+◌, ◌-◌, ◌<◌, ◌∙◌, ◌∷◌, ◌≡◌, ◌≤◌, ◌⊎◌}
+use Rattle.std.proofs.lemmas.List.{map-append}
+use Rattle.std.specs.BTreeSet.{insert_key}
+use Rattle.std.specs.Cmp.Lexicographic.{bytes_decides}
+use Rattle.std.specs.FinMap.{nat_cmp-IsAntisymmetric, slice_cmp-IsAntisymmetric}
+use Rattle.std.specs.Option.{option_map}
+use Rattle.std.specs.Ordering.{is_lt, match_ordering, ordering_reverse}
+use Rattle.std.specs.declared.cmp.Ordering.{Ordering}
+use Rattle.std.specs.declared.cmp.Ordering.TheVariants.{Equal, Greater, Less}
 
 -- ---- the least number that passes a test
 
@@ -37,7 +56,8 @@ abbrev Two : (ℕ → Bool) → ℕ → Option (ℕ × ℕ) → Type 0
 Two test n (Some x) = AreTwo test n x.0 x.1
 Two test n None = (v x : ℕ) → v < x → x < n → test v ≡ true → test x ≡ true → ⊥
 
-two_by : (test : ℕ → Bool) (n t : ℕ) → IsFirst test 0 n t → (o : Option ℕ) → First test (t + 1) (n - (t + 1)) o → Two test n (option_map (λ u. (t, u)) o)
+two_by : (test : ℕ → Bool) (n t : ℕ) → IsFirst test 0 n t → (o : Option ℕ) → First test (t + 1) (n - (t + 1)) o
+    → Two test n (option_map (λ u. (t, u)) o)
 two_by test n t h o g = grind arith
 
 two : (test : ℕ → Bool) (n : ℕ) → Two test n (two_where test n)
@@ -53,7 +73,8 @@ inserted : (p : List ℕ) (xs : List (List ℕ)) (k : List ℕ) → (k ≡ p) �
 inserted p [] k h = h
 inserted p (x ∷ xs) k h = by (text_cmp k x) refl h (inserted p xs k)
   where
-    by : (o : Ordering) → text_cmp k x ≡ o → (k ≡ p) ⊎ ((x ≡ p) ⊎ In p xs) → ((k ≡ p) ⊎ In p xs → In p (insert_key text_cmp xs k)) → In p (match_ordering o (k ∷ x ∷ xs) (x ∷ xs) (x ∷ insert_key text_cmp xs k))
+    by : (o : Ordering) → text_cmp k x ≡ o → (k ≡ p) ⊎ ((x ≡ p) ⊎ In p xs) → ((k ≡ p) ⊎ In p xs → In p (insert_key text_cmp xs k))
+        → In p (match_ordering o (k ∷ x ∷ xs) (x ∷ xs) (x ∷ insert_key text_cmp xs k))
     by Less e h later = h
     by Equal e (inl i) later = inl (sym (slice_cmp-IsAntisymmetric nat_cmp-IsAntisymmetric k x e) ∙ i)
     by Equal e (inr i) later = i
@@ -78,10 +99,18 @@ insert_rises : (xs : List (List ℕ)) (k : List ℕ) → Rises xs → Rises (ins
 insert_rises [] k r = (λ y h. absurd h, tt)
 insert_rises (x ∷ xs) k r = by (text_cmp k x) refl (insert_rises xs k r.1)
   where
-    by : (o : Ordering) → text_cmp k x ≡ o → Rises (insert_key text_cmp xs k) → Rises (match_ordering o (k ∷ x ∷ xs) (x ∷ xs) (x ∷ insert_key text_cmp xs k))
+    by : (o : Ordering) → text_cmp k x ≡ o → Rises (insert_key text_cmp xs k)
+        → Rises (match_ordering o (k ∷ x ∷ xs) (x ∷ xs) (x ∷ insert_key text_cmp xs k))
     by Less e later = (λ y h. elim h [ inl i ↦ ap (text_cmp k) (sym i) ∙ e | inr i ↦ text_total.trans k x y e (r.0 y i) ], r)
     by Equal e later = r
-    by Greater e later = (λ y h. elim (insert_from y xs k h) [ inl i ↦ ap (text_cmp x) (sym i) ∙ text_total.antisymm x k ∙ ap ordering_reverse e | inr i ↦ r.0 y i ], later)
+    by Greater e later = (
+      λ y h. elim (insert_from y xs k h) [
+        | inl i ↦ ap (text_cmp x) (sym i) ∙ text_total.antisymm x k ∙ ap
+            ordering_reverse e
+        | inr i ↦ r.0 y i
+      ],
+      later,
+    )
 
 ordered_rises : (xs : List (List ℕ)) → Rises (ordered xs)
 ordered_rises [] = tt
@@ -91,7 +120,11 @@ ordered_rises (x ∷ xs) = insert_rises (ordered xs) x (ordered_rises xs)
 
 has_in : (fs : List File) (p : List ℕ) → has_path fs p ≡ true → In p (map (λ f. f.0) fs)
 has_in [] p h = absurd (false_true refl h)
-has_in (f ∷ fs) p h = elim (true_or_false (text_eq p f.0)) [ inl e ↦ inl (sym ((bytes_decides p f.0).0 e)) | inr e ↦ inr (has_in fs p (rw e at h)) ]
+has_in (f ∷ fs) p h = elim (true_or_false (text_eq p f.0)) [
+  | inl e ↦ inl (sym ((bytes_decides p f.0).0 e))
+  | inr e ↦ inr
+      (has_in fs p (rw e at h))
+]
 
 last_or_before : (t n : ℕ) → t < suc n → (t ≡ n) ⊎ (t < n)
 last_or_before t n h = grind arith
@@ -99,10 +132,12 @@ last_or_before t n h = grind arith
 module _ (w : Script) (picks : Picks) where
   in_below : (p : List ℕ) (t n : ℕ) → t < n → writes w picks p t ≡ true → In p (map (λ f. f.0) (wanted_below w picks n))
   in_below p t zero l h = absurd (omega arith)
-  in_below p t (suc n) l h = rw (map-append (λ (f : File). f.0) (wanted_below w picks n) (files_picked w n (picks n))) (elim (last_or_before t n l) [
-    | inl e ↦ in_right p (map (λ f. f.0) (wanted_below w picks n)) _ (has_in (files_picked w n (picks n)) p (ap (writes w picks p) (sym e) ∙ h))
-    | inr b ↦ in_left p _ (map (λ f. f.0) (files_picked w n (picks n))) (in_below p t n b h)
-  ])
+  in_below p t (suc n) l h = rw (map-append (λ (f : File). f.0) (wanted_below w picks n) (files_picked w n (picks n)))
+      (elim (last_or_before t n l) [
+        | inl e ↦ in_right p (map (λ f. f.0) (wanted_below w picks n)) _ (has_in (files_picked w n (picks n)) p
+            (ap (writes w picks p) (sym e) ∙ h))
+        | inr b ↦ in_left p _ (map (λ f. f.0) (files_picked w n (picks n))) (in_below p t n b h)
+      ])
 
   in_wanted : (p : List ℕ) (t : ℕ) → t < w.tasks → writes w picks p t ≡ true → In p (wanted_paths w picks)
   in_wanted p t l h = in_ordered p _ (in_below p t w.tasks l h)
@@ -125,20 +160,44 @@ module _ (w : Script) (picks : Picks) where
       same : (q : List ℕ) → p ≡ q → two_where (writes w picks p) w.tasks ≡ None → two_where (writes w picks q) w.tasks ≡ None
       same q i h = ap (λ v. two_where (writes w picks v) w.tasks) (sym i) ∙ h
 
-      by : (o : Option (ℕ × ℕ)) → two_where (writes w picks p) w.tasks ≡ o → (e : Option CommitEnd) → Least ps e → Least (p ∷ ps) (shared_by p o e)
-      by (Some x) h e later = (p, x.0, x.1, refl, record { two = h; least = λ q m s. elim m [ inl i ↦ ap (λ v. is_lt (text_cmp v p)) (sym i) ∙ irrefl text_total p | inr n ↦ lt_not text_total p q (ap is_lt (r.0 q n)) ] })
+      by : (o : Option (ℕ × ℕ)) → two_where (writes w picks p) w.tasks ≡ o → (e : Option CommitEnd) → Least ps e
+          → Least (p ∷ ps) (shared_by p o e)
+      by (Some x) h e later = (
+        p,
+        x.0,
+        x.1,
+        refl,
+        record {
+          two = h;
+          least = λ q m s. elim m
+              [ inl i ↦ ap (λ v. is_lt (text_cmp v p)) (sym i) ∙ irrefl text_total p | inr n ↦ lt_not text_total p q (ap is_lt (r.0 q n)) ];
+        },
+      )
       by None h None later = λ q m. elim m [ inl i ↦ same q i h | inr n ↦ later q n ]
-      by None h (Some e) g = (g.0, g.1, g.2, g.3, record { two = g.4.two; least = λ q m s. elim m [ inl i ↦ absurd (s (same q i h)) | inr n ↦ g.4.least q n s ] })
+      by None h (Some e) g = (
+        g.0,
+        g.1,
+        g.2,
+        g.3,
+        record {
+          two = g.4.two;
+          least = λ q m s. elim m
+              [ inl i ↦ absurd (s (same q i h)) | inr n ↦ g.4.least q n s ];
+        },
+      )
 
   all_least : Least (wanted_paths w picks) (same_path w picks)
   all_least = least_of (wanted_paths w picks) (ordered_rises (map (λ f. f.0) (wanted w picks)))
 
   -- no two write a path
-  pub none_write : (p : List ℕ) → two_where (writes w picks p) w.tasks ≡ None → (t u : ℕ) → t < u → u < w.tasks → writes w picks p t ≡ true → writes w picks p u ≡ true → ⊥
+  pub none_write : (p : List ℕ) → two_where (writes w picks p) w.tasks ≡ None → (t u : ℕ) → t < u → u < w.tasks → writes w picks p t ≡ true
+      → writes w picks p u ≡ true → ⊥
   none_write p e = subst (Two (writes w picks p) w.tasks) e (two (writes w picks p) w.tasks)
 
-  pub shared_found : (e : CommitEnd) → same_path w picks ≡ Some e → (p : List ℕ) × (t : ℕ) × (u : ℕ) × (e ≡ SamePath p t u) × IsShared w picks p t u
+  pub shared_found : (e : CommitEnd) → same_path w picks ≡ Some e → (p : List ℕ) × (t : ℕ) × (u : ℕ) × (e ≡ SamePath p t u)
+      × IsShared w picks p t u
   shared_found e h = grind (arith, all_least, two, first, in_wanted, none_write)
 
-  pub shared_none : same_path w picks ≡ None → (p : List ℕ) (t u : ℕ) → t < u → u < w.tasks → writes w picks p t ≡ true → writes w picks p u ≡ true → ⊥
+  pub shared_none : same_path w picks ≡ None → (p : List ℕ) (t u : ℕ) → t < u → u < w.tasks → writes w picks p t ≡ true
+      → writes w picks p u ≡ true → ⊥
   shared_none f p t u l h a b = none_write p (subst (Least (wanted_paths w picks)) f all_least p (in_wanted p u h b)) t u l h a b

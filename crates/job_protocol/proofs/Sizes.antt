@@ -1,6 +1,9 @@
 -- sizes that fit a record are told by it or not
-use Rattle.job_protocol.proofs.Common.{Committer, List, Some, Spelled, are_sizes, arith, true, ℕ, ◌≡◌}
 use Rattle.job_protocol.specs.Records.{sizes_by}
+use Rattle.pending_json.specs.Pending.{are_sizes}
+use Rattle.s3_types.specs.Tags.{Spelled}
+use Rattle.s3_types.specs.declared.request.Committer.{Committer}
+use Rattle.std.proofs.Common.{List, Some, arith, true, ℕ, ◌≡◌}
 
 pub sizes_told : (c : Committer) (sizes : List ℕ) (tags : List Spelled) (total : ℕ)
     → are_sizes (Some sizes) tags total ≡ true → are_sizes (sizes_by c sizes) tags total ≡ true

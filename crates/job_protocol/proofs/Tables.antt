@@ -1,7 +1,11 @@
 -- the table of lanes as it is dealt, and after each outcome
-use Rattle.job_protocol.proofs.Common.{After, Apart, Bool, In, List, Table, Turn, [], again, ahead, ap, append-nil, arith, dealt, false, first_turns, follow, fresh_turn, inl, inr, min, nat_lt, nat_tests, refl, subst, suc, sym, true, zero, ℕ, ◌++◌, ◌+◌, ◌-◌, ◌<◌, ◌∙◌, ◌∷◌, ◌≡◌, ◌≤◌, ◌⊎◌}
-use Rattle.job_protocol.proofs.Members.{in_append, in_left, in_right, in_push}
+use Rattle.job_protocol.proofs.Members.{in_append, in_left, in_push, in_right}
+use Rattle.job_protocol.specs.LaneTable.{After, Apart, In, Table, ahead}
+use Rattle.job_protocol.specs.Lanes.{Turn, again, dealt, first_turns, follow, fresh_turn}
+use Rattle.std.proofs.Common.{Bool, List, ap, append-nil, arith, false, inl, inr, min, nat_lt, refl, subst, suc, sym, true, zero, ℕ, []}
+use Rattle.std.proofs.Common.{◌++◌, ◌+◌, ◌-◌, ◌<◌, ◌∙◌, ◌∷◌, ◌≡◌, ◌≤◌, ◌⊎◌}
 use Rattle.std.proofs.lemmas.Bool.{cases_lt}
+use Rattle.std.proofs.lemmas.Bool.Decides.{nat_tests}
 
 pub lt_or_not : (a b : ℕ) → ((nat_lt a b ≡ true) × (a < b)) ⊎ ((nat_lt a b ≡ false) × (b ≤ a))
 lt_or_not a b = grind (arith, nat_tests)
@@ -59,7 +63,12 @@ pub in_first : (m : ℕ) (x : Turn) → In x (first_turns m) → (x.number < m) 
 in_first zero x h = absurd h
 in_first (suc m) x h = elim (in_push x (first_turns m) (fresh_turn m) h) [
   | inl i ↦ let r = in_first m x i in let b : x.number < m = r.0 in (omega arith, r.1, r.2)
-  | inr e ↦ let n : m ≡ x.number = ap (λ (v : Turn). v.number) e in (omega arith, sym (ap (λ (v : Turn). v.missed) e), sym (ap (λ (v : Turn). v.lost) e))
+  | inr e ↦ let n : m ≡ x.number = ap (λ (v : Turn). v.number) e in (
+    omega arith,
+    sym (ap (λ (v : Turn). v.missed) e),
+    sym
+        (ap (λ (v : Turn). v.lost) e),
+  )
 ]
 
 first_in : (m a : ℕ) → a < m → In (fresh_turn a) (first_turns m)
@@ -70,10 +79,15 @@ first_in (suc m) a h = elim (cases_lt a m) [
 ]
 
 -- one more turn, ahead of none
-pub apart_push : (lanes : ℕ) (xs : List Turn) (y : Turn) → Apart lanes xs → ((x : Turn) (n : ℕ) → In x xs → After lanes x.number n → After lanes y.number n → ⊥) → Apart lanes (xs ++ y ∷ [])
+pub apart_push : (lanes : ℕ) (xs : List Turn) (y : Turn) → Apart lanes xs
+    → ((x : Turn) (n : ℕ) → In x xs → After lanes x.number n → After lanes y.number n → ⊥) → Apart lanes (xs ++ y ∷ [])
 apart_push lanes [] y ok new = (λ x n i a b. i, tt)
 apart_push lanes (x ∷ xs) y ok new = (
-  λ z n i a b. elim (in_push z xs y i) [ inl j ↦ ok.0 z n j a b | inr e ↦ let Q : Turn → Type 0 = λ v. After lanes v.number n in new x n (inl refl) a (subst Q (sym e) b) ],
+  λ z n i a b. elim (in_push z xs y i) [
+    | inl j ↦ ok.0 z n j a b
+    | inr e ↦ let Q : Turn
+        → Type 0 = λ v. After lanes v.number n in new x n (inl refl) a (subst Q (sym e) b)
+  ],
   apart_push lanes xs y ok.1 (λ z n i a b. new z n (inr i) a b),
 )
 
@@ -106,15 +120,19 @@ dealt_fresh lanes total x i = let r = in_first (min lanes total) x i in (r.1, r.
 -- ---- after an answer
 
 -- the lane's next, or that it has none
-pub follow_cases : (lanes total n : ℕ) → ((n + lanes < total) × (follow lanes total n ≡ fresh_turn (n + lanes) ∷ [])) ⊎ ((total ≤ n + lanes) × (follow lanes total n ≡ []))
+pub follow_cases : (lanes total n : ℕ) → ((n + lanes < total) × (follow lanes total n ≡ fresh_turn (n + lanes) ∷ []))
+    ⊎ ((total ≤ n + lanes) × (follow lanes total n ≡ []))
 follow_cases lanes total n = grind (arith, nat_tests)
 
 -- these come after a turn that gives way to them, and what is done of theirs was done before
 abbrev Behind : ℕ → ℕ → ℕ → Turn → List ℕ → List ℕ → Turn → Type 0
-Behind lanes retries total x done now y = (y.number < total) × (y.missed ≡ 0 → y.lost ≡ false) × (y.missed ≤ retries) × ((n : ℕ) → After lanes y.number n → After lanes x.number n × (In n now → In n done))
+Behind lanes retries total x done now y = (y.number < total) × (y.missed ≡ 0 → y.lost ≡ false) × (y.missed ≤ retries)
+    × ((n : ℕ) → After lanes y.number n → After lanes x.number n × (In n now → In n done))
 
-table_moved : {lanes retries total : ℕ} {xs : List Turn} {done : List ℕ} (x : Turn) (ys : List Turn) (now : List ℕ) → Table lanes retries total (x ∷ xs) done → ((y : Turn) → In y ys → Behind lanes retries total x done now y) → Apart lanes (xs ++ ys)
-    → ((n : ℕ) → In n now → (x.number ≡ n) ⊎ In n done) → ((n : ℕ) → In n done → In n now) → ((n : ℕ) → n < total → After lanes x.number n → In n now ⊎ ((y : Turn) × In y ys × After lanes y.number n))
+table_moved : {lanes retries total : ℕ} {xs : List Turn} {done : List ℕ} (x : Turn) (ys : List Turn) (now : List ℕ)
+    → Table lanes retries total (x ∷ xs) done → ((y : Turn) → In y ys → Behind lanes retries total x done now y) → Apart lanes (xs ++ ys)
+    → ((n : ℕ) → In n now → (x.number ≡ n) ⊎ In n done) → ((n : ℕ) → In n done → In n now)
+    → ((n : ℕ) → n < total → After lanes x.number n → In n now ⊎ ((y : Turn) × In y ys × After lanes y.number n))
     → Table lanes retries total (xs ++ ys) now
 table_moved {lanes = lanes} {total = total} {xs = xs} x ys now t new apart less more cover = record {
   within = λ y i. elim (in_append y xs ys i) [ inl j ↦ t.within y (inr j) | inr j ↦ (new y j).0 ];
@@ -122,13 +140,17 @@ table_moved {lanes = lanes} {total = total} {xs = xs} x ys now t new apart less 
   few = λ y i. elim (in_append y xs ys i) [ inl j ↦ t.few y (inr j) | inr j ↦ (new y j).2 ];
   apart = apart;
   undone = λ y n i d a. elim (in_append y xs ys i) [
-    | inl j ↦ elim (less n d) [ inl e ↦ t.apart.0 y x.number j (after_self lanes x.number) (subst (After lanes y.number) (sym e) a) | inr k ↦ t.undone y n (inr j) k a ]
+    | inl j ↦ elim (less n d) [
+      | inl e ↦ t.apart.0 y x.number j (after_self lanes x.number) (subst (After lanes y.number) (sym e) a)
+      | inr k ↦ t.undone y n (inr j) k a
+    ]
     | inr j ↦ let b = (new y j).3 n a in t.undone x n (inl refl) (b.1 d) b.0
   ];
   cover = λ n low. elim (t.cover n low) [
     | inl d ↦ inl (more n d)
     | inr r ↦ elim r.1 [
-      | inl e ↦ elim (cover n low (subst (λ (v : Turn). After lanes v.number n) (sym e) r.2)) [ inl d ↦ inl d | inr s ↦ inr (s.0, in_right s.0 xs ys s.1, s.2) ]
+      | inl e ↦ elim (cover n low (subst (λ (v : Turn). After lanes v.number n) (sym e) r.2))
+          [ inl d ↦ inl d | inr s ↦ inr (s.0, in_right s.0 xs ys s.1, s.2) ]
       | inr j ↦ inr (r.0, in_left r.0 xs ys j, r.2)
     ]
   ];
@@ -138,38 +160,59 @@ table_moved {lanes = lanes} {total = total} {xs = xs} x ys now t new apart less 
 one_only : (P : Turn → Type 0) (new : Turn) → P new → (y : Turn) → In y (new ∷ []) → P y
 one_only P new h y i = elim i [ inl e ↦ subst P e h | inr none ↦ absurd none ]
 
-pub table_answered : {lanes retries total : ℕ} {xs : List Turn} {done : List ℕ} (x : Turn) → 0 < lanes → Table lanes retries total (x ∷ xs) done → Table lanes retries total (xs ++ follow lanes total x.number) (x.number ∷ done)
+pub table_answered : {lanes retries total : ℕ} {xs : List Turn} {done : List ℕ} (x : Turn) → 0 < lanes
+    → Table lanes retries total (x ∷ xs) done → Table lanes retries total (xs ++ follow lanes total x.number) (x.number ∷ done)
 table_answered {lanes = lanes} {retries = retries} {total = total} {xs = xs} {done = done} x some t =
     let T : List Turn → Type 0 = λ v. Table lanes retries total (xs ++ v) (x.number ∷ done) in
     let new = fresh_turn (x.number + lanes) in
     let low : (n : ℕ) → After lanes (x.number + lanes) n → x.number + lanes ≤ n = after_low lanes (x.number + lanes) in
     elim (follow_cases lanes total x.number) [
       | inl h ↦ subst T (sym h.1) (table_moved x (new ∷ []) (x.number ∷ done) t
-          (one_only (Behind lanes retries total x done (x.number ∷ done)) new (h.0, λ e. refl, omega arith, λ n a. (after_next lanes x.number n a, λ d. elim d [ inl e ↦ let far = low n a in absurd (omega (arith, far, e)) | inr k ↦ k ])))
+          (one_only (Behind lanes retries total x done (x.number ∷ done)) new (
+            h.0,
+            λ e. refl,
+            omega arith,
+            λ n a. (
+              after_next lanes x.number n a,
+              λ d. elim d
+                  [ inl e ↦ let far = low n a in absurd (omega (arith, far, e)) | inr k ↦ k ],
+            ),
+          ))
           (apart_push lanes xs new t.apart.1 (λ y n i a b. t.apart.0 y n i (after_next lanes x.number n b) a))
-          (λ n d. d) (λ n d. inr d) (λ n within a. elim (after_cases lanes x.number n a) [ inl e ↦ inl (inl e) | inr b ↦ inr (new, inl refl, b) ]))
-      | inr h ↦ subst T (sym h.1) (table_moved x [] (x.number ∷ done) t (λ y i. absurd i) (subst (Apart lanes) (sym (append-nil xs)) t.apart.1)
-          (λ n d. d) (λ n d. inr d) (λ n within a. elim (after_cases lanes x.number n a) [ inl e ↦ inl (inl e) | inr b ↦ let far = low n b in let none = h.0 in absurd (omega (arith, far, none, within)) ]))
+          (λ n d. d) (λ n d. inr d) (λ n within a. elim (after_cases lanes x.number n a)
+          [ inl e ↦ inl (inl e) | inr b ↦ inr (new, inl refl, b) ]))
+      | inr h ↦ subst T (sym h.1) (table_moved x [] (x.number ∷ done) t (λ y i. absurd i)
+          (subst (Apart lanes) (sym (append-nil xs)) t.apart.1)
+          (λ n d. d) (λ n d. inr d) (λ n within a. elim (after_cases lanes x.number n a)
+          [ inl e ↦ inl (inl e) | inr b ↦ let far = low n b in let none = h.0 in absurd (omega (arith, far, none, within)) ]))
     ]
 
 -- ---- after a sending with no answer
 
-pub table_again : {lanes retries total : ℕ} {xs : List Turn} {done : List ℕ} (x : Turn) (lost : Bool) → x.missed < retries → Table lanes retries total (x ∷ xs) done → Table lanes retries total (xs ++ again x lost ∷ []) done
+pub table_again : {lanes retries total : ℕ} {xs : List Turn} {done : List ℕ} (x : Turn) (lost : Bool) → x.missed < retries
+    → Table lanes retries total (x ∷ xs) done → Table lanes retries total (xs ++ again x lost ∷ []) done
 table_again {lanes = lanes} {retries = retries} {total = total} {xs = xs} {done = done} x lost low t =
-    table_moved x (again x lost ∷ []) done t (one_only (Behind lanes retries total x done done) (again x lost) (t.within x (inl refl), λ e. absurd (omega (arith, e)), omega (arith, low), λ n a. (a, λ d. d)))
-    (apart_push lanes xs (again x lost) t.apart.1 (λ y n i a b. t.apart.0 y n i b a)) (λ n d. inr d) (λ n d. d) (λ n within a. inr (again x lost, inl refl, a))
+    table_moved x (again x lost ∷ []) done t (one_only (Behind lanes retries total x done done) (again x lost)
+    (t.within x (inl refl), λ e. absurd (omega (arith, e)), omega (arith, low), λ n a. (a, λ d. d)))
+    (apart_push lanes xs (again x lost) t.apart.1 (λ y n i a b. t.apart.0 y n i b a)) (λ n d. inr d) (λ n d. d)
+    (λ n within a. inr (again x lost, inl refl, a))
 
 -- ---- what follows
 
 -- two turns have two numbers
-pub numbers_apart : {lanes retries total : ℕ} {xs : List Turn} {done : List ℕ} (x y : Turn) → Table lanes retries total (x ∷ xs) done → In y xs → x.number ≡ y.number → ⊥
-numbers_apart {lanes = lanes} x y t i e = let A : ℕ → Type 0 = λ v. After lanes v x.number in t.apart.0 y x.number i (after_self lanes x.number) (subst A e (after_self lanes x.number))
+pub numbers_apart : {lanes retries total : ℕ} {xs : List Turn} {done : List ℕ} (x y : Turn) → Table lanes retries total (x ∷ xs) done
+    → In y xs → x.number ≡ y.number → ⊥
+numbers_apart {lanes = lanes} x y t i e = let A : ℕ
+    → Type 0 = λ v. After lanes v x.number in t.apart.0 y x.number i (after_self lanes x.number) (subst A e (after_self lanes x.number))
 
 -- the next turn's commit is none that is in hand
-pub next_apart : {lanes retries total : ℕ} {xs : List Turn} {done : List ℕ} (x y : Turn) → Table lanes retries total (x ∷ xs) done → In y xs → x.number + lanes ≡ y.number → ⊥
-next_apart {lanes = lanes} x y t i e = let A : ℕ → Type 0 = λ v. After lanes y.number v in t.apart.0 y (x.number + lanes) i (1, refl) (subst A (sym e) (after_self lanes y.number))
+pub next_apart : {lanes retries total : ℕ} {xs : List Turn} {done : List ℕ} (x y : Turn) → Table lanes retries total (x ∷ xs) done → In y xs
+    → x.number + lanes ≡ y.number → ⊥
+next_apart {lanes = lanes} x y t i e = let A : ℕ → Type 0 = λ v. After lanes y.number v in t.apart.0 y (x.number + lanes) i (1, refl)
+    (subst A (sym e) (after_self lanes y.number))
 
-pub not_done : {lanes retries total : ℕ} {xs : List Turn} {done : List ℕ} (x : Turn) → Table lanes retries total xs done → In x xs → In x.number done → ⊥
+pub not_done : {lanes retries total : ℕ} {xs : List Turn} {done : List ℕ} (x : Turn) → Table lanes retries total xs done → In x xs
+    → In x.number done → ⊥
 not_done {lanes = lanes} x t i d = t.undone x x.number i d (after_self lanes x.number)
 
 -- where no lane is left each commit is done

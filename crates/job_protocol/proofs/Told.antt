@@ -1,10 +1,30 @@
 -- plans tell what operations ask, and where they go
-use Rattle.job_protocol.proofs.Common.{ClusterPut, Committer, Creating, File, Item, Known, List, Magic, More, Reply, Script, Setup, Some, Walked, Who, Whole, [], ap, arith, checks_partitions, cond, false, files, filter, flat_map, job_of, job_script, map, nat_tests, partitions, paths_of, placed, record_key, refl, same_name, set_text, setup_after, setup_asks, task_of, task_script, text_eq, true, ℕ, ◌∙◌, ◌∷◌, ◌≡◌}
+use Rattle.basics.specs.Order.{text_eq}
+use Rattle.job_model.specs.Attempts.{Who, same_name}
+use Rattle.job_model.specs.Files.{File}
+use Rattle.job_model.specs.JobScript.{Script}
+use Rattle.job_model.specs.Known.{Known}
+use Rattle.job_model.specs.Placed.{placed}
+use Rattle.job_protocol.specs.AtWork.{job_of, job_script, task_of, task_script}
+use Rattle.job_protocol.specs.Conflicts.{checks_partitions, partitions}
+use Rattle.job_protocol.specs.Outputs.{files, paths_of}
+use Rattle.job_protocol.specs.PlanLaws.{JobsTell, TasksTell}
+use Rattle.job_protocol.specs.Records.{record_key, set_text}
+use Rattle.job_protocol.specs.Setup.{Setup, setup_after, setup_asks}
+use Rattle.job_protocol.specs.Uploading.{Creating}
+use Rattle.list_walk.specs.Walks.{More, Walked, Whole}
+use Rattle.retries.specs.Retries.{Item}
+use Rattle.s3_types.specs.declared.reply.Reply.{Reply}
+use Rattle.s3_types.specs.declared.request.Committer.{Committer}
+use Rattle.s3_types.specs.declared.request.Committer.TheVariants.{Magic}
+use Rattle.s3_types.specs.declared.request.Request.TheVariants.{ClusterPut}
+use Rattle.std.proofs.Common.{List, Some, ap, arith, cond, false, map, refl, true, ℕ, [], ◌∙◌, ◌∷◌, ◌≡◌}
+use Rattle.std.proofs.lemmas.Bool.Decides.{nat_tests}
+use Rattle.std.specs.List.{filter, flat_map}
 use Rattle.job_protocol.specs.Writes as writes
 use Rattle.job_protocol.specs.TaskCommits as commits
 use Rattle.job_protocol.specs.TaskAborts as aborts
 use Rattle.job_protocol.specs.Cleanups as cleans
-use Rattle.job_protocol.specs.PlanLaws.{TasksTell, JobsTell}
 
 placed_same : (id : List ℕ) (fs : List File) → placed false id fs ≡ fs
 placed_same id [] = refl
@@ -36,7 +56,8 @@ module _ (w : Script) (n : ℕ) (a : Who) (k : Known) where
 
   start_same : (c : Committer) → commits.task_commit_start_by c plan a ≡ commits.task_commit_start_by c w a
   start_same Magic = refl
-  start_same _ = ap (λ fs. commits.checking plan a (cond (checks_partitions w.committer w.mode) (partitions (paths_of fs)) [])) files_same ∙ checking_same (commits.to_check w a)
+  start_same _ = ap (λ fs. commits.checking plan a (cond (checks_partitions w.committer w.mode) (partitions (paths_of fs)) [])) files_same ∙
+      checking_same (commits.to_check w a)
 
   commit_asks_same : (l : Known) (o : commits.TaskCommit) → commits.task_commit_asks plan a l o ≡ commits.task_commit_asks w a l o
   commit_asks_same l (commits.Uploads f fs Creating) = refl
@@ -45,7 +66,8 @@ module _ (w : Script) (n : ℕ) (a : Who) (k : Known) where
 
   looked_same : (x : Walked (List ℕ)) → commits.looked plan a x ≡ commits.looked w a x
   looked_same (More keys) = refl
-  looked_same (Whole keys) = ap (λ fs. commits.looked_at (commits.least_missing keys (map (record_key w a) fs)) (flat_map (λ key. filter (λ f. text_eq (record_key w a f) key) fs) keys)) files_same
+  looked_same (Whole keys) = ap (λ fs. commits.looked_at (commits.least_missing keys (map (record_key w a) fs))
+      (flat_map (λ key. filter (λ f. text_eq (record_key w a f) key) fs) keys)) files_same
 
   checked_same : (d : List ℕ) (ds : List (List ℕ)) (r : Reply) → commits.checked plan a d ds r ≡ commits.checked w a d ds r
   checked_same d ds r = grind (arith, checking_same)
@@ -90,4 +112,9 @@ clean_goes_same : (w : Script) (o : cleans.Clean) (i : Item) → cleans.clean_af
 clean_goes_same w o i = grind arith
 
 pub jobs_tell : JobsTell
-jobs_tell = record { setup_asks = setup_asks_same; setup_goes = setup_goes_same; clean_asks = clean_asks_same; clean_goes = clean_goes_same }
+jobs_tell = record {
+  setup_asks = setup_asks_same;
+  setup_goes = setup_goes_same;
+  clean_asks = clean_asks_same;
+  clean_goes = clean_goes_same;
+}

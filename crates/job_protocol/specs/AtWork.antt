@@ -1,22 +1,32 @@
 -- Operations beside the plans that they are made from: what an actor knows of the job, in place of the job's whole script.
-use Rattle.std.specs.Prelude.{ℕ, List, [], ◌∷◌, ◌++◌, map, Option, Some, None}
-use Rattle.job_model.specs.Prelude.{unwrap_or, Request, Outcome, Answered, RequestLost, Path, relative_in, PendingSet, Who, Declared, Known, Job, Task, Script, plain_script}
-use Rattle.retries.specs.Prelude.{Item, Got, WornOut, OutOfMemory}
+use Rattle.job_model.specs.Attempts.{Declared, Who}
+use Rattle.job_model.specs.JobScript.{Script, plain_script}
+use Rattle.job_model.specs.Jobs.{Job, Task}
+use Rattle.job_model.specs.Known.{Known}
+use Rattle.job_protocol.specs.Cleanups.{Clean, clean_after, clean_asks}
+use Rattle.job_protocol.specs.JobCommits.{Commit, Completing, Fetching, Marking, Replacing, Sets, commit_asks, commit_tells, set_read}
 use Rattle.job_protocol.specs.Knowledge.{learn}
 use Rattle.job_protocol.specs.Outputs.{files}
-use Rattle.job_protocol.specs.Setup.{Setup, setup_asks, setup_after}
-use Rattle.job_protocol.specs.Writes.{Write, write_asks, write_after}
-use Rattle.job_protocol.specs.TaskCommits.{TaskCommit, task_commit_asks, task_commit_after}
-use Rattle.job_protocol.specs.TaskAborts.{TaskAbort, task_abort_asks, task_abort_after}
-use Rattle.job_protocol.specs.Cleanups.{Clean, clean_asks, clean_after}
-use Rattle.job_protocol.specs.Sparing.{Sparing, sparing_asks, sparing_after}
-use Rattle.job_protocol.specs.JobCommits.{Sets, set_read, Commit, Fetching, Replacing, Completing, Marking, commit_asks, commit_tells}
+use Rattle.job_protocol.specs.Setup.{Setup, setup_after, setup_asks}
+use Rattle.job_protocol.specs.Sparing.{Sparing, sparing_after, sparing_asks}
+use Rattle.job_protocol.specs.TaskAborts.{TaskAbort, task_abort_after, task_abort_asks}
+use Rattle.job_protocol.specs.TaskCommits.{TaskCommit, task_commit_after, task_commit_asks}
+use Rattle.job_protocol.specs.Writes.{Write, write_after, write_asks}
+use Rattle.path_keys.specs.Paths.{Path, relative_in}
+use Rattle.pending_json.specs.declared.records.PendingSet.{PendingSet}
+use Rattle.retries.specs.Retries.{Got, Item, OutOfMemory, WornOut}
+use Rattle.s3_types.specs.declared.journal.Outcome.{Outcome}
+use Rattle.s3_types.specs.declared.journal.Outcome.TheVariants.{Answered, RequestLost}
+use Rattle.s3_types.specs.declared.request.Request.{Request}
+use Rattle.std.specs.Option.{unwrap_or}
+use Rattle.std.specs.Prelude.{List, None, Option, Some, map, ℕ, [], ◌++◌, ◌∷◌}
 
 -- ---- a script as far as a plan tells it
 
 -- a script with this head, this block and these attempts
 abbrev pub script_of : Job → ℕ → List Declared → Script
-script_of j block attempts = record (plain_script j.job j.dest j.committer j.mode j.tasks) { retries = j.retries; block = block; lanes = j.lanes; stamp = j.stamp; attempts = attempts }
+script_of j block attempts = record (plain_script j.job j.dest j.committer j.mode j.tasks)
+    { retries = j.retries; block = block; lanes = j.lanes; stamp = j.stamp; attempts = attempts }
 
 -- the attempt that a plan is of
 abbrev pub who_of : Task → Who
@@ -32,7 +42,11 @@ job_script j = script_of j 0 []
 
 -- the attempt that a set is of, with the paths of its uploads below the destination; what the files hold is not told
 abbrev pub declared_of : Path → PendingSet → Declared
-declared_of dest s = (record { task = s.task; attempt = s.attempt }, map (λ c. (unwrap_or (relative_in dest.key c.destination) [], [])) s.commits)
+declared_of dest s = (
+  record { task = s.task; attempt = s.attempt },
+  map (λ c. (unwrap_or (relative_in dest.key c.destination) [], []))
+      s.commits,
+)
 
 -- the script that the driver's plan stands for once it has read these sets
 abbrev pub read_script : Job → Sets → Script
@@ -54,7 +68,15 @@ learned w a k None i = k
 
 -- the attempt's plan with what it knows now
 abbrev pub with_known : Task → Known → Task
-with_known t k = record { job = t.job; task = t.task; attempt = t.attempt; files = t.files; block = t.block; minimum = t.minimum; known = k }
+with_known t k = record {
+  job = t.job;
+  task = t.task;
+  attempt = t.attempt;
+  files = t.files;
+  block = t.block;
+  minimum = t.minimum;
+  known = k;
+}
 
 -- the operation and its plan, once its request was answered or wore out
 abbrev pub told : {O : Type 0} → Attempting O → Option Request → Item → O → Attempting O
@@ -157,14 +179,37 @@ commit_wants m = commit_asks (read_script m.plan (sets_in m.operation)) m.operat
 
 -- the job's commit after one more sending
 abbrev pub commit_told : Committing → Outcome → Committing
-commit_told m o = record { plan = m.plan; picked = picked_after m.picked m.operation o; operation = commit_tells (read_script m.plan (sets_after m.operation o)) m.operation o }
+commit_told m o = record {
+  plan = m.plan;
+  picked = picked_after m.picked m.operation o;
+  operation = commit_tells
+      (read_script m.plan (sets_after m.operation o)) m.operation o;
+}
 
 -- ---- the plans that a script gives
 
 -- the plan of the job's driver
 abbrev pub job_of : Script → Job
-job_of w = record { job = w.job; dest = w.dest; committer = w.committer; mode = w.mode; tasks = w.tasks; retries = w.retries; lanes = w.lanes; stamp = w.stamp }
+job_of w = record {
+  job = w.job;
+  dest = w.dest;
+  committer = w.committer;
+  mode = w.mode;
+  tasks = w.tasks;
+  retries = w.retries;
+  lanes =
+      w.lanes;
+  stamp = w.stamp;
+}
 
 -- the plan of an attempt that knows this, over a store of this least size of a part
 abbrev pub task_of : Script → ℕ → Who → Known → Task
-task_of w minimum a k = record { job = job_of w; task = a.task; attempt = a.attempt; files = files w a; block = w.block; minimum = minimum; known = k }
+task_of w minimum a k = record {
+  job = job_of w;
+  task = a.task;
+  attempt = a.attempt;
+  files = files w a;
+  block = w.block;
+  minimum = minimum;
+  known = k;
+}

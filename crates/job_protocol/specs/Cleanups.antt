@@ -1,12 +1,19 @@
 -- The driver's abort or clean of a whole job (Hadoop, S3A committer architecture: job abort and cleanup).
-use Rattle.std.specs.Prelude.{ℕ, List, [], ◌∷◌, Option, Some, None}
-use Rattle.job_model.specs.Prelude.{Request, AbortUpload, ClusterList, ClusterDelete, UploadRef, Committer, Magic, Reply, ClusterNames, Script}
-use Rattle.retries.specs.Prelude.{Item, Got, WornOut, OutOfMemory}
-use Rattle.magic_paths.specs.Layout as layout
+use Rattle.job_model.specs.JobScript.{Script}
 use Rattle.job_model.specs.declared.ends.CleanEnd.{CleanEnd}
-use Rattle.job_model.specs.declared.ends.CleanEnd.TheVariants as ends
 use Rattle.job_protocol.specs.Setup.{dest_prefix}
-use Rattle.list_walk.specs.Walks.{Walked, More, Whole, uploads_after, walked_uploads, Sweep, sweep_start, sweep_asks, sweep_hears, all_go}
+use Rattle.list_walk.specs.Walks.{More, Sweep, Walked, Whole, all_go, sweep_asks, sweep_hears, sweep_start, uploads_after, walked_uploads}
+use Rattle.retries.specs.Retries.{Got, Item, OutOfMemory, WornOut}
+use Rattle.s3_types.specs.declared.reply.Reply.{Reply}
+use Rattle.s3_types.specs.declared.reply.Reply.TheVariants.{ClusterNames}
+use Rattle.s3_types.specs.declared.request.Committer.{Committer}
+use Rattle.s3_types.specs.declared.request.Committer.TheVariants.{Magic}
+use Rattle.s3_types.specs.declared.request.Request.{Request}
+use Rattle.s3_types.specs.declared.request.Request.TheVariants.{AbortUpload, ClusterDelete, ClusterList}
+use Rattle.s3_types.specs.declared.request.UploadRef.{UploadRef}
+use Rattle.std.specs.Prelude.{List, None, Option, Some, ℕ, [], ◌∷◌}
+use Rattle.magic_paths.specs.Layout as layout
+use Rattle.job_model.specs.declared.ends.CleanEnd.TheVariants as ends
 
 -- how far an abort or clean of a job has come
 pub data Clean : Type 0 where

@@ -1,10 +1,16 @@
 -- What a conflict mode checks and keeps (Hadoop, S3A committers: fs.s3a.committer.staging.conflict-mode).
-use Rattle.std.specs.Prelude.{ℕ, nat_eq, not, Bool, true, false, cond, List, [], ◌∷◌, ◌++◌, codes, map, Option, Some, None}
-use Rattle.job_model.specs.Prelude.{list_any, begins, below, Path, Committer, Mode, Fail, Replace, Script}
-use Rattle.s3_types.specs.declared.request.Committer.TheVariants.{Directory, Partitioned}
+use Rattle.job_model.specs.JobScript.{Script}
 use Rattle.job_model.specs.declared.displaced.Displaced.{Displaced}
-use Rattle.job_model.specs.declared.displaced.Displaced.TheVariants.{Nothing, Everything, Partitions}
+use Rattle.job_model.specs.declared.displaced.Displaced.TheVariants.{Everything, Nothing, Partitions}
 use Rattle.job_protocol.specs.Outputs.{Picks, ordered, wanted_paths}
+use Rattle.path_keys.specs.Paths.{Path, below}
+use Rattle.s3_types.specs.Pages.{begins}
+use Rattle.s3_types.specs.declared.request.Committer.{Committer}
+use Rattle.s3_types.specs.declared.request.Committer.TheVariants.{Directory, Partitioned}
+use Rattle.s3_types.specs.declared.request.Mode.{Mode}
+use Rattle.s3_types.specs.declared.request.Mode.TheVariants.{Fail, Replace}
+use Rattle.std.specs.List.{list_any}
+use Rattle.std.specs.Prelude.{Bool, List, None, Option, Some, codes, cond, false, map, nat_eq, not, true, ℕ, [], ◌++◌, ◌∷◌}
 
 -- the directory of a path with one more byte in front
 abbrev pub dir_from : ℕ → List ℕ → Option (List ℕ) → Option (List ℕ)

@@ -1,20 +1,35 @@
 -- The driver's commit of a job (Hadoop, S3A committer architecture: job commit; fs.s3a.committer.staging.conflict-mode).
-use Rattle.std.specs.Prelude.{◌≡◌, ℕ, ◌+◌, not, nat_lt, Bool, true, false, cond, List, [], ◌∷◌, ◌++◌, length, codes, slice_get, Option, Some, None, Result, Ok, Err}
-use Rattle.job_model.specs.Prelude.{flat_map, option_map, begins, Request, PutObject, GetObject, ClusterGet, ListPage, DeleteObjects, CompleteUpload, Committer, Magic, Mode, Reply, ClusterBytes, Completed, Refused, NoSuchUpload, Outcome, Answered, Slow, RequestLost, ReplyLost, Pending, PendingSet, Script}
-use Rattle.s3_types.specs.declared.reply.Reply.TheVariants.{Object}
-use Rattle.magic_paths.specs.Layout as layout
-use Rattle.pending_json.specs.Reading as reading
-use Rattle.pending_json.specs.declared.fault.RecordFault.{RecordFault}
+use Rattle.job_model.specs.JobScript.{Script}
 use Rattle.job_model.specs.declared.ends.CommitEnd.{CommitEnd}
-use Rattle.job_model.specs.declared.ends.CommitEnd.TheVariants as ends
 use Rattle.job_model.specs.declared.ends.Stage.{Stage}
-use Rattle.job_model.specs.declared.ends.Stage.TheVariants as stages
-use Rattle.job_protocol.specs.Outputs.{Picks, wanted_paths, same_path}
 use Rattle.job_protocol.specs.Conflicts.{displaced, emptied, partitions}
-use Rattle.list_walk.specs.Walks.{Sweep, sweep_start, sweep_asks, sweep_hears}
+use Rattle.job_protocol.specs.Lanes.{Turn, again, completion, dealt, follow, nth, revert}
+use Rattle.job_protocol.specs.Outputs.{Picks, same_path, wanted_paths}
 use Rattle.job_protocol.specs.Records.{mark_text}
 use Rattle.job_protocol.specs.Setup.{dest_prefix}
-use Rattle.job_protocol.specs.Lanes.{Turn, again, follow, dealt, nth, completion, revert}
+use Rattle.list_walk.specs.Walks.{Sweep, sweep_asks, sweep_hears, sweep_start}
+use Rattle.pending_json.specs.Pending.{Pending}
+use Rattle.pending_json.specs.declared.fault.RecordFault.{RecordFault}
+use Rattle.pending_json.specs.declared.records.PendingSet.{PendingSet}
+use Rattle.s3_types.specs.Pages.{begins}
+use Rattle.s3_types.specs.declared.journal.Outcome.{Outcome}
+use Rattle.s3_types.specs.declared.journal.Outcome.TheVariants.{Answered, ReplyLost, RequestLost, Slow}
+use Rattle.s3_types.specs.declared.reply.Refusal.TheVariants.{NoSuchUpload}
+use Rattle.s3_types.specs.declared.reply.Reply.{Reply}
+use Rattle.s3_types.specs.declared.reply.Reply.TheVariants.{ClusterBytes, Completed, Object, Refused}
+use Rattle.s3_types.specs.declared.request.Committer.{Committer}
+use Rattle.s3_types.specs.declared.request.Committer.TheVariants.{Magic}
+use Rattle.s3_types.specs.declared.request.Mode.{Mode}
+use Rattle.s3_types.specs.declared.request.Request.{Request}
+use Rattle.s3_types.specs.declared.request.Request.TheVariants.{ClusterGet, CompleteUpload, DeleteObjects, GetObject, ListPage, PutObject}
+use Rattle.std.specs.List.{flat_map}
+use Rattle.std.specs.Option.{option_map}
+use Rattle.std.specs.Prelude.{Bool, Err, List, None, Ok, Option, Result, Some, codes, cond, false, length, nat_lt, not, slice_get, true, ℕ}
+use Rattle.std.specs.Prelude.{[], ◌++◌, ◌+◌, ◌∷◌, ◌≡◌}
+use Rattle.magic_paths.specs.Layout as layout
+use Rattle.pending_json.specs.Reading as reading
+use Rattle.job_model.specs.declared.ends.CommitEnd.TheVariants as ends
+use Rattle.job_model.specs.declared.ends.Stage.TheVariants as stages
 
 -- ---- what the driver read
 
@@ -119,7 +134,8 @@ reverting (r ∷ rs) = Reverting r rs 0
 abbrev pub commit_hears : Script → Commit → Reply → Commit
 commit_hears w (Fetching sets m) r = fetched w sets (set_read r)
 commit_hears w (Replacing sets p ps s m) r = swept w sets p ps (sweep_hears (is_no_magic w) s r)
-commit_hears w (Completing sets x xs finished) r = completing sets (xs ++ follow w.lanes (length (all_commits sets)) x.number) (x.number ∷ finished)
+commit_hears w (Completing sets x xs finished) r = completing sets (xs ++ follow w.lanes (length (all_commits sets)) x.number)
+    (x.number ∷ finished)
 commit_hears w (Marking sets m) r = CommitOver ends.Committed
 commit_hears w (Reverting q qs m) r = reverting qs
 commit_hears w (CommitOver end) r = CommitOver end
@@ -133,8 +149,10 @@ worn_completion sets x xs finished = reverting (revert (all_commits sets) x.numb
 -- a request is sent again until it wears out
 abbrev pub commit_misses : Script → Commit → Bool → Commit
 commit_misses w (Fetching sets m) lost = cond (nat_lt m w.retries) (Fetching sets (m + 1)) (CommitOver (ends.StoreFault stages.Read))
-commit_misses w (Replacing sets p ps s m) lost = cond (nat_lt m w.retries) (Replacing sets p ps s (m + 1)) (CommitOver (ends.StoreFault stages.Delete))
-commit_misses w (Completing sets x xs finished) lost = cond (nat_lt x.missed w.retries) (completing sets (xs ++ again x lost ∷ []) finished) (worn_completion sets x xs finished)
+commit_misses w (Replacing sets p ps s m) lost = cond (nat_lt m w.retries) (Replacing sets p ps s (m + 1))
+    (CommitOver (ends.StoreFault stages.Delete))
+commit_misses w (Completing sets x xs finished) lost = cond (nat_lt x.missed w.retries) (completing sets (xs ++ again x lost ∷ []) finished)
+    (worn_completion sets x xs finished)
 commit_misses w (Marking sets m) lost = cond (nat_lt m w.retries) (Marking sets (m + 1)) (CommitOver (ends.StoreFault stages.Success))
 commit_misses w (Reverting q qs m) lost = cond (nat_lt m w.retries) (Reverting q qs (m + 1)) (reverting qs)
 commit_misses w (CommitOver end) lost = CommitOver end

@@ -1,12 +1,22 @@
 -- What an attempt knows by its own sendings: a fold over its own entries.
-use Rattle.std.specs.Prelude.{ℕ, nat_eq, Bool, true, cond, ◌&&◌, ◌||◌, List, [], ◌∷◌, ◌++◌, map, length}
-use Rattle.job_model.specs.Prelude.{text_eq, Spelled, Request, CreateUpload, UploadPart, PutObject, ClusterPut, ClusterRename, Part, Outcome, Answered, Entry, Who, Drawn, Known, nothing_known, Script}
-use Rattle.s3_types.specs.declared.reply.Reply.TheVariants.{Upload}
+use Rattle.basics.specs.Order.{text_eq}
+use Rattle.job_model.specs.Attempts.{Who}
+use Rattle.job_model.specs.JobScript.{Script}
+use Rattle.job_model.specs.Known.{Drawn, Known, nothing_known}
+use Rattle.s3_types.specs.Tags.{Spelled}
+use Rattle.s3_types.specs.declared.journal.Entry.{Entry}
+use Rattle.s3_types.specs.declared.journal.Outcome.{Outcome}
+use Rattle.s3_types.specs.declared.journal.Outcome.TheVariants.{Answered}
+use Rattle.s3_types.specs.declared.reply.Reply.TheVariants.{Part, Upload}
+use Rattle.s3_types.specs.declared.request.Request.{Request}
+use Rattle.s3_types.specs.declared.request.Request.TheVariants.{ClusterPut, ClusterRename, CreateUpload, PutObject, UploadPart}
+use Rattle.std.specs.Prelude.{Bool, List, cond, length, map, nat_eq, true, ℕ, [], ◌&&◌, ◌++◌, ◌||◌, ◌∷◌}
 use Rattle.magic_paths.specs.Layout as layout
 
 -- an upload with one more part that came back, where it is that upload
 abbrev pub with_part : ℕ → Spelled → ℕ → Drawn → Drawn
-with_part id tag size d = cond (nat_eq d.upload id) (record { key = d.key; upload = d.upload; tags = d.tags ++ tag ∷ []; sizes = d.sizes ++ size ∷ [] }) d
+with_part id tag size d = cond (nat_eq d.upload id) (record
+    { key = d.key; upload = d.upload; tags = d.tags ++ tag ∷ []; sizes = d.sizes ++ size ∷ [] }) d
 
 -- the uploads that are known after a sending of CreateUpload
 abbrev pub learn_upload : List Drawn → List ℕ → Outcome → List Drawn
@@ -28,9 +38,22 @@ is_set_path w task path = text_eq path (layout.staged_set_path w.job task)
 
 -- what is known after one more sending of its own
 abbrev pub learn : Script → Who → Known → Request → Outcome → Known
-learn w a k (CreateUpload bucket key) o = record { drawn = learn_upload k.drawn key o; put_sent = k.put_sent; publish_sent = k.publish_sent }
-learn w a k (UploadPart bucket key id number bytes) o = record { drawn = learn_part k.drawn id (length bytes) o; put_sent = k.put_sent; publish_sent = k.publish_sent }
-learn w a k (PutObject bucket key bytes header) o = record { drawn = k.drawn; put_sent = k.put_sent; publish_sent = k.publish_sent || is_set_key w a.task bucket key }
+learn w a k (CreateUpload bucket key) o = record {
+  drawn = learn_upload k.drawn key o;
+  put_sent = k.put_sent;
+  publish_sent = k.publish_sent;
+}
+learn w a k (UploadPart bucket key id number bytes) o = record {
+  drawn = learn_part k.drawn id (length bytes) o;
+  put_sent = k.put_sent;
+  publish_sent = k.publish_sent;
+}
+learn w a k (PutObject bucket key bytes header) o = record {
+  drawn = k.drawn;
+  put_sent = k.put_sent;
+  publish_sent = k.publish_sent ||
+      is_set_key w a.task bucket key;
+}
 learn w a k (ClusterPut path bytes) o = record { drawn = k.drawn; put_sent = true; publish_sent = k.publish_sent }
 learn w a k (ClusterRename source target) o = record { drawn = k.drawn; put_sent = k.put_sent; publish_sent = true }
 learn w a k _ o = k

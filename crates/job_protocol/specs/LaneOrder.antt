@@ -1,8 +1,9 @@
 -- Whose turn it is among the lanes, by numbers alone: the next lane in cyclic order that has an upload not yet answered, and its least one.
-use Rattle.std.specs.Prelude.{◌≡◌, ℕ, ◌+◌, ◌-◌, ◌%◌, ◌<◌, ◌≤◌, nat_le, nat_eq, cond, List, [], ◌∷◌}
-use Rattle.job_model.specs.Prelude.{Entry, Script}
+use Rattle.job_model.specs.JobScript.{Script}
 use Rattle.job_protocol.specs.JobCommits.{Commit, Completing, commit_tells}
 use Rattle.job_protocol.specs.LaneTable.{In}
+use Rattle.s3_types.specs.declared.journal.Entry.{Entry}
+use Rattle.std.specs.Prelude.{List, cond, nat_eq, nat_le, ℕ, [], ◌%◌, ◌+◌, ◌-◌, ◌<◌, ◌∷◌, ◌≡◌, ◌≤◌}
 
 -- how many lanes after this one, in cyclic order
 abbrev pub distance : ℕ → ℕ → ℕ → ℕ

@@ -1,9 +1,10 @@
 -- What holds of the table of lanes, by numbers alone.
-use Rattle.std.specs.Prelude.{◌≡◌, ℕ, zero, suc, ◌+◌, ◌<◌, ◌≤◌, ◌⊎◌, true, false, List, [], ◌∷◌, length}
-use Rattle.job_model.specs.Prelude.{Script, Entry}
-use Rattle.retries.specs.Prelude.{same_request}
-use Rattle.job_protocol.specs.Lanes.{Turn, nth, completion}
-use Rattle.job_protocol.specs.JobCommits.{Sets, all_commits, Commit, Completing, commit_tells}
+use Rattle.job_model.specs.JobScript.{Script}
+use Rattle.job_protocol.specs.JobCommits.{Commit, Completing, Sets, all_commits, commit_tells}
+use Rattle.job_protocol.specs.Lanes.{Turn, completion, nth}
+use Rattle.retries.specs.Same.{same_request}
+use Rattle.s3_types.specs.declared.journal.Entry.{Entry}
+use Rattle.std.specs.Prelude.{List, false, length, suc, true, zero, ℕ, [], ◌+◌, ◌<◌, ◌∷◌, ◌≡◌, ◌≤◌, ◌⊎◌}
 
 -- x is a member
 abbrev pub In : {X : Type 0} → X → List X → Type 0
@@ -43,7 +44,8 @@ Tabled w _ = Unit {0}
 
 -- two of the uploads are two requests
 abbrev pub RequestsApart : Sets → Type 0
-RequestsApart sets = (m n : ℕ) → m < length (all_commits sets) → n < length (all_commits sets) → same_request (completion (nth (all_commits sets) m)) (completion (nth (all_commits sets) n)) ≡ true → m ≡ n
+RequestsApart sets = (m n : ℕ) → m < length (all_commits sets) → n < length (all_commits sets)
+    → same_request (completion (nth (all_commits sets) m)) (completion (nth (all_commits sets) n)) ≡ true → m ≡ n
 
 -- two of the uploads that a commit completes are two requests
 abbrev pub Sound : Commit → Type 0

@@ -1,6 +1,9 @@
 -- The table of lanes in which a job's uploads are completed.
-use Rattle.std.specs.Prelude.{ℕ, zero, suc, ◌+◌, ◌&&◌, ◌||◌, not, min, nat_eq, nat_lt, Bool, false, cond, List, [], ◌∷◌, ◌++◌, map, None}
-use Rattle.job_model.specs.Prelude.{named_from, Request, DeleteObject, CompleteUpload, AbortUpload, Pending}
+use Rattle.pending_json.specs.Pending.{Pending}
+use Rattle.s3_types.specs.Blocks.{named_from}
+use Rattle.s3_types.specs.declared.request.Request.{Request}
+use Rattle.s3_types.specs.declared.request.Request.TheVariants.{AbortUpload, CompleteUpload, DeleteObject}
+use Rattle.std.specs.Prelude.{Bool, List, None, cond, false, map, min, nat_eq, nat_lt, not, suc, zero, ℕ, [], ◌&&◌, ◌++◌, ◌+◌, ◌||◌, ◌∷◌}
 
 -- A lane that has uploads to complete: the number of its least one that is not answered, how many sendings of that one got
 -- no answer, and whether one of these was lost and not merely slow. Its other uploads are its every further number.
@@ -88,4 +91,5 @@ is_unsent worn xs finished n = not (nat_eq n worn || (is_tried xs n || is_in fin
 -- The worn upload is aborted and its key deleted, then each other one that was sent and got no answer, by number; then each
 -- completed key is deleted, in the order of completion; then each upload that was never sent is aborted, by number.
 abbrev pub revert : List Pending → ℕ → List Turn → List ℕ → List Request
-revert all worn xs finished = abort (nth all worn) ∷ deletion (nth all worn) ∷ (undo (chosen (is_tried xs) 0 all) ++ (map deletion (in_turn all finished) ++ map abort (chosen (is_unsent worn xs finished) 0 all)))
+revert all worn xs finished = abort (nth all worn) ∷ deletion (nth all worn) ∷
+    (undo (chosen (is_tried xs) 0 all) ++ (map deletion (in_turn all finished) ++ map abort (chosen (is_unsent worn xs finished) 0 all)))

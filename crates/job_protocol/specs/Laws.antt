@@ -1,23 +1,36 @@
 -- The laws of this crate.
-use Rattle.std.specs.Prelude.{◌≡◌, ℕ, ◌<◌, Bool, true, false, List, [], Option, Some, None, is_some, length}
-use Rattle.job_model.specs.Prelude.{Actor, Driver, Attempt, Request, Who, Known, Entry, Script, text_cmp, is_lt, Outcome}
-use Rattle.retries.specs.Prelude.{run, Follows, spent_in, WornFirst}
-use Rattle.job_model.specs.declared.events.Op.{Op}
-use Rattle.job_model.specs.declared.events.Op.TheVariants as ops
-use Rattle.job_protocol.specs.Operations.{Setting, Operation, TheSetup, TheWrite, TheTaskCommit, TheTaskAbort, TheCommit, TheClean, TheCheck, TheSparing, Reports, Running, asks, over, wants, advance, start_of}
+use Rattle.basics.specs.Order.{text_cmp}
+use Rattle.job_model.specs.Attempts.{Who}
+use Rattle.job_model.specs.JobScript.{Script}
+use Rattle.job_model.specs.Known.{Known}
+use Rattle.job_model.specs.declared.ends.CommitEnd.{CommitEnd}
+use Rattle.job_model.specs.declared.ends.CommitEnd.TheVariants.{SamePath}
 use Rattle.job_model.specs.declared.ends.OpEnd.{OpEnd}
+use Rattle.job_model.specs.declared.events.Op.{Op}
+use Rattle.job_protocol.specs.JobCommits.{Commit, Completing, Sets, all_commits, commit_asks, commit_over, commit_start, commit_tells}
+use Rattle.job_protocol.specs.JobCommits.{stage_of}
+use Rattle.job_protocol.specs.LaneOrder.{IsNext, lane_after}
+use Rattle.job_protocol.specs.LaneTable.{AllSound, In, RequestsApart, Table, Tabled}
+use Rattle.job_protocol.specs.Lanes.{Turn, nth}
+use Rattle.job_protocol.specs.Operations.{Operation, Reports, Running, Setting, TheCheck, TheClean, TheCommit, TheSetup, TheSparing}
+use Rattle.job_protocol.specs.Operations.{TheTaskAbort, TheTaskCommit, TheWrite, advance, asks, over, start_of, wants}
+use Rattle.job_protocol.specs.Outputs.{Picks, same_path, writes}
+use Rattle.retries.specs.Operation.{Follows, run}
+use Rattle.retries.specs.Retries.{spent_in}
+use Rattle.retries.specs.Worn.{WornFirst}
+use Rattle.s3_types.specs.declared.journal.Entry.{Entry}
+use Rattle.s3_types.specs.declared.journal.Outcome.{Outcome}
+use Rattle.s3_types.specs.declared.request.Actor.{Actor}
+use Rattle.s3_types.specs.declared.request.Actor.TheVariants.{Attempt, Driver}
+use Rattle.s3_types.specs.declared.request.Request.{Request}
+use Rattle.std.specs.Ordering.{is_lt}
+use Rattle.std.specs.Prelude.{Bool, List, None, Option, Some, false, is_some, length, true, ℕ, [], ◌<◌, ◌≡◌}
+use Rattle.job_model.specs.declared.events.Op.TheVariants as ops
 use Rattle.job_model.specs.declared.ends.OpEnd.TheVariants as ends
 use Rattle.job_model.specs.declared.ends.SetupEnd.TheVariants as setups
 use Rattle.job_model.specs.declared.ends.TaskEnd.TheVariants as tasks
 use Rattle.job_model.specs.declared.ends.CleanEnd.TheVariants as cleans
-use Rattle.job_protocol.specs.Outputs.{Picks, writes, same_path}
-use Rattle.job_model.specs.declared.ends.CommitEnd.TheVariants.{SamePath}
 use Rattle.job_model.specs.declared.ends.CommitEnd.TheVariants as commits
-use Rattle.job_model.specs.declared.ends.CommitEnd.{CommitEnd}
-use Rattle.job_protocol.specs.LaneTable.{In, Table, Tabled, AllSound, RequestsApart}
-use Rattle.job_protocol.specs.JobCommits.{Commit, commit_start, commit_asks, commit_tells, commit_over, stage_of, Sets, all_commits, Completing}
-use Rattle.job_protocol.specs.Lanes.{Turn, nth}
-use Rattle.job_protocol.specs.LaneOrder.{IsNext, lane_after}
 
 -- a request is asked, or there is an end, and never both
 abbrev pub OneOf : {X : Type 0} → Option Request → Option X → Type 0
@@ -73,9 +86,11 @@ is_fault _ = false
 -- An operation of one request at a time that begins with all sendings spare and is not at fault, whose actor's entries follow it:
 -- it is at fault exactly where some request wore out by its entries alone.
 pub record FaultsAreWorn : Type 0 where
-  pub first : (g : Setting) (a : Actor) (m : Running) → is_serial m.operation ≡ true → spare_of m.operation ≡ g.script.retries → (es : List Entry) → Follows (wants g a) (advance g a) m es
+  pub first : (g : Setting) (a : Actor) (m : Running) → is_serial m.operation ≡ true → spare_of m.operation ≡ g.script.retries
+      → (es : List Entry) → Follows (wants g a) (advance g a) m es
       → WornFirst g.script.retries es (spent_in (advance g a) (λ x. spare_of x.operation) m es)
-  pub fault : (g : Setting) (a : Actor) (m : Running) → is_serial m.operation ≡ true → is_fault (over m.operation) ≡ false → (es : List Entry) → Follows (wants g a) (advance g a) m es
+  pub fault : (g : Setting) (a : Actor) (m : Running) → is_serial m.operation ≡ true → is_fault (over m.operation) ≡ false
+      → (es : List Entry) → Follows (wants g a) (advance g a) m es
       → is_fault (over (run (advance g a) m es).operation) ≡ is_some (spent_in (advance g a) (λ x. spare_of x.operation) m es)
 
 -- ---- the path that two picks write
@@ -89,12 +104,15 @@ pub record IsShared (w : Script) (picks : Picks) (p : List ℕ) (t u : ℕ) : Ty
   -- no other task below u writes it
   pub least_tasks : (v : ℕ) → v < u → writes w picks p v ≡ true → v ≡ t
   -- no path before it is written twice
-  pub least_path : (q : List ℕ) (v x : ℕ) → v < x → x < w.tasks → writes w picks q v ≡ true → writes w picks q x ≡ true → is_lt (text_cmp q p) ≡ false
+  pub least_path : (q : List ℕ) (v x : ℕ) → v < x → x < w.tasks → writes w picks q v ≡ true → writes w picks q x ≡ true
+      → is_lt (text_cmp q p) ≡ false
 
 -- the path of SamePath is one that two picks write, and where none is found no two picks share one
 pub record SharedPaths : Type 0 where
-  pub found : (w : Script) (picks : Picks) (e : CommitEnd) → same_path w picks ≡ Some e → (p : List ℕ) × (t : ℕ) × (u : ℕ) × (e ≡ SamePath p t u) × IsShared w picks p t u
-  pub none : (w : Script) (picks : Picks) → same_path w picks ≡ None → (p : List ℕ) (t u : ℕ) → t < u → u < w.tasks → writes w picks p t ≡ true → writes w picks p u ≡ true → ⊥
+  pub found : (w : Script) (picks : Picks) (e : CommitEnd) → same_path w picks ≡ Some e → (p : List ℕ) × (t : ℕ) × (u : ℕ)
+      × (e ≡ SamePath p t u) × IsShared w picks p t u
+  pub none : (w : Script) (picks : Picks) → same_path w picks ≡ None → (p : List ℕ) (t u : ℕ) → t < u → u < w.tasks
+      → writes w picks p t ≡ true → writes w picks p u ≡ true → ⊥
 
 -- ---- lanes
 
@@ -114,10 +132,14 @@ EndIs None end = Unit {0}
 -- how a job's commit in lanes ends, and which upload it completes next
 pub record CommitsInLanes : Type 0 where
   -- it ends by the first of its requests that wore out, by its entries alone
-  pub ends : (w : Script) → 0 < w.lanes → (es : List Entry) → Follows (commit_asks w) (commit_tells w) (commit_start w None) es → AllSound w (commit_start w None) es
-      → (end : CommitEnd) → commit_over (run (commit_tells w) (commit_start w None) es) ≡ Some end → (worn : Option Request) × WornFirst w.retries es worn × EndIs worn end
+  pub ends : (w : Script) → 0 < w.lanes → (es : List Entry) → Follows (commit_asks w) (commit_tells w) (commit_start w None) es
+      → AllSound w (commit_start w None) es
+      → (end : CommitEnd) → commit_over (run (commit_tells w) (commit_start w None) es) ≡ Some end → (worn : Option Request)
+      × WornFirst w.retries es worn × EndIs worn end
   -- what it completes next is the next upload in the cyclic order of the lanes, from lane 0 on
-  pub order : (w : Script) → 0 < w.lanes → (es : List Entry) (sets : Sets) (x : Turn) (xs : List Turn) (done : List ℕ) → run (commit_tells w) (commit_start w None) es ≡ Completing sets x xs done
+  pub order : (w : Script) → 0 < w.lanes → (es : List Entry) (sets : Sets) (x : Turn) (xs : List Turn) (done : List ℕ)
+      → run (commit_tells w) (commit_start w None) es ≡ Completing sets x xs done
       → IsNext w.lanes (length (all_commits sets)) done (lane_after w (commit_start w None) 0 es) x.number
   -- uploads of different keys are different requests
-  pub apart : (sets : Sets) → ((m n : ℕ) → m < length (all_commits sets) → n < length (all_commits sets) → (nth (all_commits sets) m).destination ≡ (nth (all_commits sets) n).destination → m ≡ n) → RequestsApart sets
+  pub apart : (sets : Sets) → ((m n : ℕ) → m < length (all_commits sets) → n < length (all_commits sets)
+      → (nth (all_commits sets) m).destination ≡ (nth (all_commits sets) n).destination → m ≡ n) → RequestsApart sets

@@ -23,4 +23,3 @@ pub mod AtWork
 pub mod Measures
 pub mod PlanLaws
 pub mod Laws
-pub mod Prelude

@@ -1,21 +1,30 @@
 -- All operations of a job's actors, by one table.
-use Rattle.std.specs.Prelude.{ℕ, Bool, true, cond, List, Option, Some, None}
-use Rattle.job_model.specs.Prelude.{option_map, Actor, Driver, Attempt, Request, Outcome, Who, Mode, Fail, Script, Known}
-use Rattle.retries.specs.Prelude.{Retried, fresh, step}
-use Rattle.job_model.specs.declared.events.Op.{Op}
-use Rattle.job_model.specs.declared.events.Op.TheVariants as ops
-use Rattle.job_model.specs.declared.ends.OpEnd.{OpEnd}
-use Rattle.job_model.specs.declared.ends.OpEnd.TheVariants as ends
+use Rattle.job_model.specs.Attempts.{Who}
+use Rattle.job_model.specs.JobScript.{Script}
+use Rattle.job_model.specs.Known.{Known}
 use Rattle.job_model.specs.declared.ends.CheckEnd.TheVariants.{Clear}
+use Rattle.job_model.specs.declared.ends.OpEnd.{OpEnd}
+use Rattle.job_model.specs.declared.events.Op.{Op}
+use Rattle.job_protocol.specs.Cleanups.{Clean, clean_after, clean_asks, clean_over, clean_start}
+use Rattle.job_protocol.specs.JobCommits.{Commit, commit_asks, commit_over, commit_start, commit_tells}
 use Rattle.job_protocol.specs.Knowledge.{learn}
-use Rattle.job_protocol.specs.Setup.{Setup, setup_start, setup_asks, setup_after, setup_over}
-use Rattle.job_protocol.specs.Writes.{Write, write_start, write_asks, write_after, write_over}
-use Rattle.job_protocol.specs.TaskCommits.{TaskCommit, task_commit_start, task_commit_asks, task_commit_after, task_commit_over}
-use Rattle.job_protocol.specs.TaskAborts.{TaskAbort, task_abort_start, task_abort_asks, task_abort_after, task_abort_over}
-use Rattle.job_protocol.specs.Rechecks.{Check, CheckOver, check_start, check_asks, check_after, check_over}
-use Rattle.job_protocol.specs.JobCommits.{Commit, commit_start, commit_asks, commit_tells, commit_over}
-use Rattle.job_protocol.specs.Cleanups.{Clean, clean_start, clean_asks, clean_after, clean_over}
-use Rattle.job_protocol.specs.Sparing.{Sparing, sparing_start, sparing_asks, sparing_after, sparing_over}
+use Rattle.job_protocol.specs.Rechecks.{Check, CheckOver, check_after, check_asks, check_over, check_start}
+use Rattle.job_protocol.specs.Setup.{Setup, setup_after, setup_asks, setup_over, setup_start}
+use Rattle.job_protocol.specs.Sparing.{Sparing, sparing_after, sparing_asks, sparing_over, sparing_start}
+use Rattle.job_protocol.specs.TaskAborts.{TaskAbort, task_abort_after, task_abort_asks, task_abort_over, task_abort_start}
+use Rattle.job_protocol.specs.TaskCommits.{TaskCommit, task_commit_after, task_commit_asks, task_commit_over, task_commit_start}
+use Rattle.job_protocol.specs.Writes.{Write, write_after, write_asks, write_over, write_start}
+use Rattle.retries.specs.Retries.{Retried, fresh, step}
+use Rattle.s3_types.specs.declared.journal.Outcome.{Outcome}
+use Rattle.s3_types.specs.declared.request.Actor.{Actor}
+use Rattle.s3_types.specs.declared.request.Actor.TheVariants.{Attempt, Driver}
+use Rattle.s3_types.specs.declared.request.Mode.{Mode}
+use Rattle.s3_types.specs.declared.request.Mode.TheVariants.{Fail}
+use Rattle.s3_types.specs.declared.request.Request.{Request}
+use Rattle.std.specs.Option.{option_map}
+use Rattle.std.specs.Prelude.{Bool, List, None, Option, Some, cond, true, ℕ}
+use Rattle.job_model.specs.declared.events.Op.TheVariants as ops
+use Rattle.job_model.specs.declared.ends.OpEnd.TheVariants as ends
 
 -- an operation as it goes on; all but the job's commit are of replies under retries
 pub data Operation : Type 0 where
@@ -25,11 +34,13 @@ pub data Operation : Type 0 where
   TheTaskAbort : (abort : Retried TaskAbort) → Operation
   TheCommit : (commit : Commit) → Operation
   TheClean : (clean : Retried Clean) → Operation
-  -- where another job shares the destination: the look for files before a commit of the mode fail, and an abort or clean that spares what is the other's
+  -- where another job shares the destination: the look for files before a commit of the mode fail, and an abort or clean that spares what
+  -- is the other's
   TheCheck : (check : Retried Check) → Operation
   TheSparing : (sparing : Retried Sparing) → Operation
 
--- what stays the same while operations go on: the script, the store's least size in bytes of a part, and whether another job shares the destination
+-- what stays the same while operations go on: the script, the store's least size in bytes of a part, and whether another job shares the
+-- destination
 pub record Setting : Type 0 where
   pub script : Script
   pub minimum : ℕ
@@ -96,16 +107,19 @@ commit_of g r = commit_by g g.shared g.script.mode r r.missing
 
 -- an abort or clean
 abbrev pub clean_of : Setting → Operation
-clean_of g = cond g.shared (TheSparing (fresh g.script.retries (sparing_start g.script.committer))) (TheClean (fresh g.script.retries clean_start))
+clean_of g = cond g.shared (TheSparing (fresh g.script.retries (sparing_start g.script.committer)))
+    (TheClean (fresh g.script.retries clean_start))
 
--- the operation of an actor as it begins, by what an attempt knows then, and for the job's commit by the reports; an actor has no other operations
+-- the operation of an actor as it begins, by what an attempt knows then, and for the job's commit by the reports; an actor has no other
+-- operations
 abbrev pub start_of : Setting → Actor → Op → Reports → Known → Option Operation
 start_of g Driver ops.Setup r k = Some (TheSetup (fresh g.script.retries setup_start))
 start_of g Driver ops.Commit r k = Some (commit_of g r)
 start_of g Driver ops.Abort r k = Some (clean_of g)
 start_of g Driver ops.Clean r k = Some (clean_of g)
 start_of g (Attempt t a) ops.Write r k = Some (TheWrite (fresh g.script.retries (write_start g.script (record { task = t; attempt = a }))))
-start_of g (Attempt t a) ops.Commit r k = Some (TheTaskCommit (fresh g.script.retries (task_commit_start g.script (record { task = t; attempt = a }))))
+start_of g (Attempt t a) ops.Commit r k = Some (TheTaskCommit (fresh g.script.retries
+    (task_commit_start g.script (record { task = t; attempt = a }))))
 start_of g (Attempt t a) ops.Abort r k = Some (TheTaskAbort (fresh g.script.retries (task_abort_start g.script k)))
 start_of g _ _ r k = None
 

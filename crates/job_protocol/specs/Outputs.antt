@@ -1,10 +1,16 @@
 -- What the picked attempts of a job are to write below its destination.
-use Rattle.std.specs.Prelude.{ℕ, zero, suc, ◌+◌, ◌-◌, ◌&&◌, not, cond, Bool, true, List, [], ◌∷◌, ◌++◌, map, Option, Some, None, is_some}
-use Rattle.job_model.specs.Prelude.{insert_key, lookup, unwrap_or, option_map, text_cmp, text_eq, File, has_path, Who, Script}
+use Rattle.basics.specs.Order.{text_cmp, text_eq}
+use Rattle.job_model.specs.Attempts.{Who}
+use Rattle.job_model.specs.Files.{File, has_path}
+use Rattle.job_model.specs.JobScript.{Script}
 use Rattle.job_model.specs.Placed.{files_of}
 use Rattle.job_model.specs.declared.ends.CommitEnd.{CommitEnd}
 use Rattle.job_model.specs.declared.ends.CommitEnd.TheVariants.{SamePath}
 use Rattle.job_protocol.specs.View.{Shown}
+use Rattle.std.specs.BTreeSet.{insert_key}
+use Rattle.std.specs.Map.{lookup}
+use Rattle.std.specs.Option.{option_map, unwrap_or}
+use Rattle.std.specs.Prelude.{Bool, List, None, Option, Some, cond, is_some, map, not, suc, true, zero, ℕ, [], ◌&&◌, ◌++◌, ◌+◌, ◌-◌, ◌∷◌}
 
 -- the files of an attempt at their paths below the destination; an attempt that is not declared has none
 abbrev pub files : Script → Who → List File

@@ -1,7 +1,8 @@
 -- What the paths of files are as places (`magic_paths`).
-use Rattle.std.specs.Prelude.{List, false, true, ℕ, ◌≡◌}
+use Rattle.job_model.specs.Legal.{IsGiven}
+use Rattle.job_model.specs.Plans.{IsPlaced}
 use Rattle.magic_paths.specs.Places.{is_open, is_record}
-use Rattle.job_model.specs.Prelude.{IsGiven, IsPlaced}
+use Rattle.std.specs.Prelude.{List, false, true, ℕ, ◌≡◌}
 
 -- the paths of a script's files keep the bounds of places
 pub record ArePlaces : Type 0 where

@@ -1,27 +1,37 @@
 -- Plans tell of a script all that their operations ask.
-use Rattle.std.specs.Prelude.{◌≡◌, ℕ}
-use Rattle.retries.specs.Prelude.{Item}
-use Rattle.job_model.specs.Prelude.{Who, Known, Script}
+use Rattle.job_model.specs.Attempts.{Who}
+use Rattle.job_model.specs.JobScript.{Script}
+use Rattle.job_model.specs.Known.{Known}
+use Rattle.job_protocol.specs.AtWork.{job_of, job_script, task_of, task_script}
+use Rattle.job_protocol.specs.Cleanups.{Clean, clean_after, clean_asks}
 use Rattle.job_protocol.specs.Outputs.{files}
-use Rattle.job_protocol.specs.Setup.{Setup, setup_asks, setup_after}
-use Rattle.job_protocol.specs.Writes.{Write, write_start, write_asks, write_after}
-use Rattle.job_protocol.specs.TaskCommits.{TaskCommit, task_commit_start, task_commit_asks, task_commit_after}
-use Rattle.job_protocol.specs.TaskAborts.{TaskAbort, task_abort_start, task_abort_asks, task_abort_after}
-use Rattle.job_protocol.specs.Cleanups.{Clean, clean_asks, clean_after}
-use Rattle.job_protocol.specs.AtWork.{job_of, task_of, task_script, job_script}
+use Rattle.job_protocol.specs.Setup.{Setup, setup_after, setup_asks}
+use Rattle.job_protocol.specs.TaskAborts.{TaskAbort, task_abort_after, task_abort_asks, task_abort_start}
+use Rattle.job_protocol.specs.TaskCommits.{TaskCommit, task_commit_after, task_commit_asks, task_commit_start}
+use Rattle.job_protocol.specs.Writes.{Write, write_after, write_asks, write_start}
+use Rattle.retries.specs.Retries.{Item}
+use Rattle.std.specs.Prelude.{ℕ, ◌≡◌}
 
 -- an attempt's plan has its files, and its operations ask and go on by it as by the script
 pub record TasksTell : Type 0 where
   pub files : (w : Script) (n : ℕ) (a : Who) (k : Known) → files (task_script (task_of w n a k)) a ≡ files w a
   pub write_starts : (w : Script) (n : ℕ) (a : Who) (k : Known) → write_start (task_script (task_of w n a k)) a ≡ write_start w a
-  pub write_asks : (w : Script) (n : ℕ) (a : Who) (k l : Known) (o : Write) → write_asks (task_script (task_of w n a k)) a l o ≡ write_asks w a l o
-  pub write_goes : (w : Script) (n : ℕ) (a : Who) (k : Known) (o : Write) (i : Item) → write_after (task_script (task_of w n a k)) n o i ≡ write_after w n o i
-  pub commit_starts : (w : Script) (n : ℕ) (a : Who) (k : Known) → task_commit_start (task_script (task_of w n a k)) a ≡ task_commit_start w a
-  pub commit_asks : (w : Script) (n : ℕ) (a : Who) (k l : Known) (o : TaskCommit) → task_commit_asks (task_script (task_of w n a k)) a l o ≡ task_commit_asks w a l o
-  pub commit_goes : (w : Script) (n : ℕ) (a : Who) (k : Known) (o : TaskCommit) (i : Item) → task_commit_after (task_script (task_of w n a k)) n a o i ≡ task_commit_after w n a o i
-  pub abort_starts : (w : Script) (n : ℕ) (a : Who) (k l : Known) → task_abort_start (task_script (task_of w n a k)) l ≡ task_abort_start w l
-  pub abort_asks : (w : Script) (n : ℕ) (a : Who) (k : Known) (o : TaskAbort) → task_abort_asks (task_script (task_of w n a k)) a o ≡ task_abort_asks w a o
-  pub abort_goes : (w : Script) (n : ℕ) (a : Who) (k : Known) (o : TaskAbort) (i : Item) → task_abort_after (task_script (task_of w n a k)) o i ≡ task_abort_after w o i
+  pub write_asks : (w : Script) (n : ℕ) (a : Who) (k l : Known) (o : Write)
+      → write_asks (task_script (task_of w n a k)) a l o ≡ write_asks w a l o
+  pub write_goes : (w : Script) (n : ℕ) (a : Who) (k : Known) (o : Write) (i : Item)
+      → write_after (task_script (task_of w n a k)) n o i ≡ write_after w n o i
+  pub commit_starts : (w : Script) (n : ℕ) (a : Who) (k : Known)
+      → task_commit_start (task_script (task_of w n a k)) a ≡ task_commit_start w a
+  pub commit_asks : (w : Script) (n : ℕ) (a : Who) (k l : Known) (o : TaskCommit)
+      → task_commit_asks (task_script (task_of w n a k)) a l o ≡ task_commit_asks w a l o
+  pub commit_goes : (w : Script) (n : ℕ) (a : Who) (k : Known) (o : TaskCommit) (i : Item)
+      → task_commit_after (task_script (task_of w n a k)) n a o i ≡ task_commit_after w n a o i
+  pub abort_starts : (w : Script) (n : ℕ) (a : Who) (k l : Known)
+      → task_abort_start (task_script (task_of w n a k)) l ≡ task_abort_start w l
+  pub abort_asks : (w : Script) (n : ℕ) (a : Who) (k : Known) (o : TaskAbort)
+      → task_abort_asks (task_script (task_of w n a k)) a o ≡ task_abort_asks w a o
+  pub abort_goes : (w : Script) (n : ℕ) (a : Who) (k : Known) (o : TaskAbort) (i : Item)
+      → task_abort_after (task_script (task_of w n a k)) o i ≡ task_abort_after w o i
 
 -- a set-up and a clean ask and go on by the driver's plan as by the script
 pub record JobsTell : Type 0 where

@@ -1,15 +1,23 @@
--- The look for files of the destination before the commit of a job at a shared destination, for the mode fail alone (Hadoop, S3A committers: fs.s3a.committer.staging.conflict-mode; here the check is made a second time).
-use Rattle.std.specs.Prelude.{ℕ, Bool, true, false, List, [], ◌∷◌, Option, Some, None}
-use Rattle.job_model.specs.Prelude.{flat_map, Request, ListPage, Reply, Page, Who, File, Script}
-use Rattle.s3_types.specs.declared.reply.PageEntry.{PageEntry}
-use Rattle.retries.specs.Prelude.{Item, Got, WornOut, OutOfMemory}
+-- The look for files of the destination before the commit of a job at a shared destination, for the mode fail alone (Hadoop, S3A
+-- committers: fs.s3a.committer.staging.conflict-mode; here the check is made a second time).
+use Rattle.job_model.specs.Attempts.{Who}
+use Rattle.job_model.specs.Files.{File}
+use Rattle.job_model.specs.JobScript.{Script}
 use Rattle.job_model.specs.declared.ends.CheckEnd.{CheckEnd}
-use Rattle.job_model.specs.declared.ends.CheckEnd.TheVariants as ends
+use Rattle.job_protocol.specs.Conflicts.{checks_all, checks_partitions, partitions}
 use Rattle.job_protocol.specs.Outputs.{files, paths_of}
-use Rattle.job_protocol.specs.Conflicts.{partitions, checks_all, checks_partitions}
 use Rattle.job_protocol.specs.Setup.{dest_prefix, first_shown}
 use Rattle.job_protocol.specs.TaskCommits.{partition_prefix}
-use Rattle.list_walk.specs.Walks.{Walked, More, Whole, keys_on, page_after, walked}
+use Rattle.list_walk.specs.Walks.{More, Walked, Whole, keys_on, page_after, walked}
+use Rattle.retries.specs.Retries.{Got, Item, OutOfMemory, WornOut}
+use Rattle.s3_types.specs.declared.reply.PageEntry.{PageEntry}
+use Rattle.s3_types.specs.declared.reply.Reply.{Reply}
+use Rattle.s3_types.specs.declared.reply.Reply.TheVariants.{Page}
+use Rattle.s3_types.specs.declared.request.Request.{Request}
+use Rattle.s3_types.specs.declared.request.Request.TheVariants.{ListPage}
+use Rattle.std.specs.List.{flat_map}
+use Rattle.std.specs.Prelude.{Bool, List, None, Option, Some, false, true, ℕ, [], ◌∷◌}
+use Rattle.job_model.specs.declared.ends.CheckEnd.TheVariants as ends
 
 -- how far the check has come
 pub data Check : Type 0 where
@@ -35,7 +43,8 @@ check_by false true dirs = probing dirs
 check_by false false dirs = CheckOver ends.Clear
 
 abbrev pub check_start : Script → List Who → Check
-check_start w reported = check_by (checks_all w.committer w.mode) (checks_partitions w.committer w.mode) (partitions (paths_of (files_of_all w reported)))
+check_start w reported = check_by (checks_all w.committer w.mode) (checks_partitions w.committer w.mode)
+    (partitions (paths_of (files_of_all w reported)))
 
 -- what it asks next, or nothing where it is over
 abbrev pub check_asks : Script → Check → Option Request

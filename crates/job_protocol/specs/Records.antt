@@ -1,10 +1,20 @@
 -- The records that a job's actors write (Hadoop, S3A committer architecture: SinglePendingCommit, PendingSet, SuccessData).
-use Rattle.std.specs.Prelude.{ℕ, List, ◌++◌, map, length, codes, Option, Some, None}
-use Rattle.pending_json.specs.Prelude.{compact_text}
-use Rattle.job_model.specs.Prelude.{Committer, Magic, below, Pending, pending_tree, set_tree, success_tree, PendingSet, SuccessMark, File, Who, Script, Drawn, Known}
-use Rattle.magic_paths.specs.Layout as layout
-use Rattle.job_protocol.specs.Outputs.{Picks, wanted_paths}
+use Rattle.job_model.specs.Attempts.{Who}
+use Rattle.job_model.specs.Files.{File}
+use Rattle.job_model.specs.JobScript.{Script}
+use Rattle.job_model.specs.Known.{Drawn, Known}
 use Rattle.job_protocol.specs.Knowledge.{drawn_for}
+use Rattle.job_protocol.specs.Outputs.{Picks, wanted_paths}
+use Rattle.path_keys.specs.Paths.{below}
+use Rattle.pending_json.specs.Pending.{Pending}
+use Rattle.pending_json.specs.Trees.{pending_tree, set_tree, success_tree}
+use Rattle.pending_json.specs.declared.records.PendingSet.{PendingSet}
+use Rattle.pending_json.specs.declared.records.SuccessMark.{SuccessMark}
+use Rattle.s3_types.specs.declared.request.Committer.{Committer}
+use Rattle.s3_types.specs.declared.request.Committer.TheVariants.{Magic}
+use Rattle.serde_json.specs.Written.{compact_text}
+use Rattle.std.specs.Prelude.{List, None, Option, Some, codes, length, map, ℕ, ◌++◌}
+use Rattle.magic_paths.specs.Layout as layout
 
 -- ---- the keys of a file: its own, that of its marker and that of its record
 
@@ -50,7 +60,13 @@ record_text w a f d = compact_text (pending_tree (file_record w a f d))
 
 -- the set that publishes these files
 abbrev pub files_set : Script → Who → List File → Known → PendingSet
-files_set w a commits k = record { job = w.job; task = a.task; attempt = a.attempt; commits = map (λ f. file_record w a f (drawn_for k (file_key w f))) commits }
+files_set w a commits k = record {
+  job = w.job;
+  task = a.task;
+  attempt = a.attempt;
+  commits = map
+      (λ f. file_record w a f (drawn_for k (file_key w f))) commits;
+}
 
 -- the text of the set (PendingSet) that publishes these files
 abbrev pub set_text : Script → Who → List File → Known → List ℕ

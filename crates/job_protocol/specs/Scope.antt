@@ -1,10 +1,20 @@
 -- What of a store is a job's and what is not, and what one of its own requests may change.
-use Rattle.std.specs.Prelude.{Bool, List, None, Option, Some, false, true, ℕ, ◌≡◌, ◌⊎◌}
-use Rattle.retries.specs.Prelude.{CompleteUpload, CopyObject, CreateUpload, DeleteObject, DeleteObjects, Entry, Request, Scene, Upload, UploadPart, text_eq}
-use Rattle.job_model.specs.Prelude.{BucketContent, Committer, Content, Driver, Magic, Object, Script, begins}
-use Rattle.s3_types.specs.Moment.{is_effective}
+use Rattle.basics.specs.Order.{text_eq}
+use Rattle.job_model.specs.JobScript.{Script}
 use Rattle.job_protocol.specs.Setup.{dest_prefix}
 use Rattle.job_protocol.specs.View.{Same, object_at, view}
+use Rattle.s3_types.specs.Moment.{is_effective}
+use Rattle.s3_types.specs.Pages.{begins}
+use Rattle.s3_types.specs.Store.{BucketContent, Content, Scene, Upload}
+use Rattle.s3_types.specs.declared.journal.Entry.{Entry}
+use Rattle.s3_types.specs.declared.object.Object.{Object}
+use Rattle.s3_types.specs.declared.request.Actor.TheVariants.{Driver}
+use Rattle.s3_types.specs.declared.request.Committer.{Committer}
+use Rattle.s3_types.specs.declared.request.Committer.TheVariants.{Magic}
+use Rattle.s3_types.specs.declared.request.Request.{Request}
+use Rattle.s3_types.specs.declared.request.Request.TheVariants.{CompleteUpload, CopyObject, CreateUpload, DeleteObject, DeleteObjects}
+use Rattle.s3_types.specs.declared.request.Request.TheVariants.{UploadPart}
+use Rattle.std.specs.Prelude.{Bool, List, None, Option, Some, false, true, ℕ, ◌≡◌, ◌⊎◌}
 use Rattle.std.specs.FinMap as fin
 use Rattle.magic_paths.specs.Layout as layout
 

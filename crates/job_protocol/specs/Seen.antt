@@ -1,12 +1,24 @@
 -- What a journal says of a job: one fold over its entries, from the first on.
-use Rattle.std.specs.Prelude.{ℕ, ◌&&◌, ◌||◌, nat_eq, nat_le, not, Bool, true, false, cond, List, [], ◌∷◌, Option, Some, None, is_some, take}
-use Rattle.job_model.specs.Prelude.{text_eq, Content, Scene, apply, effect, Request, PutObject, GetObject, ClusterRename, ClusterGet, Actor, Driver, Attempt, Shell, Committer, Magic, Outcome, Answered, Slow, RequestLost, ReplyLost, Entry, Script}
-use Rattle.s3_types.specs.Store.{opening}
-use Rattle.job_protocol.specs.Outputs.{Picks}
+use Rattle.basics.specs.Order.{text_eq}
+use Rattle.job_model.specs.JobScript.{Script}
 use Rattle.job_protocol.specs.Knowledge.{is_set_key, is_set_path}
+use Rattle.job_protocol.specs.Outputs.{Picks}
+use Rattle.job_protocol.specs.View.{object_at}
+use Rattle.s3_types.specs.Answer.{apply}
+use Rattle.s3_types.specs.Moment.{effect}
+use Rattle.s3_types.specs.Store.{Content, Scene, opening}
+use Rattle.s3_types.specs.declared.journal.Entry.{Entry}
+use Rattle.s3_types.specs.declared.journal.Outcome.{Outcome}
+use Rattle.s3_types.specs.declared.journal.Outcome.TheVariants.{Answered, ReplyLost, RequestLost, Slow}
+use Rattle.s3_types.specs.declared.request.Actor.{Actor}
+use Rattle.s3_types.specs.declared.request.Actor.TheVariants.{Attempt, Driver, Shell}
+use Rattle.s3_types.specs.declared.request.Committer.{Committer}
+use Rattle.s3_types.specs.declared.request.Committer.TheVariants.{Magic}
+use Rattle.s3_types.specs.declared.request.Request.{Request}
+use Rattle.s3_types.specs.declared.request.Request.TheVariants.{ClusterGet, ClusterRename, GetObject, PutObject}
+use Rattle.std.specs.Prelude.{Bool, List, None, Option, Some, cond, false, is_some, nat_eq, nat_le, not, take, true, ℕ, [], ◌&&◌, ◌||◌, ◌∷◌}
 use Rattle.std.specs.FinMap as fin
 use Rattle.magic_paths.specs.Layout as layout
-use Rattle.job_protocol.specs.View.{object_at}
 
 -- ---- requests that publish, read and mark
 
@@ -23,7 +35,8 @@ is_staging _ = true
 -- the request publishes a task's set: a put of it, or a rename onto it of a file that stands
 abbrev pub is_publishing : Script → Scene → ℕ → Request → Bool
 is_publishing w s task (PutObject bucket key bytes header) = is_magic w.committer && is_set_key w task bucket key
-is_publishing w s task (ClusterRename source target) = is_staging w.committer && (is_set_path w task target && is_some (fin.get s.files source))
+is_publishing w s task (ClusterRename source target) = is_staging w.committer &&
+    (is_set_path w task target && is_some (fin.get s.files source))
 is_publishing w s task _ = false
 
 -- the request reads a task's set
@@ -76,17 +89,51 @@ picks_by w picking last picks r t = cond (picking && is_reading w t r) (last t) 
 
 -- an attempt's request
 abbrev pub see_attempt : Script → Seen → ℕ → ℕ → Request → Outcome → Seen
-see_attempt w s task attempt r (Answered reply) = record { scene = apply s.scene r; begun = s.begun; last = last_by w s.scene s.last task attempt r; picks = s.picks; put_mark = s.put_mark }
+see_attempt w s task attempt r (Answered reply) = record {
+  scene = apply s.scene r;
+  begun = s.begun;
+  last = last_by w s.scene s.last task
+      attempt r;
+  picks = s.picks;
+  put_mark = s.put_mark;
+}
 see_attempt w s task attempt r Slow = s
 see_attempt w s task attempt r RequestLost = s
-see_attempt w s task attempt r ReplyLost = record { scene = apply s.scene r; begun = s.begun; last = last_by w s.scene s.last task attempt r; picks = s.picks; put_mark = s.put_mark }
+see_attempt w s task attempt r ReplyLost = record {
+  scene = apply s.scene r;
+  begun = s.begun;
+  last = last_by w s.scene s.last task attempt
+      r;
+  picks = s.picks;
+  put_mark = s.put_mark;
+}
 
 -- the driver's, with whether its commit has begun then, and whether it may pick
 abbrev pub see_driver : Script → Bool → Bool → Seen → Request → Outcome → Seen
-see_driver w begun picking s r (Answered reply) = record { scene = apply s.scene r; begun = begun; last = s.last; picks = picks_by w picking s.last s.picks r; put_mark = s.put_mark || is_marking w r }
+see_driver w begun picking s r (Answered reply) = record {
+  scene = apply s.scene r;
+  begun = begun;
+  last = s.last;
+  picks = picks_by w picking
+      s.last s.picks r;
+  put_mark = s.put_mark || is_marking w r;
+}
 see_driver w begun picking s r Slow = record { scene = s.scene; begun = begun; last = s.last; picks = s.picks; put_mark = s.put_mark }
-see_driver w begun picking s r RequestLost = record { scene = s.scene; begun = begun; last = s.last; picks = s.picks; put_mark = s.put_mark }
-see_driver w begun picking s r ReplyLost = record { scene = apply s.scene r; begun = begun; last = s.last; picks = s.picks; put_mark = s.put_mark || is_marking w r }
+see_driver w begun picking s r RequestLost = record {
+  scene = s.scene;
+  begun = begun;
+  last = s.last;
+  picks = s.picks;
+  put_mark = s.put_mark;
+}
+see_driver w begun picking s r ReplyLost = record {
+  scene = apply s.scene r;
+  begun = begun;
+  last = s.last;
+  picks = s.picks;
+  put_mark =
+      s.put_mark || is_marking w r;
+}
 
 -- what is seen after one more sending, in event `n`, with these times; of a stranger's the effect alone
 abbrev pub see_by : Script → Times → Seen → ℕ → Request → Outcome → Actor → Seen

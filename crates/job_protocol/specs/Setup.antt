@@ -1,13 +1,21 @@
 -- The driver's set-up of a job (Hadoop, S3A committers: job setup; fs.s3a.committer.staging.conflict-mode).
-use Rattle.std.specs.Prelude.{ℕ, Bool, true, false, cond, List, [], ◌∷◌, ◌++◌, codes, Option, Some, None}
-use Rattle.job_model.specs.Prelude.{Request, HeadObject, DeleteObject, Committer, Magic, Reply, Head, Page, Refused, NoSuchBucket, relative_in, Script}
-use Rattle.retries.specs.Prelude.{Item, Got, WornOut, OutOfMemory}
-use Rattle.magic_paths.specs.Layout as layout
+use Rattle.job_model.specs.JobScript.{Script}
 use Rattle.job_model.specs.declared.ends.SetupEnd.{SetupEnd}
-use Rattle.job_model.specs.declared.ends.SetupEnd.TheVariants as ends
-use Rattle.job_protocol.specs.View.{is_file_path}
 use Rattle.job_protocol.specs.Conflicts.{checks_all}
-use Rattle.list_walk.specs.Walks.{Walked, More, Whole, keys_on, page_after, walked, Sweep, sweep_start, sweep_asks, sweep_hears, all_go}
+use Rattle.job_protocol.specs.View.{is_file_path}
+use Rattle.list_walk.specs.Walks.{More, Sweep, Walked, Whole, all_go, keys_on, page_after, sweep_asks, sweep_hears, sweep_start, walked}
+use Rattle.path_keys.specs.Paths.{relative_in}
+use Rattle.retries.specs.Retries.{Got, Item, OutOfMemory, WornOut}
+use Rattle.s3_types.specs.declared.reply.Refusal.TheVariants.{NoSuchBucket}
+use Rattle.s3_types.specs.declared.reply.Reply.{Reply}
+use Rattle.s3_types.specs.declared.reply.Reply.TheVariants.{Head, Page, Refused}
+use Rattle.s3_types.specs.declared.request.Committer.{Committer}
+use Rattle.s3_types.specs.declared.request.Committer.TheVariants.{Magic}
+use Rattle.s3_types.specs.declared.request.Request.{Request}
+use Rattle.s3_types.specs.declared.request.Request.TheVariants.{DeleteObject, HeadObject}
+use Rattle.std.specs.Prelude.{Bool, List, None, Option, Some, codes, cond, false, true, ℕ, [], ◌++◌, ◌∷◌}
+use Rattle.magic_paths.specs.Layout as layout
+use Rattle.job_model.specs.declared.ends.SetupEnd.TheVariants as ends
 
 -- how far a job's set-up has come
 pub data Setup : Type 0 where

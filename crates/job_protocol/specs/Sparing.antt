@@ -1,12 +1,23 @@
--- The driver's abort or clean of a job at a shared destination: it aborts only the uploads that the job's own records and sets name, and lists no uploads (Hadoop, S3A committer architecture: cleanup by the job's own pending files).
-use Rattle.std.specs.Prelude.{Err, List, None, Ok, Option, Result, Some, [], drop, map, take, ℕ, ◌++◌, ◌∷◌}
-use Rattle.job_model.specs.Prelude.{ClusterBytes, Committer, Magic, Pending, PendingSet, Script, filter}
-use Rattle.retries.specs.Prelude.{AbortUpload, ClusterDelete, ClusterGet, ClusterList, DeleteObjects, GetObject, Got, Item, OutOfMemory, Reply, Request, UploadRef, WornOut}
-use Rattle.s3_types.specs.declared.reply.Reply.TheVariants.{ClusterNames, Object}
-use Rattle.pending_json.specs.declared.fault.RecordFault.{RecordFault}
+-- The driver's abort or clean of a job at a shared destination: it aborts only the uploads that the job's own records and sets name, and
+-- lists no uploads (Hadoop, S3A committer architecture: cleanup by the job's own pending files).
+use Rattle.job_model.specs.JobScript.{Script}
 use Rattle.job_model.specs.declared.ends.CleanEnd.{CleanEnd}
 use Rattle.list_walk.specs.Walks.{More, Walked, Whole, page_after, walked}
 use Rattle.magic_paths.specs.Places.{is_record}
+use Rattle.pending_json.specs.Pending.{Pending}
+use Rattle.pending_json.specs.declared.fault.RecordFault.{RecordFault}
+use Rattle.pending_json.specs.declared.records.PendingSet.{PendingSet}
+use Rattle.retries.specs.Retries.{Got, Item, OutOfMemory, WornOut}
+use Rattle.s3_types.specs.declared.reply.Reply.{Reply}
+use Rattle.s3_types.specs.declared.reply.Reply.TheVariants.{ClusterBytes, ClusterNames, Object}
+use Rattle.s3_types.specs.declared.request.Committer.{Committer}
+use Rattle.s3_types.specs.declared.request.Committer.TheVariants.{Magic}
+use Rattle.s3_types.specs.declared.request.Request.{Request}
+use Rattle.s3_types.specs.declared.request.Request.TheVariants.{AbortUpload, ClusterDelete, ClusterGet, ClusterList, DeleteObjects}
+use Rattle.s3_types.specs.declared.request.Request.TheVariants.{GetObject}
+use Rattle.s3_types.specs.declared.request.UploadRef.{UploadRef}
+use Rattle.std.specs.List.{filter}
+use Rattle.std.specs.Prelude.{Err, List, None, Ok, Option, Result, Some, drop, map, take, ℕ, [], ◌++◌, ◌∷◌}
 use Rattle.magic_paths.specs.Layout as layout
 use Rattle.pending_json.specs.Reading as reading
 use Rattle.job_model.specs.declared.ends.CleanEnd.TheVariants as ends
@@ -17,7 +28,8 @@ pub data Sparing : Type 0 where
   Walking : (keys : List (List ℕ)) → Sparing
   -- staging: lists the job's files in the cluster
   Naming : Sparing
-  -- reads the record or set at this place, then at the others; with the uploads that were named so far, and all places, which are to go in the end
+  -- reads the record or set at this place, then at the others; with the uploads that were named so far, and all places, which are to go in
+  -- the end
   Reading : (named : List UploadRef) (place : List ℕ) (others all : List (List ℕ)) → Sparing
   -- aborts this one; the others follow
   Aborting : (upload : UploadRef) (others : List UploadRef) (all : List (List ℕ)) → Sparing

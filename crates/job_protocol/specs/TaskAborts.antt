@@ -1,12 +1,19 @@
 -- An attempt's abort of its task (Hadoop, S3A committer architecture: task abort).
-use Rattle.std.specs.Prelude.{Bool, true, false, List, [], ◌∷◌, Option, Some, None}
-use Rattle.job_model.specs.Prelude.{Request, AbortUpload, ClusterDelete, Committer, Magic, Reply, Who, Script, Drawn, Known}
-use Rattle.retries.specs.Prelude.{Item, Got, WornOut, OutOfMemory}
+use Rattle.job_model.specs.Attempts.{Who}
+use Rattle.job_model.specs.JobScript.{Script}
+use Rattle.job_model.specs.Known.{Drawn, Known}
 use Rattle.job_model.specs.declared.ends.TaskEnd.{TaskEnd}
-use Rattle.job_model.specs.declared.ends.TaskEnd.TheVariants as ends
-use Rattle.list_walk.specs.Walks.{Sweep, sweep_start, sweep_asks, sweep_hears, all_go}
 use Rattle.job_protocol.specs.Knowledge.{as_made}
 use Rattle.job_protocol.specs.TaskCommits.{attempt_prefix, temporary_path}
+use Rattle.list_walk.specs.Walks.{Sweep, all_go, sweep_asks, sweep_hears, sweep_start}
+use Rattle.retries.specs.Retries.{Got, Item, OutOfMemory, WornOut}
+use Rattle.s3_types.specs.declared.reply.Reply.{Reply}
+use Rattle.s3_types.specs.declared.request.Committer.{Committer}
+use Rattle.s3_types.specs.declared.request.Committer.TheVariants.{Magic}
+use Rattle.s3_types.specs.declared.request.Request.{Request}
+use Rattle.s3_types.specs.declared.request.Request.TheVariants.{AbortUpload, ClusterDelete}
+use Rattle.std.specs.Prelude.{Bool, List, None, Option, Some, false, true, [], ◌∷◌}
+use Rattle.job_model.specs.declared.ends.TaskEnd.TheVariants as ends
 
 -- how far a task's abort has come
 pub data TaskAbort : Type 0 where

@@ -1,15 +1,29 @@
 -- An attempt's commit of its task, which publishes a set of its uploads (Hadoop, S3A committer architecture: task commit).
-use Rattle.std.specs.Prelude.{ℕ, Bool, false, cond, List, [], ◌∷◌, ◌++◌, map, codes, Option, Some, None}
-use Rattle.job_model.specs.Prelude.{filter, list_any, flat_map, is_lt, text_cmp, text_eq, Request, PutObject, GetObject, ListPage, ClusterPut, ClusterRename, Committer, Magic, Reply, Page, Refused, NoSuchKey, NoSuchFile, below, File, Who, Script, Known}
-use Rattle.retries.specs.Prelude.{Item, Got, WornOut, OutOfMemory}
-use Rattle.magic_paths.specs.Layout as layout
+use Rattle.basics.specs.Order.{text_cmp, text_eq}
+use Rattle.job_model.specs.Attempts.{Who}
+use Rattle.job_model.specs.Files.{File}
+use Rattle.job_model.specs.JobScript.{Script}
+use Rattle.job_model.specs.Known.{Known}
 use Rattle.job_model.specs.declared.ends.TaskEnd.{TaskEnd}
-use Rattle.job_model.specs.declared.ends.TaskEnd.TheVariants as ends
+use Rattle.job_protocol.specs.Conflicts.{checks_partitions, partitions}
 use Rattle.job_protocol.specs.Outputs.{files, paths_of}
-use Rattle.job_protocol.specs.Conflicts.{partitions, checks_partitions}
-use Rattle.list_walk.specs.Walks.{Walked, More, Whole, page_after, walked}
-use Rattle.job_protocol.specs.Records.{file_key, attempt_dir, record_key, set_text}
-use Rattle.job_protocol.specs.Uploading.{Uploading, Creating, Uploaded, GoesOn, AllSent, IsGone, upload_asks, upload_hears}
+use Rattle.job_protocol.specs.Records.{attempt_dir, file_key, record_key, set_text}
+use Rattle.job_protocol.specs.Uploading.{AllSent, Creating, GoesOn, IsGone, Uploaded, Uploading, upload_asks, upload_hears}
+use Rattle.list_walk.specs.Walks.{More, Walked, Whole, page_after, walked}
+use Rattle.path_keys.specs.Paths.{below}
+use Rattle.retries.specs.Retries.{Got, Item, OutOfMemory, WornOut}
+use Rattle.s3_types.specs.declared.reply.Refusal.TheVariants.{NoSuchFile, NoSuchKey}
+use Rattle.s3_types.specs.declared.reply.Reply.{Reply}
+use Rattle.s3_types.specs.declared.reply.Reply.TheVariants.{Page, Refused}
+use Rattle.s3_types.specs.declared.request.Committer.{Committer}
+use Rattle.s3_types.specs.declared.request.Committer.TheVariants.{Magic}
+use Rattle.s3_types.specs.declared.request.Request.{Request}
+use Rattle.s3_types.specs.declared.request.Request.TheVariants.{ClusterPut, ClusterRename, GetObject, ListPage, PutObject}
+use Rattle.std.specs.List.{filter, flat_map, list_any}
+use Rattle.std.specs.Ordering.{is_lt}
+use Rattle.std.specs.Prelude.{Bool, List, None, Option, Some, codes, cond, false, map, ℕ, [], ◌++◌, ◌∷◌}
+use Rattle.magic_paths.specs.Layout as layout
+use Rattle.job_model.specs.declared.ends.TaskEnd.TheVariants as ends
 
 -- how far a task's commit has come
 pub data TaskCommit : Type 0 where

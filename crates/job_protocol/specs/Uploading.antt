@@ -1,10 +1,16 @@
 -- How a file becomes a multipart upload that is not completed (Amazon S3 API: CreateMultipartUpload, UploadPart).
-use Rattle.std.specs.Prelude.{ℕ, ◌+◌, List, [], ◌∷◌, length}
-use Rattle.job_model.specs.Prelude.{Request, CreateUpload, UploadPart, Reply, Refused, NoSuchUpload, File, Script, Known}
-use Rattle.s3_types.specs.Blocks.{block_of, parts_of}
-use Rattle.s3_types.specs.declared.reply.Reply.TheVariants.{Upload}
+use Rattle.job_model.specs.Files.{File}
+use Rattle.job_model.specs.JobScript.{Script}
+use Rattle.job_model.specs.Known.{Known}
 use Rattle.job_protocol.specs.Knowledge.{drawn_last}
 use Rattle.job_protocol.specs.Records.{file_key}
+use Rattle.s3_types.specs.Blocks.{block_of, parts_of}
+use Rattle.s3_types.specs.declared.reply.Refusal.TheVariants.{NoSuchUpload}
+use Rattle.s3_types.specs.declared.reply.Reply.{Reply}
+use Rattle.s3_types.specs.declared.reply.Reply.TheVariants.{Refused, Upload}
+use Rattle.s3_types.specs.declared.request.Request.{Request}
+use Rattle.s3_types.specs.declared.request.Request.TheVariants.{CreateUpload, UploadPart}
+use Rattle.std.specs.Prelude.{List, length, ℕ, [], ◌+◌, ◌∷◌}
 
 -- how far the upload of a file has come
 pub data Uploading : Type 0 where

@@ -1,6 +1,10 @@
 -- What a reader of a destination is shown (Hadoop, S3A committers: the magic directory and `_SUCCESS` are no data).
-use Rattle.std.specs.Prelude.{◌≡◌, ℕ, ◌==◌, ◌&&◌, not, Bool, true, cond, List, [], ◌∷◌, Option, Some, None, codes, bytes_eq}
-use Rattle.job_model.specs.Prelude.{option_map, BucketContent, Content, begins, Object, Path, below}
+use Rattle.path_keys.specs.Paths.{Path, below}
+use Rattle.s3_types.specs.Pages.{begins}
+use Rattle.s3_types.specs.Store.{BucketContent, Content}
+use Rattle.s3_types.specs.declared.object.Object.{Object}
+use Rattle.std.specs.Option.{option_map}
+use Rattle.std.specs.Prelude.{Bool, List, None, Option, Some, bytes_eq, codes, cond, not, true, ℕ, [], ◌&&◌, ◌==◌, ◌∷◌, ◌≡◌}
 use Rattle.std.specs.FinMap as fin
 
 -- paths below a destination, each with a file's bytes or with none

@@ -1,13 +1,22 @@
--- An attempt's write of its files (Hadoop, S3A committer architecture: the magic committer writes delayed uploads, the staging committers local files).
-use Rattle.std.specs.Prelude.{ℕ, List, [], ◌∷◌, length, Option, Some, None}
-use Rattle.job_model.specs.Prelude.{Request, PutObject, Committer, Magic, Reply, File, Who, Script, Known}
-use Rattle.retries.specs.Prelude.{Item, Got, WornOut, OutOfMemory}
+-- An attempt's write of its files (Hadoop, S3A committer architecture: the magic committer writes delayed uploads, the staging committers
+-- local files).
+use Rattle.job_model.specs.Attempts.{Who}
+use Rattle.job_model.specs.Files.{File}
+use Rattle.job_model.specs.JobScript.{Script}
+use Rattle.job_model.specs.Known.{Known}
 use Rattle.job_model.specs.declared.ends.TaskEnd.{TaskEnd}
-use Rattle.job_model.specs.declared.ends.TaskEnd.TheVariants as ends
-use Rattle.job_protocol.specs.Outputs.{files}
 use Rattle.job_protocol.specs.Knowledge.{drawn_last}
+use Rattle.job_protocol.specs.Outputs.{files}
 use Rattle.job_protocol.specs.Records.{file_key, marker_key, record_key, record_text}
-use Rattle.job_protocol.specs.Uploading.{Uploading, Creating, Uploaded, GoesOn, AllSent, IsGone, upload_asks, upload_hears}
+use Rattle.job_protocol.specs.Uploading.{AllSent, Creating, GoesOn, IsGone, Uploaded, Uploading, upload_asks, upload_hears}
+use Rattle.retries.specs.Retries.{Got, Item, OutOfMemory, WornOut}
+use Rattle.s3_types.specs.declared.reply.Reply.{Reply}
+use Rattle.s3_types.specs.declared.request.Committer.{Committer}
+use Rattle.s3_types.specs.declared.request.Committer.TheVariants.{Magic}
+use Rattle.s3_types.specs.declared.request.Request.{Request}
+use Rattle.s3_types.specs.declared.request.Request.TheVariants.{PutObject}
+use Rattle.std.specs.Prelude.{List, None, Option, Some, length, ℕ, [], ◌∷◌}
+use Rattle.job_model.specs.declared.ends.TaskEnd.TheVariants as ends
 
 -- how far a write has come
 pub data Write : Type 0 where

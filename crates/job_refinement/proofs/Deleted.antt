@@ -1,24 +1,34 @@
 -- That a replace mode's deletion leaves nothing below its prefixes but what it spares.
-use Rattle.std.proofs.Common.{Bool, List, None, Option, Some, [], ap, false, inl, inr, map, not, refl, subst, sym, take, true}
-use Rattle.std.proofs.Common.{ℕ, ◌++◌, ◌∙◌, ◌∷◌, ◌≡◌, ◌⊎◌}
-use Rattle.std.specs.Prelude.{codes}
 use Rattle.basics.proofs.Members.{in_map, none_or_some, none_some, some_is}
+use Rattle.basics.specs.Members.{IsIn}
+use Rattle.basics.specs.Order.{text_cmp}
 use Rattle.conflict.specs.Deletions.{Deletion, asks_below, deleted, deletion_asks, deletion_hears, hears_below, spared, swept_on}
 use Rattle.job_facts.proofs.Emptying.{EmptiedBy, still_by, still_there, swept_by}
 use Rattle.job_facts.proofs.Undone.{deletes_drop}
 use Rattle.job_facts.specs.Driver.{SweepsUnder}
 use Rattle.job_facts.specs.Emptying.{EmptiesBy}
 use Rattle.job_facts.specs.Stores.{at_key}
+use Rattle.job_model.specs.JobScript.{Script}
 use Rattle.job_protocol.specs.Conflicts.{prefix_below}
-use Rattle.job_protocol.specs.Prelude.{Committer, Deleting, Directory, IsIn, Listing, Magic, Object, Outcome, Partitioned, Path, Request}
-use Rattle.job_protocol.specs.Prelude.{RequestLost, ReplyLost, Scene, Script, Slow, Sweep, begins}
-use Rattle.job_protocol.specs.Prelude.{is_lt, page_after, sweep_asks, sweep_hears, sweep_start, text_cmp}
 use Rattle.job_refinement.specs.Deleted.{Deletes, DeletionsLeave, deleting, had_answer, had_none, nothing_sent}
-use Rattle.path_keys.specs.Paths.{below}
+use Rattle.list_walk.specs.Walks.{Deleting, Listing, Sweep, page_after, sweep_asks, sweep_hears, sweep_start}
+use Rattle.path_keys.specs.Paths.{Path, below}
 use Rattle.s3_types.specs.Answer.{answer, apply}
 use Rattle.s3_types.specs.Moment.{effect}
-use Rattle.store_frame.specs.Prelude.{HasBucket}
+use Rattle.s3_types.specs.Pages.{begins}
+use Rattle.s3_types.specs.Store.{Scene}
+use Rattle.s3_types.specs.declared.journal.Outcome.{Outcome}
+use Rattle.s3_types.specs.declared.journal.Outcome.TheVariants.{ReplyLost, RequestLost, Slow}
+use Rattle.s3_types.specs.declared.object.Object.{Object}
+use Rattle.s3_types.specs.declared.request.Committer.{Committer}
+use Rattle.s3_types.specs.declared.request.Committer.TheVariants.{Directory, Magic, Partitioned}
+use Rattle.s3_types.specs.declared.request.Request.{Request}
+use Rattle.std.proofs.Common.{Bool, List, None, Option, Some, ap, false, inl, inr, map, not, refl, subst, sym, take, true, ℕ, [], ◌++◌, ◌∙◌}
+use Rattle.std.proofs.Common.{◌∷◌, ◌≡◌, ◌⊎◌}
+use Rattle.std.specs.Ordering.{is_lt}
+use Rattle.std.specs.Prelude.{codes}
 use Rattle.store_frame.proofs.Reading.{reads_nothing}
+use Rattle.store_frame.specs.Held.{HasBucket}
 
 -- ---- no key below its prefixes is empty
 

@@ -9,4 +9,3 @@ pub mod Picking
 pub mod Planned
 pub mod Others
 pub mod Deleted
-mod Common

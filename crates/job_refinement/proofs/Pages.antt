@@ -1,11 +1,21 @@
 -- The answers to requests for pages, where their bucket is there.
-use Rattle.job_refinement.proofs.Common.{Deleting, FitsPage, FitsSweep, FitsUploads, HasBucket, List, Listing, Scene, Script, Sweep, UploadRef, answer, answer_is, last_of, page_after, page_keys, refl, subst, sweep_asks, sym, uploads_after, ℕ}
+use Rattle.job_facts.proofs.Shapes.{answer_is}
+use Rattle.job_model.specs.JobScript.{Script}
+use Rattle.list_walk.proofs.Keys.{page_keys}
+use Rattle.list_walk.specs.Fitting.{FitsPage, FitsSweep, FitsUploads}
+use Rattle.list_walk.specs.Walks.{Deleting, Listing, Sweep, last_of, page_after, sweep_asks, uploads_after}
+use Rattle.s3_types.specs.Answer.{answer}
+use Rattle.s3_types.specs.Store.{Scene}
+use Rattle.s3_types.specs.declared.request.UploadRef.{UploadRef}
+use Rattle.std.proofs.Common.{List, refl, subst, sym, ℕ}
+use Rattle.store_frame.specs.Held.{HasBucket}
 
 -- ---- answers
 
 module _ (w : Script) (s : Scene) (there : HasBucket s.content w.dest.bucket) where
   pub page_fits : (p : List ℕ) (keys : List (List ℕ)) → FitsPage (answer s (page_after w.dest.bucket p keys))
-  page_fits p keys = subst FitsPage (sym (answer_is w s there.0 there.1 (page_after w.dest.bucket p keys) refl)) (page_keys 1000 p (last_of keys) there.0.objects)
+  page_fits p keys = subst FitsPage (sym (answer_is w s there.0 there.1 (page_after w.dest.bucket p keys) refl))
+      (page_keys 1000 p (last_of keys) there.0.objects)
 
   pub sweep_fits : (p : List ℕ) (v : Sweep) → FitsSweep v (answer s (sweep_asks w.dest.bucket p v))
   sweep_fits p (Listing keys) = page_fits p keys

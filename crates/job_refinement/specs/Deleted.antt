@@ -1,11 +1,17 @@
 -- What the deletion of a replace mode leaves, where nobody else changes the store (Hadoop, S3A committers: conflict mode replace).
-use Rattle.std.specs.Prelude.{List, None, Some, false, true, ℕ, ◌≡◌}
+use Rattle.basics.specs.Members.{IsIn}
 use Rattle.conflict.specs.Deletions.{Deletion, deleted, deletion_asks, deletion_hears, spared}
-use Rattle.job_protocol.specs.Prelude.{IsIn, Outcome, Request, Scene, Script, begins, is_unanswered, sweep_start}
+use Rattle.job_model.specs.JobScript.{Script}
 use Rattle.job_protocol.specs.View.{object_at}
+use Rattle.list_walk.specs.Walks.{sweep_start}
 use Rattle.s3_types.specs.Answer.{answer, apply}
-use Rattle.s3_types.specs.Moment.{effect}
-use Rattle.store_frame.specs.Prelude.{HasBucket}
+use Rattle.s3_types.specs.Moment.{effect, is_unanswered}
+use Rattle.s3_types.specs.Pages.{begins}
+use Rattle.s3_types.specs.Store.{Scene}
+use Rattle.s3_types.specs.declared.journal.Outcome.{Outcome}
+use Rattle.s3_types.specs.declared.request.Request.{Request}
+use Rattle.std.specs.Prelude.{List, None, Some, false, true, ℕ, ◌≡◌}
+use Rattle.store_frame.specs.Held.{HasBucket}
 
 -- A deletion in this bucket came from the one scene and stage to the other: each request that it asked either had the answer that S3
 -- must give, which led it on, or got no answer, and was sent again.

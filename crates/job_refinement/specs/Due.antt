@@ -1,6 +1,20 @@
 -- What is asked of the answers that are due, and what must be known of an operation beside the facts of its job.
-use Rattle.std.specs.Prelude.{◌≡◌, ℕ, ◌<◌, Bool, List, ◌∷◌, length, Option, Some}
-use Rattle.job_facts.specs.Prelude.{Scene, answer, Request, Reply, IsIn, File, Who, Script, files, TaskCommit, Reading, Commit, Fetching, Seen, Told, known, sets_at, HasPublished}
+use Rattle.basics.specs.Members.{IsIn}
+use Rattle.job_facts.specs.Standing.{HasPublished}
+use Rattle.job_facts.specs.Stores.{sets_at}
+use Rattle.job_facts.specs.Told.{Told, known}
+use Rattle.job_model.specs.Attempts.{Who}
+use Rattle.job_model.specs.Files.{File}
+use Rattle.job_model.specs.JobScript.{Script}
+use Rattle.job_protocol.specs.JobCommits.{Commit, Fetching}
+use Rattle.job_protocol.specs.Outputs.{files}
+use Rattle.job_protocol.specs.Seen.{Seen}
+use Rattle.job_protocol.specs.TaskCommits.{Reading, TaskCommit}
+use Rattle.s3_types.specs.Answer.{answer}
+use Rattle.s3_types.specs.Store.{Scene}
+use Rattle.s3_types.specs.declared.reply.Reply.{Reply}
+use Rattle.s3_types.specs.declared.request.Request.{Request}
+use Rattle.std.specs.Prelude.{Bool, List, Option, Some, length, ℕ, ◌<◌, ◌∷◌, ◌≡◌}
 
 -- the answer that is due to what is asked fits, whether or not an earlier sending of it was lost
 abbrev pub FitsDue : {O : Type 0} → (O → Option Request) → (O → Reply → Bool → Type 0) → O → Scene → Type 0

@@ -1,6 +1,8 @@
 -- The attempts that the driver's commit has picked, beside those that are seen.
-use Rattle.std.specs.Prelude.{◌≡◌, ℕ, ◌<◌, List, length, slice_get}
-use Rattle.job_facts.specs.Prelude.{Script, Commit, Fetching, Seen}
+use Rattle.job_model.specs.JobScript.{Script}
+use Rattle.job_protocol.specs.JobCommits.{Commit, Fetching}
+use Rattle.job_protocol.specs.Seen.{Seen}
+use Rattle.std.specs.Prelude.{List, length, slice_get, ℕ, ◌<◌, ◌≡◌}
 
 -- of each task the attempt that was picked, or none, is the one that is seen; they stand by task from 0 on
 abbrev pub ArePicked : Script → Seen → List ℕ → Type 0

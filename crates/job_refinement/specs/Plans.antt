@@ -1,8 +1,16 @@
 -- Where the machines of a job's actors stand, by the script that their plans are of.
-use Rattle.std.specs.Prelude.{ℕ, Bool, true, false, List, Option, Some, None}
-use Rattle.job_facts.specs.Prelude.{Request, Outcome, Answered, Item, Got, WornOut, Retried, is_zero, Who, Known, Script, Commit, Attempting, Driving, Committing, job_of, task_of, learned}
-use Rattle.job_protocol.specs.Rechecks.{Check}
 use Rattle.conflict.specs.Rechecks.{PlannedCheck}
+use Rattle.job_model.specs.Attempts.{Who}
+use Rattle.job_model.specs.JobScript.{Script}
+use Rattle.job_model.specs.Known.{Known}
+use Rattle.job_protocol.specs.AtWork.{Attempting, Committing, Driving, job_of, learned, task_of}
+use Rattle.job_protocol.specs.JobCommits.{Commit}
+use Rattle.job_protocol.specs.Rechecks.{Check}
+use Rattle.retries.specs.Retries.{Got, Item, Retried, WornOut, is_zero}
+use Rattle.s3_types.specs.declared.journal.Outcome.{Outcome}
+use Rattle.s3_types.specs.declared.journal.Outcome.TheVariants.{Answered}
+use Rattle.s3_types.specs.declared.request.Request.{Request}
+use Rattle.std.specs.Prelude.{Bool, List, None, Option, Some, false, true, ℕ}
 
 -- ---- operations with the plans that the script gives
 

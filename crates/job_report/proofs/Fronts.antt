@@ -1,5 +1,9 @@
 -- Fronts and rests of lists, and of what stands in pairs or numbered.
-use Rattle.job_report.proofs.Common.{List, [], ap, arith, cases_lt, drop, drop_all, enumerate_from, inl, inr, length, min, refl, suc, sym, take, take_all, zero, zip, ℕ, ◌++◌, ◌+◌, ◌<◌, ◌∙◌, ◌∷◌, ◌≡◌, ◌≤◌, ◌⊎◌}
+use Rattle.std.proofs.Common.{List, ap, arith, drop, inl, inr, length, min, refl, suc, sym, take, zero, ℕ, [], ◌++◌, ◌+◌, ◌<◌, ◌∙◌, ◌∷◌}
+use Rattle.std.proofs.Common.{◌≡◌, ◌≤◌, ◌⊎◌}
+use Rattle.std.proofs.lemmas.Bool.{cases_lt}
+use Rattle.std.proofs.lemmas.List.{drop_all, take_all}
+use Rattle.std.specs.List.{enumerate_from, zip}
 
 -- pairs of two fronts are a front of the pairs
 pub zip_take : {A B : Type 0} (k : ℕ) (xs : List A) (ys : List B) → zip (take k xs) (take k ys) ≡ take k (zip xs ys)
@@ -53,7 +57,8 @@ drop_same xs k n h = by (cases_lt k (length xs))
         drop_all k xs le ∙ sym (drop_all n xs far)
 
 -- the numbers go on behind a first part
-pub numbered_on : {A : Type 0} (n m : ℕ) (xs ys : List A) → m ≡ n + length xs → enumerate_from n (xs ++ ys) ≡ enumerate_from n xs ++ enumerate_from m ys
+pub numbered_on : {A : Type 0} (n m : ℕ) (xs ys : List A) → m ≡ n + length xs
+    → enumerate_from n (xs ++ ys) ≡ enumerate_from n xs ++ enumerate_from m ys
 numbered_on n m [] ys h =
     let e : n ≡ m = omega arith in
     ap (λ k. enumerate_from k ys) e

@@ -2,4 +2,3 @@ pub mod LineLemmas
 pub mod Fronts
 pub mod Turns
 pub mod Whole
-mod Common

@@ -1,12 +1,14 @@
 -- What is told of two jobs' events, and what is left of them. Machinery of the code that writes them.
+use Rattle.job_model.specs.declared.ends.EventEnd.{EventEnd}
+use Rattle.job_model.specs.declared.events.Event.{Event}
+use Rattle.job_report.specs.TwinText.{in_turn, letter, played_line}
+use Rattle.job_report.specs.declared.played.Ended.{Ended}
+use Rattle.job_spec.specs.ReportText.{event_line}
+use Rattle.std.specs.List.{enumerate_from, flat_map, zip}
 use Rattle.std.specs.Prelude.{List, drop, length, min, take, ℕ, ◌+◌, ◌≤◌}
-use Rattle.job_model.specs.Prelude.{enumerate_from, zip}
-use Rattle.job_spec.specs.Prelude.{Event, EventEnd, event_line, flat_map}
 use Rattle.twin_script.specs.TwinScripts.{sides_in}
 use Rattle.twin_script.specs.declared.turns.Side.{Side}
 use Rattle.twin_script.specs.declared.turns.TwinTurn.{TwinTurn}
-use Rattle.job_report.specs.declared.played.Ended.{Ended}
-use Rattle.job_report.specs.TwinText.{in_turn, letter, played_line}
 
 -- events with their ends
 abbrev pub ended_in : Ended → List (Event × EventEnd)

@@ -1,14 +1,17 @@
 -- The text of a report of two jobs: the lines of a job's report, each with the letter of its side.
-use Rattle.std.specs.Prelude.{ℕ, List, [], ◌∷◌, ◌++◌, codes}
-use Rattle.job_model.specs.Prelude.{zip, enumerate_from, flat_map, Script}
-use Rattle.job_spec.specs.Prelude.{Event, EventEnd, Pick}
-use Rattle.job_spec.specs.ReportText.{event_line, pick_line, actor_lines, closing}
+use Rattle.job_model.specs.JobScript.{Script}
+use Rattle.job_model.specs.declared.ends.EventEnd.{EventEnd}
+use Rattle.job_model.specs.declared.ends.Pick.{Pick}
+use Rattle.job_model.specs.declared.events.Event.{Event}
+use Rattle.job_report.specs.declared.twins.SideReport.{SideReport}
+use Rattle.job_spec.specs.ReportText.{actor_lines, closing, event_line, pick_line}
+use Rattle.std.specs.List.{enumerate_from, flat_map, zip}
+use Rattle.std.specs.Prelude.{List, codes, ℕ, [], ◌++◌, ◌∷◌}
 use Rattle.twin_script.specs.Print.{side_word}
 use Rattle.twin_script.specs.TwinScripts.{sides_in}
 use Rattle.twin_script.specs.declared.turns.Side.{Side}
 use Rattle.twin_script.specs.declared.turns.Side.TheVariants.{First, Second}
 use Rattle.twin_script.specs.declared.turns.TwinTurn.{TwinTurn}
-use Rattle.job_report.specs.declared.twins.SideReport.{SideReport}
 
 -- what is told of one of the jobs: its script, the ends of its events in their order, and the picks of its commit
 pub record Told : Type 0 where
@@ -59,4 +62,5 @@ side_lines side told = actor_lines (letter side) told.script told.ends
 -- the whole report: the status that was due, how many requests were sent, the order of turns, and what is told of both jobs
 unfoldable pub twins_report : (due sent : ℕ) → List TwinTurn → (first second : Told) → List ℕ
 twins_report due sent order first second =
-    played_lines order (ended_of first) (ended_of second) ++ pick_lines First first ++ pick_lines Second second ++ side_lines First first ++ side_lines Second second ++ closing sent due
+    played_lines order (ended_of first) (ended_of second) ++ pick_lines First first ++ pick_lines Second second ++ side_lines First first ++
+    side_lines Second second ++ closing sent due

@@ -1,24 +1,38 @@
 -- How the driver's abort or clean of the job ends in a run.
-use Rattle.job_safety.proofs.Common.{AllBy, AllFrom, AreHonest, Bool, CleanEnd, Cleaned, CleansEnd, Content, Doing, Driver, Entry}
-use Rattle.job_safety.proofs.Common.{Follows, IsLegal, Known, List, None, Operation, Play, Reachable, Scene, Setting, TheClean}
-use Rattle.job_safety.proofs.Common.{Actor, Some, [], advance, after_all, after_parts, ap, append_assoc, arith, before}
-use Rattle.job_safety.proofs.Common.{by_actor}
-use Rattle.job_safety.proofs.Common.{clean_alone, clean_start, cond, false, false_true, fresh, inl, inr, is_memory, known_then, length}
-use Rattle.job_safety.proofs.Common.{moment}
-use Rattle.job_safety.proofs.Common.{none_some, over, refl, run, same_actor, since, subst, sym, true, true_or_false, until, until_last}
-use Rattle.job_safety.proofs.Common.{wants}
-use Rattle.job_safety.proofs.Common.{ℕ, ◌++◌, ◌+◌, ◌∙◌, ◌∷◌, ◌||◌, ◌≡◌, ◌⊎◌}
-use Rattle.s3_types.specs.Store as store
-use Rattle.job_facts.specs.Prelude.{effect, list_any}
-use Rattle.job_model.specs.declared.ends.CleanEnd.TheVariants as cleans
-use Rattle.job_model.specs.declared.ends.OpEnd.TheVariants as ends
+use Rattle.basics.proofs.Members.{false_true, none_some, true_or_false}
+use Rattle.job_model.specs.Known.{Known}
+use Rattle.job_model.specs.Legal.{IsLegal}
+use Rattle.job_model.specs.declared.ends.CleanEnd.{CleanEnd}
 use Rattle.job_outcomes.proofs.CleanEnds.{cleans_end}
 use Rattle.job_outcomes.proofs.RunEntries.{behind_last}
+use Rattle.job_protocol.proofs.Begun.{clean_alone}
+use Rattle.job_protocol.specs.Cleanups.{clean_start}
+use Rattle.job_protocol.specs.Operations.{Operation, Setting, TheClean, advance, over, wants}
 use Rattle.job_safety.proofs.Cuts.{moment_cut, since_cut}
-use Rattle.job_safety.proofs.Sorts.{over_kind, kind_run, driver_clean, memory_clean}
 use Rattle.job_safety.proofs.Ending.{Ending, ending, journal_until, until_strange}
+use Rattle.job_safety.proofs.Sorts.{driver_clean, kind_run, memory_clean, over_kind}
+use Rattle.job_safety.proofs.Spans.{early, honest, mine, scene_is, start}
 use Rattle.job_safety.proofs.Strange.{strange_last}
-use Rattle.job_safety.proofs.Spans.{start, scene_is, mine, honest, early}
+use Rattle.job_spec.specs.Follows.{known_then}
+use Rattle.job_spec.specs.OperationEnds.{Cleaned}
+use Rattle.job_spec.specs.Promise.{CleansEnd}
+use Rattle.job_spec.specs.States.{Doing, same_actor}
+use Rattle.job_spec.specs.Turns.{AllBy, AllFrom, before, by_actor, is_memory, since, until, until_last}
+use Rattle.job_steps.specs.Transitions.{Play, Reachable}
+use Rattle.job_traces.proofs.Changes.{after_parts}
+use Rattle.retries.specs.Operation.{Follows, run}
+use Rattle.retries.specs.Retries.{fresh}
+use Rattle.s3_types.specs.Moment.{AreHonest, after_all, effect, moment}
+use Rattle.s3_types.specs.Store.{Content, Scene}
+use Rattle.s3_types.specs.declared.journal.Entry.{Entry}
+use Rattle.s3_types.specs.declared.request.Actor.{Actor}
+use Rattle.s3_types.specs.declared.request.Actor.TheVariants.{Driver}
+use Rattle.std.proofs.Common.{Bool, List, None, Some, ap, append_assoc, arith, cond, false, inl, inr, length, refl, subst, sym, true, ℕ, []}
+use Rattle.std.proofs.Common.{◌++◌, ◌+◌, ◌||◌, ◌∙◌, ◌∷◌, ◌≡◌, ◌⊎◌}
+use Rattle.std.specs.List.{list_any}
+use Rattle.s3_types.specs.Store as store
+use Rattle.job_model.specs.declared.ends.CleanEnd.TheVariants as cleans
+use Rattle.job_model.specs.declared.ends.OpEnd.TheVariants as ends
 
 -- ---- a front of entries
 

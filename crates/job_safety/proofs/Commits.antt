@@ -1,20 +1,66 @@
 -- How the driver's commit ends in a run, and what it leaves.
-use Rattle.job_protocol.specs.Prelude.{Actor, Answered, Commit, CommitEnd, CommitOver, Content, Driver, Entry, Follows, IsIn, IsLegal, Known, Op, Reply, Reports, Running, Same, Scene, Script, Setting, TheCommit, Times, advance, commit_asks, commit_over, commit_start, commit_tells, is_begun, is_marked, is_untouched, list_any, moment, nothing_seen, option_map, over, run, see_all, set_read, set_request, start_of, view}
-use Rattle.job_safety.proofs.Common.{AreOwn, Bool, Closes, CommitEnded, CommitServed, CommitsEndAmong, Doing, HasPublished, IsOpening, IsRun, IsSome, List, None, Opens, Option, Play, Reachable, Some, Told, [], after_all, always, ap, append_assoc, arith, by_actor, clean_event, commit_alone, commit_moments, computed, cond, false, false_true, filter, first_not, happen, happens, in_back, in_commit, in_filter, inl, inr, is_run, is_wanting, known_then, length, missing, moment_scene, none_or_some, none_sent, none_some, nothing_told, open_running, operation_of, or_parts, own_front, refl, reverted_now, run_entries, same_actor, same_is, see_parts, seen_until, sees, some_is, subst, suc, sym, take_all, tell_all, tells_so, times, told_all, true, true_or_false, until, zero, ℕ, ◌&&◌, ◌++◌, ◌+◌, ◌<◌, ◌∙◌, ◌∷◌, ◌≡◌, ◌≤◌}
-use Rattle.job_spec.specs.Prelude.{Always, CommitsEnd, NoDeletionWorn, commit_due, first_worn, is_driver, is_reported, reports}
-use Rattle.job_steps.proofs.Reported.{all_published, last_more, reported}
-use Rattle.job_outcomes.specs.CommitRuns.{CommitStands, IsDue}
+use Rattle.basics.proofs.Members.{false_true, in_back, in_filter, none_or_some, none_some, some_is, true_or_false}
+use Rattle.basics.specs.Members.{IsIn}
+use Rattle.job_facts.specs.Standing.{HasPublished}
+use Rattle.job_facts.specs.Told.{Told, nothing_told, tell_all}
+use Rattle.job_model.specs.JobScript.{Script}
+use Rattle.job_model.specs.Known.{Known}
+use Rattle.job_model.specs.Legal.{IsLegal}
+use Rattle.job_model.specs.declared.ends.CommitEnd.{CommitEnd}
+use Rattle.job_model.specs.declared.events.Op.{Op}
 use Rattle.job_outcomes.proofs.Alone.{go_alone}
+use Rattle.job_outcomes.proofs.CommitMoments.{commit_moments, see_parts}
 use Rattle.job_outcomes.proofs.CommitRuns.{commit_runs, no_entry}
+use Rattle.job_outcomes.proofs.RunEntries.{run_entries}
 use Rattle.job_outcomes.proofs.Served.{commit_answers}
+use Rattle.job_outcomes.specs.CommitRuns.{CommitStands, IsDue}
+use Rattle.job_protocol.proofs.Begun.{commit_alone}
+use Rattle.job_protocol.specs.JobCommits.{Commit, CommitOver, commit_asks, commit_over, commit_start, commit_tells, is_untouched, set_read}
+use Rattle.job_protocol.specs.JobCommits.{set_request}
+use Rattle.job_protocol.specs.Operations.{Reports, Running, Setting, TheCommit, advance, over, start_of}
+use Rattle.job_protocol.specs.Seen.{Times, is_begun, is_marked, nothing_seen, see_all}
+use Rattle.job_protocol.specs.View.{Same, view}
+use Rattle.job_safety.proofs.After.{After, IsAfter, after_commit}
 use Rattle.job_safety.proofs.Cuts.{moment_cut}
-use Rattle.job_safety.proofs.Sorts.{driver_commit, kind_run, memory_commit, over_kind}
-use Rattle.job_safety.proofs.History.{Began, IsBegin}
 use Rattle.job_safety.proofs.Ending.{Ending, ahead_none, ending, until_own}
+use Rattle.job_safety.proofs.History.{Began, IsBegin}
+use Rattle.job_safety.proofs.Sorts.{driver_commit, kind_run, memory_commit, over_kind}
 use Rattle.job_safety.proofs.Spans.{mine, start}
 use Rattle.job_safety.proofs.Timed.{ahead_opened, ahead_start, number_is, opened_commit, picks_then, run_then, taken_then, unclean_then}
-use Rattle.job_safety.proofs.After.{After, IsAfter, after_commit}
-use Rattle.job_spec.specs.OperationEnds.{OnlyOpening}
+use Rattle.job_safety.specs.Laws.{CommitsEndAmong}
+use Rattle.job_spec.specs.Ends.{CommitEnded, commit_due, is_driver}
+use Rattle.job_spec.specs.Entries.{AreOwn}
+use Rattle.job_spec.specs.Follows.{known_then}
+use Rattle.job_spec.specs.Headline.{Always}
+use Rattle.job_spec.specs.OperationEnds.{CommitServed, NoDeletionWorn, OnlyOpening}
+use Rattle.job_spec.specs.Promise.{CommitsEnd, seen_until}
+use Rattle.job_spec.specs.States.{Doing, clean_event, first_not, is_reported, missing, reports, same_actor, times}
+use Rattle.job_spec.specs.Turns.{by_actor, is_wanting, until}
+use Rattle.job_steps.proofs.Actors.{same_is}
+use Rattle.job_steps.proofs.Reported.{all_published, last_more, reported}
+use Rattle.job_steps.proofs.Running.{is_run}
+use Rattle.job_steps.proofs.Told.{told_all}
+use Rattle.job_steps.specs.Running.{IsRun, operation_of}
+use Rattle.job_steps.specs.Transitions.{Closes, Opens, Play, Reachable, happen, happens, open_running}
+use Rattle.job_traces.proofs.Changes.{moment_scene}
+use Rattle.job_traces.proofs.Entries.{always, in_commit, reverted_now, sees, take_all, tells_so}
+use Rattle.job_traces.proofs.EveryRun.{own_front}
+use Rattle.job_traces.specs.Runs.{IsOpening}
+use Rattle.retries.proofs.First.{computed, none_sent}
+use Rattle.retries.specs.Operation.{Follows, run}
+use Rattle.retries.specs.Worn.{first_worn}
+use Rattle.s3_types.specs.Moment.{after_all, moment}
+use Rattle.s3_types.specs.Store.{Content, Scene}
+use Rattle.s3_types.specs.declared.journal.Entry.{Entry}
+use Rattle.s3_types.specs.declared.journal.Outcome.TheVariants.{Answered}
+use Rattle.s3_types.specs.declared.reply.Reply.{Reply}
+use Rattle.s3_types.specs.declared.request.Actor.{Actor}
+use Rattle.s3_types.specs.declared.request.Actor.TheVariants.{Driver}
+use Rattle.std.proofs.Common.{Bool, IsSome, List, None, Option, Some, ap, append_assoc, arith, cond, false, filter, inl, inr, length, refl}
+use Rattle.std.proofs.Common.{subst, suc, sym, true, zero, ℕ, [], ◌&&◌, ◌++◌, ◌+◌, ◌<◌, ◌∙◌, ◌∷◌, ◌≡◌, ◌≤◌}
+use Rattle.std.proofs.lemmas.Bool.{or_parts}
+use Rattle.std.specs.List.{list_any}
+use Rattle.std.specs.Option.{option_map}
 use Rattle.s3_types.specs.Store as store
 use Rattle.job_model.specs.declared.events.Op.TheVariants as ops
 use Rattle.job_model.specs.declared.ends.CommitEnd.TheVariants as commits
@@ -37,7 +83,8 @@ missing_below w f t e = let l : t < 0 + w.tasks = by 0 w.tasks e in omega arith
     by : (a n : ℕ) → first_not (is_reported w f) a n ≡ Some t → t < a + n
     by a zero e = absurd (none_some refl e)
     by a (suc n) e = elim (true_or_false (is_reported w f a)) [
-      | inl y ↦ let l : t < a + 1 + n = by (a + 1) n (sym (ap (λ b. cond b (first_not (is_reported w f) (a + 1) n) (Some a)) y) ∙ e) in omega arith
+      | inl y ↦ let l : t < a + 1 + n = by (a + 1) n (sym (ap (λ b. cond b (first_not (is_reported w f) (a + 1) n) (Some a)) y) ∙ e) in
+          omega arith
       | inr y ↦ let s : a ≡ t = some_is (sym (ap (λ b. cond b (first_not (is_reported w f) (a + 1) n) (Some a)) y) ∙ e) in omega (arith, s)
     ]
 
@@ -51,7 +98,8 @@ parted_at x [] i = absurd i
 parted_at x (y ∷ ys) (inl e) = ([], ys, ap (λ v. v ∷ ys) (sym e))
 parted_at x (y ∷ ys) (inr i) = let r = parted_at x ys i in (y ∷ r.0, r.1, ap (λ v. y ∷ v) r.2)
 
-module _ (g : Setting) (single : g.shared ≡ false) (opening : Content) (j : IsLegal g.script) (is_opening : IsOpening g opening) (x : Play) (run_x : Reachable g opening x) (idle : x.now ≡ None) where
+module _ (g : Setting) (single : g.shared ≡ false) (opening : Content) (j : IsLegal g.script) (is_opening : IsOpening g opening) (x : Play)
+    (run_x : Reachable g opening x) (idle : x.now ≡ None) where
   abbrev w : Script
   w = g.script
 
@@ -82,7 +130,8 @@ module _ (g : Setting) (single : g.shared ≡ false) (opening : Content) (j : Is
           | inr q ↦
               let o = ap (λ (m : Running). over m.operation) (some_is (sym n.running ∙ q.1)) ∙ q.2 in
               let b =
-              driver_commit g d.op d.reports known n.op n.begun_is (sym (kind_run g Driver (record { operation = n.op; known = known }) es) ∙ over_kind _ (ends.Commit e) o) in
+              driver_commit g d.op d.reports known n.op n.begun_is (sym (kind_run g Driver (record { operation = n.op; known = known }) es)
+              ∙ over_kind _ (ends.Commit e) o) in
               (b.0, b.1 ∙ commit_alone g d.reports single)
         ]
 
@@ -91,7 +140,8 @@ module _ (g : Setting) (single : g.shared ≡ false) (opening : Content) (j : Is
     led = run (commit_tells w) (commit_start w d.reports.missing) es
 
     leads_alone : (run (advance g Driver) (record { operation = n.op; known = known }) es).operation ≡ TheCommit led
-    leads_alone = ap (λ v. (run (advance g Driver) (record { operation = v; known = known }) es).operation) begun.1 ∙ go_alone.commit_run g Driver known (commit_start w d.reports.missing) es
+    leads_alone = ap (λ v. (run (advance g Driver) (record { operation = v; known = known }) es).operation) begun.1 ∙ go_alone.commit_run g
+        Driver known (commit_start w d.reports.missing) es
 
     driver_is : operation_of (z.running Driver) ≡ Some (TheCommit led)
     driver_is = ap operation_of n.running ∙ ap (λ v. Some v) leads_alone
@@ -110,15 +160,19 @@ module _ (g : Setting) (single : g.shared ≡ false) (opening : Content) (j : Is
 
     opened_alone : operation_of (open_running g s.at s.event Driver) ≡ Some (TheCommit (commit_start w (missing w s.at.past.reported)))
     opened_alone =
-        opened_commit g opening j is_opening x run_x idle i d (ends.Commit e) es n begun.0 s.event (subst (λ v. IsBegin s.event Driver v) begun.0 s.begins)
+        opened_commit g opening j is_opening x run_x idle i d (ends.Commit e) es n begun.0 s.event
+        (subst (λ v. IsBegin s.event Driver v) begun.0 s.begins)
         ∙ ap (λ op. Some op) (commit_alone g (reports w s.at.past.reported) single)
 
     -- ---- its entries and its missing task
 
     commit_is_es : then.stand.commit ≡ es
-    commit_is_es = run_entries.commit g single k opening z.journal then.stand then.runs led at_led ∙ ap (λ v. filter (λ (u : Entry). is_begun v u.event) (by_actor Driver z.journal)) (number_is g opening j is_opening x run_x idle i d (ends.Commit e) es n begun.0) ∙ sym n.entries_are
+    commit_is_es = run_entries.commit g single k opening z.journal then.stand then.runs led at_led ∙ ap
+        (λ v. filter (λ (u : Entry). is_begun v u.event) (by_actor Driver z.journal))
+        (number_is g opening j is_opening x run_x idle i d (ends.Commit e) es n begun.0) ∙ sym n.entries_are
 
-    commit_leads : (missing : Option ℕ) → run (commit_tells w) (commit_start w missing) then.stand.commit ≡ run (commit_tells w) (commit_start w missing) es
+    commit_leads : (missing : Option ℕ) → run (commit_tells w) (commit_start w missing) then.stand.commit ≡ run (commit_tells w)
+        (commit_start w missing) es
     commit_leads missing = ap (run (commit_tells w) (commit_start w missing)) commit_is_es
 
     missing_is : (c : Commit) (h : CommitStands g then.stand c) → c ≡ led → h.missing ≡ d.reports.missing
@@ -129,9 +183,12 @@ module _ (g : Setting) (single : g.shared ≡ false) (opening : Content) (j : Is
     -- the driver has not cleaned up as it began
     unclean : (tell_all w (nothing_told (clean_event w x.ends)) s.at.journal).cleaned ≡ false
     unclean =
-        let r = is_run g opening j is_opening (happen g s.at (Opens s.event)) (happens s.at (Opens s.event) s.happened s.may) x.ends (ahead_opened g opening j is_opening x run_x idle i d (ends.Commit e) es n) in
+        let r = is_run g opening j is_opening (happen g s.at (Opens s.event)) (happens s.at (Opens s.event) s.happened s.may) x.ends
+        (ahead_opened g opening j is_opening x run_x idle i d (ends.Commit e) es n) in
         let at : r.stand.driver ≡ Some (TheCommit (commit_start w (missing w s.at.past.reported))) = r.driver ∙ opened_alone in
-        sym (ap (λ (m : Told). m.cleaned) (tells_so g k opening j is_opening s.at.journal r.stand r.runs) ∙ ap (λ c. (tell_all w (nothing_told c) s.at.journal).cleaned) r.cleans) ∙ (in_commit g k opening j is_opening s.at.journal r.stand r.runs (commit_start w (missing w s.at.past.reported)) at).2.uncleaned
+        sym (ap (λ (m : Told). m.cleaned) (tells_so g k opening j is_opening s.at.journal r.stand r.runs) ∙ ap
+        (λ c. (tell_all w (nothing_told c) s.at.journal).cleaned) r.cleans) ∙
+        (in_commit g k opening j is_opening s.at.journal r.stand r.runs (commit_start w (missing w s.at.past.reported)) at).2.uncleaned
 
     -- where it has sent a request no task was missing, and each has a last publisher from then on
     none_missing : (u : Entry) → IsIn u es → d.reports.missing ≡ None
@@ -139,15 +196,21 @@ module _ (g : Setting) (single : g.shared ≡ false) (opening : Content) (j : Is
       | inl none ↦ none
       | inr t ↦
           let h = commit_runs.stands g j k opening is_opening z.journal then.stand then.runs led at_led in
-          let f = subst (λ l. Follows (commit_asks w) (commit_tells w) (CommitOver (commits.Missing t.0)) l) commit_is_es (subst (λ o. Follows (commit_asks w) (commit_tells w) (commit_start w o) then.stand.commit) (missing_is led h refl ∙ t.1) h.follows) in
+          let f = subst (λ l. Follows (commit_asks w) (commit_tells w) (CommitOver (commits.Missing t.0)) l) commit_is_es
+          (subst (λ o. Follows (commit_asks w) (commit_tells w) (commit_start w o) then.stand.commit) (missing_is led h refl ∙ t.1)
+          h.follows) in
           absurd (subst (IsIn u) (no_entry w (commits.Missing t.0) es f) i)
     ]
 
-    published : (u : Entry) → IsIn u es → (b : List Entry) (t : ℕ) → t < w.tasks → HasPublished (see_all w k (nothing_seen opening) (s.at.journal ++ b)) t
+    published : (u : Entry) → IsIn u es → (b : List Entry) (t : ℕ) → t < w.tasks
+        → HasPublished (see_all w k (nothing_seen opening) (s.at.journal ++ b)) t
     published u sent b t low =
         let none : missing w s.at.past.reported ≡ None = sym (ap (λ (r : Reports). r.missing) s.reports_is) ∙ none_missing u sent in
-        let told = all_published w s.at.past.reported (see_all w k (nothing_seen opening) s.at.journal) (reported g opening j is_opening x.ends s.at s.happened (ahead_start g opening j is_opening x run_x idle i d (ends.Commit e) es n) unclean).past none t low in
-        subst (λ v. HasPublished v t) (sym (see_parts w k (nothing_seen opening) s.at.journal b)) (last_more w k (see_all w k (nothing_seen opening) s.at.journal) b t told)
+        let told = all_published w s.at.past.reported (see_all w k (nothing_seen opening) s.at.journal)
+        (reported g opening j is_opening x.ends s.at s.happened (ahead_start g opening j is_opening x run_x idle i d (ends.Commit e) es
+        n) unclean).past none t low in
+        subst (λ v. HasPublished v t) (sym (see_parts w k (nothing_seen opening) s.at.journal b))
+        (last_more w k (see_all w k (nothing_seen opening) s.at.journal) b t told)
 
     none_of : (f : Entry → Bool) (u : Entry) (l : List Entry) → list_any f l ≡ false → IsIn u l → f u ≡ false
     none_of f u [] h i = absurd i
@@ -157,18 +220,24 @@ module _ (g : Setting) (single : g.shared ≡ false) (opening : Content) (j : Is
     -- none of its entries is behind the beginning of an abort or clean
     before_clean : (u : Entry) → IsIn u es → is_begun k.clean u.event ≡ false
     before_clean u here_in =
-        let own = in_filter (λ (v : Entry). same_actor v.actor Driver) u s.entries (subst (IsIn u) (mine g opening x i Driver d (ends.Commit e) es n) here_in) in
+        let own = in_filter (λ (v : Entry). same_actor v.actor Driver) u s.entries
+        (subst (IsIn u) (mine g opening x i Driver d (ends.Commit e) es n) here_in) in
         let here : IsIn u z.journal = subst (IsIn u) (sym s.all) (in_back u s.at.journal s.entries own.0) in
         let clean = unclean_then g opening j is_opening x run_x idle i d (ends.Commit e) es n led at_led in
-        sym (ap (λ a. is_driver a && is_begun k.clean u.event) (same_is u.actor Driver own.1)) ∙ none_of (λ v. is_driver v.actor && is_begun k.clean v.event) u z.journal clean here
+        sym (ap (λ a. is_driver a && is_begun k.clean u.event) (same_is u.actor Driver own.1)) ∙ none_of
+        (λ v. is_driver v.actor && is_begun k.clean v.event) u z.journal clean here
 
-    read_there : (before : List Entry) (u : Entry) (later : List Entry) (t : ℕ) (r : Reply) → es ≡ before ++ u ∷ later → u.request ≡ set_request w.committer w t → u.outcome ≡ Answered r → IsSome (set_read r)
+    read_there : (before : List Entry) (u : Entry) (later : List Entry) (t : ℕ) (r : Reply) → es ≡ before ++ u ∷ later
+        → u.request ≡ set_request w.committer w t → u.outcome ≡ Answered r → IsSome (set_read r)
     read_there before u later t r is asks got =
         let one : IsIn u es = subst (IsIn u) (sym is) (in_back u before (u ∷ later) (inl refl)) in
-        let own = in_filter (λ (v : Entry). same_actor v.actor Driver) u s.entries (subst (IsIn u) (mine g opening x i Driver d (ends.Commit e) es n) one) in
+        let own = in_filter (λ (v : Entry). same_actor v.actor Driver) u s.entries
+        (subst (IsIn u) (mine g opening x i Driver d (ends.Commit e) es n) one) in
         let at = parted_at u s.entries own.0 in
-        let all : z.journal ≡ (s.at.journal ++ at.0) ++ u ∷ at.1 = s.all ∙ ap (λ l. s.at.journal ++ l) at.2 ∙ sym (append_assoc s.at.journal at.0 (u ∷ at.1)) in
-        elim (commit_answers.there g j k opening is_opening z.journal then.stand then.runs (s.at.journal ++ at.0) u at.1 t r all (same_is u.actor Driver own.1) (before_clean u one) asks got) [
+        let all : z.journal ≡ (s.at.journal ++ at.0) ++ u ∷ at.1 = s.all ∙ ap (λ l. s.at.journal ++ l) at.2 ∙ sym
+        (append_assoc s.at.journal at.0 (u ∷ at.1)) in
+        elim (commit_answers.there g j k opening is_opening z.journal then.stand then.runs (s.at.journal ++ at.0) u at.1 t r all
+        (same_is u.actor Driver own.1) (before_clean u one) asks got) [
           | inl some ↦ some
           | inr none ↦ absurd (none_some none.2 (published u one at.0 none.0 none.1).1)
         ]
@@ -176,7 +245,8 @@ module _ (g : Setting) (single : g.shared ≡ false) (opening : Content) (j : Is
     served_so : CommitServed w es
     served_so = record {
       sets = read_there;
-      completions = λ before u later why is stage got. commit_answers.refused g j k opening is_opening z.journal then.stand then.runs led at_led before u later why (commit_is_es ∙ is) stage got;
+      completions = λ before u later why is stage got. commit_answers.refused g j k opening is_opening z.journal then.stand then.runs led
+          at_led before u later why (commit_is_es ∙ is) stage got;
     }
 
     -- ---- one that ended otherwise than for want of memory
@@ -195,11 +265,17 @@ module _ (g : Setting) (single : g.shared ≡ false) (opening : Content) (j : Is
 
       due_so : CommitEnded w (seen_until w opening x.journal x.ends (i + 1)) d.reports.missing es e
       due_so =
-          let o : CommitEnded w then.stand.seen d.reports.missing es e = subst (λ l. CommitEnded w then.stand.seen d.reports.missing l e) commit_is_es (commit_runs.ended g j k opening is_opening z.journal then.stand then.runs e at_end d.reports.missing (commit_leads d.reports.missing ∙ leads)) in
+          let o : CommitEnded w then.stand.seen d.reports.missing es e = subst (λ l. CommitEnded w then.stand.seen d.reports.missing l e)
+          commit_is_es (commit_runs.ended g j k opening is_opening z.journal then.stand then.runs e at_end d.reports.missing
+          (commit_leads d.reports.missing ∙ leads)) in
           record {
             worn = o.worn;
             first = o.first;
-            due = elim o.due [ inl memory ↦ inl memory | inr is ↦ inr (is ∙ ap (λ p. commit_due w p d.reports.missing o.worn) (picks_then g opening j is_opening x run_x idle i d (ends.Commit e) es n)) ];
+            due = elim o.due [
+              | inl memory ↦ inl memory
+              | inr is ↦ inr (is ∙ ap (λ p. commit_due w p d.reports.missing o.worn)
+                  (picks_then g opening j is_opening x run_x idle i d (ends.Commit e) es n))
+            ];
             answered = o.answered;
           }
 
@@ -213,36 +289,49 @@ module _ (g : Setting) (single : g.shared ≡ false) (opening : Content) (j : Is
         own_until = until_own g opening x run_x idle alone i n.event_end n.closed
 
         marked_so : e ≡ commits.Committed → is_marked w (seen_until w opening x.journal x.ends (i + 1)) ≡ true
-        marked_so is = ap (is_marked w) (sym (sees g k opening j is_opening z.journal then.stand then.runs ∙ ap (see_all w k (nothing_seen opening)) (sym (taken_then g opening j is_opening x run_x idle i d (ends.Commit e) es n ∙ own_until)))) ∙ commit_runs.marked g j k opening is_opening z.journal then.stand then.runs alone_then (at_end ∙ ap (λ v. Some (TheCommit (CommitOver v))) is)
+        marked_so is = ap (is_marked w) (sym (sees g k opening j is_opening z.journal then.stand then.runs ∙ ap
+            (see_all w k (nothing_seen opening)) (sym (taken_then g opening j is_opening x run_x idle i d (ends.Commit e) es n ∙
+            own_until)))) ∙ commit_runs.marked g j k opening is_opening z.journal then.stand then.runs alone_then
+            (at_end ∙ ap (λ v. Some (TheCommit (CommitOver v))) is)
 
         scene_then : moment opening x.journal (length (until (i + 1) x.journal)) ≡ then.stand.seen.scene
         scene_then =
-            ap (λ l. moment opening x.journal (length l)) own_until ∙ ap (λ l. moment opening l (length z.journal)) n.closed.all ∙ moment_cut opening z.journal n.closed.entries
+            ap (λ l. moment opening x.journal (length l)) own_until ∙ ap (λ l. moment opening l (length z.journal)) n.closed.all ∙
+            moment_cut opening z.journal n.closed.entries
             ∙ sym (ap (after_all (store.opening opening)) (take_all z.journal (length z.journal) (omega arith)))
             ∙ moment_scene g k opening j is_opening z.journal then.stand then.runs
 
-        reverted_so : e ≡ commits.StoreFault stages.Complete → NoDeletionWorn w.retries es → OnlyOpening w opening (moment opening x.journal (length (until (i + 1) x.journal))).content
+        reverted_so : e ≡ commits.StoreFault stages.Complete → NoDeletionWorn w.retries es
+            → OnlyOpening w opening (moment opening x.journal (length (until (i + 1) x.journal))).content
         reverted_so is none =
-            let d : then.stand.driver ≡ Some (TheCommit (CommitOver (commits.StoreFault stages.Complete))) = at_end ∙ ap (λ v. Some (TheCommit (CommitOver v))) is in
-            subst (λ (v : Scene). OnlyOpening w opening v.content) (sym scene_then) (reverted_now g k opening j is_opening z.journal then.stand then.runs alone_then d (subst (NoDeletionWorn w.retries) (sym commit_is_es) none))
+            let d : then.stand.driver ≡ Some (TheCommit (CommitOver (commits.StoreFault stages.Complete))) = at_end ∙ ap
+            (λ v. Some (TheCommit (CommitOver v))) is in
+            subst (λ (v : Scene). OnlyOpening w opening v.content) (sym scene_then)
+            (reverted_now g k opening j is_opening z.journal then.stand then.runs alone_then d
+            (subst (NoDeletionWorn w.retries) (sym commit_is_es) none))
 
       -- ---- where it ended before its first completion
 
       missed_below : (t : ℕ) → e ≡ commits.Missing t → t < w.tasks
       missed_below t is =
           let at : IsDue w stands.missing stands.sets (commits.Missing t) = subst (IsDue w stands.missing stands.sets) is stands.at in
-          missing_below w s.at.past.reported t (sym (ap (λ (r : Reports). r.missing) s.reports_is) ∙ sym (missing_is (CommitOver e) stands (sym leads)) ∙ at.0)
+          missing_below w s.at.past.reported t (sym (ap (λ (r : Reports). r.missing) s.reports_is) ∙ sym
+          (missing_is (CommitOver e) stands (sym leads)) ∙ at.0)
 
       -- what came behind it
       behind : After g single opening j is_opening (happen g z (Closes n.event_end)) x
-      behind = after_commit g single opening j is_opening (happen g z (Closes n.event_end)) x n.closed.since_then (subst IsAfter (sym (driver_is ∙ ap (λ c. Some (TheCommit c)) leads)) tt)
+      behind = after_commit g single opening j is_opening (happen g z (Closes n.event_end)) x n.closed.since_then
+          (subst IsAfter (sym (driver_is ∙ ap (λ c. Some (TheCommit c)) leads)) tt)
 
-      untouched_so : AreOwn x.journal → is_untouched e ≡ true → (m : ℕ) → m ≤ length x.journal → Same (view w.dest (moment opening x.journal m).content) (view w.dest opening)
+      untouched_so : AreOwn x.journal → is_untouched e ≡ true → (m : ℕ) → m ≤ length x.journal
+          → Same (view w.dest (moment opening x.journal m).content) (view w.dest opening)
       untouched_so alone u m l =
           let now = is_run g opening j is_opening x run_x x.ends (ahead_none x idle) in
-          let all : Always w k opening (z.journal ++ behind.more) = subst (Always w k opening) behind.all (always g k opening j is_opening x.journal now.stand now.runs alone) in
+          let all : Always w k opening (z.journal ++ behind.more) = subst (Always w k opening) behind.all
+          (always g k opening j is_opening x.journal now.stand now.runs alone) in
           subst (λ v. m ≤ length v → Same (view w.dest (moment opening v m).content) (view w.dest opening)) (sym behind.all)
-          (commit_moments.untouched g j k opening is_opening z.journal then.stand then.runs e at_end u missed_below behind.more behind.none all m) l
+          (commit_moments.untouched g j k opening is_opening z.journal then.stand then.runs e at_end u missed_below behind.more behind.none
+          all m) l
 
   -- ---- any end
 
@@ -268,8 +357,19 @@ module _ (g : Setting) (single : g.shared ≡ false) (opening : Content) (j : Is
       let both = commits_among i d e es h in
       record {
         due = λ own. both.0;
-        marked = λ is own. elim n.ended [ inl memory ↦ (let no : commits.NoMemory ≡ commits.Committed = sym (memory_commit e memory) ∙ is in absurd cc) | inr o ↦ marked_so i d e es n o own is ];
-        untouched = λ u own. elim n.ended [ inl memory ↦ absurd (false_true (ap is_untouched (memory_commit e memory)) u) | inr o ↦ untouched_so i d e es n o own u ];
-        reverted = λ is none own. elim n.ended [ inl memory ↦ (let no : commits.NoMemory ≡ commits.StoreFault stages.Complete = sym (memory_commit e memory) ∙ is in absurd cc) | inr o ↦ reverted_so i d e es n o own is none ];
+        marked = λ is own. elim n.ended [
+          | inl memory ↦ (let no : commits.NoMemory ≡ commits.Committed = sym (memory_commit e memory) ∙ is in
+              absurd cc)
+          | inr o ↦ marked_so i d e es n o own is
+        ];
+        untouched = λ u own. elim n.ended [
+          | inl memory ↦ absurd (false_true (ap is_untouched (memory_commit e memory)) u)
+          | inr o ↦ untouched_so i d e es n o own u
+        ];
+        reverted = λ is none own. elim n.ended [
+          | inl memory ↦ (let no : commits.NoMemory ≡ commits.StoreFault stages.Complete = sym
+              (memory_commit e memory) ∙ is in absurd cc)
+          | inr o ↦ reverted_so i d e es n o own is none
+        ];
         served = λ own. both.1;
       }

@@ -1,29 +1,47 @@
 -- That the facts of one job hold of what happened in its run, at each moment from the end of its set-up on.
-use Rattle.job_safety.proofs.Common.{Actor, ActorStage, ActorState, Ahead, Attempt, Busy, Closes, Content, Do, Driver, Entry, Event}
-use Rattle.job_safety.proofs.Common.{EventEnd, Finishes, Hold, IsLegal, IsOpening, List, MayFinish, None, Op, OpEnd, Opens, Past, Play}
-use Rattle.job_safety.proofs.Common.{Reachable, Refused, Refuses, RunsHoldFacts, Running, Script, Seen, Sends, Setting, Some, Start, Strays}
-use Rattle.job_safety.proofs.Common.{Told}
-use Rattle.job_safety.proofs.Common.{[], ap, arith, carried, clean_event, closed_ahead, ended, false, false_true, filter-append}
-use Rattle.job_safety.proofs.Common.{finished_ahead, happen, happens, inl, inr, is_memory, is_new, is_run, late_now, length, may_end}
-use Rattle.job_safety.proofs.Common.{memory_dies, not_refused, not_so, nothing_happened, nothing_seen, nothing_told, open_event}
-use Rattle.job_safety.proofs.Common.{opened_ahead}
-use Rattle.job_safety.proofs.Common.{over, past, put, refl, refused_ahead, see_all, sees, sent_ahead, slice_get, strange_entry}
-use Rattle.job_safety.proofs.Common.{strayed_ahead}
-use Rattle.job_safety.proofs.Common.{subst, sym, take, take-append-le, take_all, tell_all, tells_so, times, told_all, true, until}
-use Rattle.job_safety.proofs.Common.{until_all}
-use Rattle.job_safety.proofs.Common.{ℕ, ◌++◌, ◌+◌, ◌<◌, ◌∙◌, ◌∷◌, ◌≡◌, ◌≤◌, ◌⊎◌, Bool, nat_le}
-use Rattle.std.specs.Prelude.{suc, zero}
-use Rattle.std.proofs.Common.{length-append}
-use Rattle.std.proofs.lemmas.Bool.{cases_lt}
-use Rattle.std.proofs.lemmas.List.{take_all as taken}
-use Rattle.job_model.specs.declared.events.Event.TheVariants.{Kill, Mix, Recover, Restart, Run, Step}
-use Rattle.job_model.specs.declared.events.Op.TheVariants as ops
-use Rattle.job_spec.specs.States.{dead, restarted, stage_begun}
-use Rattle.s3_types.specs.declared.request.Actor.TheVariants.{Shell}
-use Rattle.job_steps.proofs.Parts.{up_to_more}
-use Rattle.job_steps.proofs.RunningAlong.{actor_ends, busy_at}
-use Rattle.job_steps.proofs.RunningStages.{restarted_new}
+use Rattle.basics.proofs.Bools.{not_so}
+use Rattle.basics.proofs.Members.{false_true}
+use Rattle.job_facts.specs.Facts.{Hold}
+use Rattle.job_facts.specs.Told.{Told, nothing_told, strange_entry, tell_all}
+use Rattle.job_model.specs.JobScript.{Script}
+use Rattle.job_model.specs.Legal.{IsLegal}
+use Rattle.job_model.specs.declared.ends.EventEnd.{EventEnd}
+use Rattle.job_model.specs.declared.ends.EventEnd.TheVariants.{Refused}
+use Rattle.job_model.specs.declared.ends.OpEnd.{OpEnd}
+use Rattle.job_model.specs.declared.events.Event.{Event}
+use Rattle.job_model.specs.declared.events.Event.TheVariants.{Do, Kill, Mix, Recover, Restart, Run, Start, Step}
+use Rattle.job_model.specs.declared.events.Op.{Op}
+use Rattle.job_model.specs.declared.states.ActorStage.{ActorStage}
+use Rattle.job_model.specs.declared.states.ActorState.{ActorState}
+use Rattle.job_model.specs.declared.states.Life.TheVariants.{Busy}
+use Rattle.job_protocol.specs.Operations.{Running, Setting, over}
+use Rattle.job_protocol.specs.Seen.{Seen, nothing_seen, see_all}
 use Rattle.job_safety.proofs.Ending.{ahead_none}
+use Rattle.job_safety.specs.Laws.{RunsHoldFacts}
+use Rattle.job_spec.specs.States.{Past, clean_event, dead, ended, is_new, open_event, past, put, restarted, stage_begun, times}
+use Rattle.job_spec.specs.Turns.{is_memory, until}
+use Rattle.job_steps.proofs.Parts.{until_all, up_to_more}
+use Rattle.job_steps.proofs.Running.{carried, closed_ahead, finished_ahead, is_run, not_refused, opened_ahead, refused_ahead, sent_ahead}
+use Rattle.job_steps.proofs.Running.{strayed_ahead}
+use Rattle.job_steps.proofs.RunningAlong.{actor_ends, busy_at}
+use Rattle.job_steps.proofs.RunningStages.{may_end, memory_dies, restarted_new}
+use Rattle.job_steps.proofs.Told.{told_all}
+use Rattle.job_steps.specs.Running.{Ahead}
+use Rattle.job_steps.specs.Transitions.{Closes, Finishes, MayFinish, Opens, Play, Reachable, Refuses, Sends, Strays, happen, happens}
+use Rattle.job_steps.specs.Transitions.{nothing_happened}
+use Rattle.job_traces.proofs.Entries.{late_now, sees, take_all, tells_so}
+use Rattle.job_traces.specs.Runs.{IsOpening}
+use Rattle.s3_types.specs.Store.{Content}
+use Rattle.s3_types.specs.declared.journal.Entry.{Entry}
+use Rattle.s3_types.specs.declared.request.Actor.{Actor}
+use Rattle.s3_types.specs.declared.request.Actor.TheVariants.{Attempt, Driver, Shell}
+use Rattle.std.proofs.Common.{Bool, List, None, Some, ap, arith, false, inl, inr, length, length-append, nat_le, refl, slice_get, subst}
+use Rattle.std.proofs.Common.{sym, take, true, ℕ, [], ◌++◌, ◌+◌, ◌<◌, ◌∙◌, ◌∷◌, ◌≡◌, ◌≤◌, ◌⊎◌}
+use Rattle.std.proofs.lemmas.Bool.{cases_lt}
+use Rattle.std.proofs.lemmas.List.{take-append-le, take_all as taken}
+use Rattle.std.proofs.lemmas.List.Elements.{filter-append}
+use Rattle.std.specs.Prelude.{suc, zero}
+use Rattle.job_model.specs.declared.events.Op.TheVariants as ops
 
 -- ---- the driver does not come back to its first stage
 

@@ -1,10 +1,19 @@
 -- That all that is promised of a job holds of what happened in its run.
-use Rattle.job_safety.proofs.Common.{Plays, RunsAreKept, RunsAreKeptAmong, Script, Setting, always, ap, false, happenings_play, is_run, runs_outside, runs_rename, subst, sym, times, ℕ, ◌∙◌}
-use Rattle.job_safety.proofs.Ending.{ahead_none}
-use Rattle.job_safety.proofs.Setups.{setups_kept, setups_among}
-use Rattle.job_safety.proofs.Tasks.{tasks_kept, publishes_kept}
+use Rattle.job_model.specs.JobScript.{Script}
+use Rattle.job_protocol.specs.Operations.{Setting}
 use Rattle.job_safety.proofs.Cleans.{cleans_kept}
-use Rattle.job_safety.proofs.Commits.{commits_kept, commits_among}
+use Rattle.job_safety.proofs.Commits.{commits_among, commits_kept}
+use Rattle.job_safety.proofs.Ending.{ahead_none}
+use Rattle.job_safety.proofs.Setups.{setups_among, setups_kept}
+use Rattle.job_safety.proofs.Tasks.{publishes_kept, tasks_kept}
+use Rattle.job_safety.specs.Laws.{RunsAreKept, RunsAreKeptAmong}
+use Rattle.job_spec.specs.Follows.{Plays}
+use Rattle.job_spec.specs.States.{times}
+use Rattle.job_steps.proofs.Played.{happenings_play}
+use Rattle.job_steps.proofs.Running.{is_run}
+use Rattle.job_traces.proofs.Changes.{runs_outside, runs_rename}
+use Rattle.job_traces.proofs.Entries.{always}
+use Rattle.std.proofs.Common.{ap, false, subst, sym, ℕ, ◌∙◌}
 
 -- a setting with this least size of a part
 abbrev with_least : Script → ℕ → Setting
@@ -32,7 +41,8 @@ runs_are_kept g single opening x j is_opening run idle ps are =
       always = always g (times g.script x.ends) opening j is_opening x.journal r.stand r.runs;
       plays =
           subst (λ s. Plays s x.ends x.journal)
-          (sym (ap (with_least g.script) is_opening.least ∙ ap (λ b. record { script = g.script; minimum = g.minimum; shared = b }) (sym single))) among.plays;
+          (sym (ap (with_least g.script) is_opening.least ∙ ap (λ b. record { script = g.script; minimum = g.minimum; shared = b })
+          (sym single))) among.plays;
       picks = among.picks;
       zero_rename = among.zero_rename;
       outside = runs_outside g (times g.script x.ends) opening j is_opening x.journal r.stand r.runs;

@@ -13,4 +13,3 @@ pub mod Timed
 pub mod Commits
 pub mod Facts
 pub mod Kept
-mod Common

@@ -1,14 +1,37 @@
 -- Of which kind an operation is, from its beginning to its end.
-use Rattle.job_safety.proofs.Common.{Actor, CleanEnd, CommitEnd, Driver, Entry, Known, List, Op, OpEnd, Operation, Outcome, Reports, Running, Setting, SetupEnd, Some, TaskEnd, TheCheck, TheClean, TheCommit, TheSetup, TheSparing, Who, [], advance, ap, arith, check_over, clean_of, clean_over, commit_of, commit_of_so, commit_over, end_of, fresh, is_memory, over, refl, run, setup_over, setup_start, start_of, tells, true, who, ◌∙◌, ◌∷◌, ◌≡◌, ◌⊎◌}
+use Rattle.basics.proofs.Options.{end_of}
+use Rattle.job_model.specs.Attempts.{Who}
+use Rattle.job_model.specs.Known.{Known}
+use Rattle.job_model.specs.declared.ends.CheckEnd.{CheckEnd}
+use Rattle.job_model.specs.declared.ends.CleanEnd.{CleanEnd}
+use Rattle.job_model.specs.declared.ends.CommitEnd.{CommitEnd}
+use Rattle.job_model.specs.declared.ends.OpEnd.{OpEnd}
+use Rattle.job_model.specs.declared.ends.SetupEnd.{SetupEnd}
+use Rattle.job_model.specs.declared.ends.TaskEnd.{TaskEnd}
+use Rattle.job_model.specs.declared.events.Op.{Op}
+use Rattle.job_protocol.proofs.Begun.{commit_of_so}
+use Rattle.job_protocol.specs.Cleanups.{clean_over}
+use Rattle.job_protocol.specs.JobCommits.{commit_over}
+use Rattle.job_protocol.specs.Operations.{Operation, Reports, Running, Setting, TheCheck, TheClean, TheCommit, TheSetup, TheSparing}
+use Rattle.job_protocol.specs.Operations.{advance, clean_of, commit_of, over, start_of, tells, who}
+use Rattle.job_protocol.specs.Rechecks.{check_over}
+use Rattle.job_protocol.specs.Setup.{setup_over, setup_start}
+use Rattle.job_protocol.specs.Sparing.{sparing_over}
+use Rattle.job_spec.specs.Turns.{is_memory}
+use Rattle.retries.specs.Operation.{run}
+use Rattle.retries.specs.Retries.{fresh}
+use Rattle.s3_types.specs.declared.journal.Entry.{Entry}
+use Rattle.s3_types.specs.declared.journal.Outcome.{Outcome}
+use Rattle.s3_types.specs.declared.request.Actor.{Actor}
+use Rattle.s3_types.specs.declared.request.Actor.TheVariants.{Driver}
+use Rattle.std.proofs.Common.{List, Some, ap, arith, refl, true, [], ◌∙◌, ◌∷◌, ◌≡◌, ◌⊎◌}
 use Rattle.job_model.specs.declared.events.Op.TheVariants as ops
 use Rattle.job_model.specs.declared.ends.SetupEnd.TheVariants as setups
 use Rattle.job_model.specs.declared.ends.TaskEnd.TheVariants as tasks
 use Rattle.job_model.specs.declared.ends.CommitEnd.TheVariants as commits
 use Rattle.job_model.specs.declared.ends.CleanEnd.TheVariants as cleans
-use Rattle.job_model.specs.declared.ends.CheckEnd.{CheckEnd}
 use Rattle.job_model.specs.declared.ends.CheckEnd.TheVariants as checks
 use Rattle.job_model.specs.declared.ends.OpEnd.TheVariants as ends
-use Rattle.job_protocol.specs.Sparing.{sparing_over}
 
 pub data Kind : Type 0 where
   OfSetup : Kind
@@ -52,14 +75,17 @@ kind_run g a m (e ∷ es) = kind_run g a (advance g a m e.outcome) es ∙ kind_t
 commit_kind : (g : Setting) (r : Reports) → kind (commit_of g r) ≡ OfCommit
 commit_kind g r = commit_of_so g (λ op. kind op ≡ OfCommit) (λ missing. refl) (λ t. refl) r
 
-pub driver_setup : (g : Setting) (op : Op) (reports : Reports) (k : Known) (m : Operation) → start_of g Driver op reports k ≡ Some m → kind m ≡ OfSetup → m ≡ TheSetup (fresh g.script.retries setup_start)
+pub driver_setup : (g : Setting) (op : Op) (reports : Reports) (k : Known) (m : Operation) → start_of g Driver op reports k ≡ Some m
+    → kind m ≡ OfSetup → m ≡ TheSetup (fresh g.script.retries setup_start)
 driver_setup g op reports k m h e = grind arith
 
 -- a commit, or the check before it; and an abort or clean
-pub driver_commit : (g : Setting) (op : Op) (reports : Reports) (k : Known) (m : Operation) → start_of g Driver op reports k ≡ Some m → kind m ≡ OfCommit → (op ≡ ops.Commit) × (m ≡ commit_of g reports)
+pub driver_commit : (g : Setting) (op : Op) (reports : Reports) (k : Known) (m : Operation) → start_of g Driver op reports k ≡ Some m
+    → kind m ≡ OfCommit → (op ≡ ops.Commit) × (m ≡ commit_of g reports)
 driver_commit g op reports k m h e = grind arith
 
-pub driver_clean : (g : Setting) (op : Op) (reports : Reports) (k : Known) (m : Operation) → start_of g Driver op reports k ≡ Some m → kind m ≡ OfClean → ((op ≡ ops.Abort) ⊎ (op ≡ ops.Clean)) × (m ≡ clean_of g)
+pub driver_clean : (g : Setting) (op : Op) (reports : Reports) (k : Known) (m : Operation) → start_of g Driver op reports k ≡ Some m
+    → kind m ≡ OfClean → ((op ≡ ops.Abort) ⊎ (op ≡ ops.Clean)) × (m ≡ clean_of g)
 driver_clean g op reports k m h e = grind arith
 
 -- ---- ends for want of memory

@@ -1,11 +1,24 @@
 -- The journal of a run where an operation began and ended: what was before, what was between, and what the actor itself sent.
-use Rattle.job_safety.proofs.Common.{Actor, AllFrom, AllUpTo, AreHonest, Content, Doing, Entry, List, OpEnd, Play, Setting, after_all, after_parts, ap, append_assoc, arith, before, by_actor, honest_back, length, moment, since, subst, sym, told_all, ℕ, ◌++◌, ◌+◌, ◌∙◌, ◌≡◌, ◌≤◌}
-use Rattle.s3_types.specs.Store as store
-use Rattle.job_safety.proofs.Cuts.{from_more, before_front, before_cut, since_cut, before_by_front, since_by_cut, moment_cut}
-use Rattle.job_safety.proofs.History.{Began, began}
+use Rattle.job_model.specs.declared.ends.OpEnd.{OpEnd}
+use Rattle.job_outcomes.proofs.EventRows.{honest_back}
+use Rattle.job_protocol.specs.Operations.{Setting}
+use Rattle.job_safety.proofs.Cuts.{before_by_front, before_cut, before_front, from_more, moment_cut, since_by_cut, since_cut}
 use Rattle.job_safety.proofs.Ending.{Ending}
+use Rattle.job_safety.proofs.History.{Began, began}
+use Rattle.job_spec.specs.States.{Doing}
+use Rattle.job_spec.specs.Turns.{AllFrom, AllUpTo, before, by_actor, since}
+use Rattle.job_steps.proofs.Told.{told_all}
+use Rattle.job_steps.specs.Transitions.{Play}
+use Rattle.job_traces.proofs.Changes.{after_parts}
+use Rattle.s3_types.specs.Moment.{AreHonest, after_all, moment}
+use Rattle.s3_types.specs.Store.{Content}
+use Rattle.s3_types.specs.declared.journal.Entry.{Entry}
+use Rattle.s3_types.specs.declared.request.Actor.{Actor}
+use Rattle.std.proofs.Common.{List, ap, append_assoc, arith, length, subst, sym, ℕ, ◌++◌, ◌+◌, ◌∙◌, ◌≡◌, ◌≤◌}
+use Rattle.s3_types.specs.Store as store
 
-module _ (g : Setting) (opening : Content) (x : Play) (j : ℕ) (a : Actor) (d : Doing) (end : OpEnd) (es : List Entry) (n : Ending g opening x j a d end es) where
+module _ (g : Setting) (opening : Content) (x : Play) (j : ℕ) (a : Actor) (d : Doing) (end : OpEnd) (es : List Entry)
+    (n : Ending g opening x j a d end es) where
   abbrev z : Play
   z = n.closed.at
 
@@ -31,17 +44,20 @@ module _ (g : Setting) (opening : Content) (x : Play) (j : ℕ) (a : Actor) (d :
 
   -- the scene that it began in
   pub scene_is : moment opening x.journal (length (before d.since x.journal)) ≡ after_all (store.opening opening) s.journal
-  scene_is = ap (λ l. moment opening x.journal (length l)) before_is ∙ ap (λ l. moment opening l (length s.journal)) whole ∙ moment_cut opening s.journal (start.entries ++ n.closed.entries)
+  scene_is = ap (λ l. moment opening x.journal (length l)) before_is ∙ ap (λ l. moment opening l (length s.journal)) whole ∙ moment_cut
+      opening s.journal (start.entries ++ n.closed.entries)
 
   pub since_is : since d.since z.journal ≡ start.entries
-  since_is = ap (since d.since) start.all ∙ subst (λ k. AllFrom k start.entries → since k (s.journal ++ start.entries) ≡ start.entries) (sym start.since_is) (since_cut (length s.ends) s.journal start.entries early) start.after
+  since_is = ap (since d.since) start.all ∙ subst (λ k. AllFrom k start.entries → since k (s.journal ++ start.entries) ≡ start.entries)
+      (sym start.since_is) (since_cut (length s.ends) s.journal start.entries early) start.after
 
   -- its own entries
   pub mine : es ≡ by_actor a start.entries
   mine = grind (arith, since_by_cut, early)
 
   pub honest : AreHonest (after_all (store.opening opening) s.journal) start.entries
-  honest = honest_back (store.opening opening) s.journal start.entries (subst (AreHonest (store.opening opening)) start.all (told_all g opening z n.closed.happened).honest)
+  honest = honest_back (store.opening opening) s.journal start.entries (subst (AreHonest (store.opening opening)) start.all
+      (told_all g opening z n.closed.happened).honest)
 
   pub after_is : after_all (store.opening opening) z.journal ≡ after_all (after_all (store.opening opening) s.journal) start.entries
   after_is = ap (after_all (store.opening opening)) start.all ∙ after_parts (store.opening opening) s.journal start.entries

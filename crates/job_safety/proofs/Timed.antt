@@ -1,12 +1,39 @@
 -- At the end of an event in which the driver's operation ended: the run then, the event in which its commit began, and what is seen.
-use Rattle.job_safety.proofs.Common.{Ahead, Begins, Begun, Closes, Commit, Content, Doing, Driver, Entry, Event, IsLegal, IsOpening, IsRun, IsSettingUp, IsTimed, List, MayOpen, None, Op, OpEnd, Opens, Operation, Option, Play, Reachable, Script, Seen, Setting, Some, TheCommit, Times, Told, ap, arith, begins_so, carried, closed_ahead, commit_of, commit_of_so, driver_may, event_rows, false, happen, happens, has_cleaned, in_commit, inl, inr, is_begun, is_just_set, is_run, length, may_commit_job, not_refused, nothing_seen, nothing_told, number, open_running, opened_ahead, operation_of, refusal, reports, see_all, see_parts, seen_until, sees, since, subst, sym, take, take-append_seam, tells_so, timed_setting, times, told_all, true, until, ℕ, ◌+◌, ◌∙◌, ◌≡◌}
-use Rattle.job_steps.proofs.RunningNumbers.{begun_at}
-use Rattle.job_safety.proofs.History.{Began, IsBegin}
+use Rattle.job_facts.specs.Told.{Told, nothing_told}
+use Rattle.job_model.specs.JobScript.{Script}
+use Rattle.job_model.specs.Legal.{IsLegal}
+use Rattle.job_model.specs.declared.ends.OpEnd.{OpEnd}
+use Rattle.job_model.specs.declared.events.Event.{Event}
+use Rattle.job_model.specs.declared.events.Op.{Op}
+use Rattle.job_outcomes.proofs.CommitMoments.{see_parts}
+use Rattle.job_outcomes.proofs.EventRows.{event_rows}
+use Rattle.job_protocol.proofs.Begun.{commit_of_so}
+use Rattle.job_protocol.specs.JobCommits.{Commit}
+use Rattle.job_protocol.specs.Operations.{Operation, Setting, TheCommit, commit_of}
+use Rattle.job_protocol.specs.Seen.{Seen, Times, is_begun, nothing_seen, see_all}
+use Rattle.job_safety.proofs.Early.{driver_past}
 use Rattle.job_safety.proofs.Ending.{Ending, ahead_none, journal_until, until_strange}
+use Rattle.job_safety.proofs.History.{Began, IsBegin}
 use Rattle.job_safety.proofs.Spans.{start}
 use Rattle.job_safety.proofs.Strange.{strange_picks}
-use Rattle.job_safety.proofs.Early.{driver_past}
+use Rattle.job_spec.specs.Ends.{has_cleaned}
+use Rattle.job_spec.specs.Promise.{seen_until}
+use Rattle.job_spec.specs.States.{Doing, driver_may, refusal, reports, times}
+use Rattle.job_spec.specs.Turns.{since, until}
+use Rattle.job_steps.proofs.Running.{carried, closed_ahead, is_run, not_refused, number, opened_ahead}
+use Rattle.job_steps.proofs.RunningNumbers.{begun_at}
+use Rattle.job_steps.proofs.RunningStages.{Begins, Begun, IsSettingUp, IsTimed, begins_so, may_commit_job, timed_setting}
+use Rattle.job_steps.proofs.Told.{told_all}
+use Rattle.job_steps.specs.Running.{Ahead, IsRun, operation_of}
+use Rattle.job_steps.specs.Transitions.{Closes, MayOpen, Opens, Play, Reachable, happen, happens, open_running}
+use Rattle.job_traces.proofs.Entries.{in_commit, sees, tells_so}
 use Rattle.job_traces.proofs.Learnt.{cleaned_is}
+use Rattle.job_traces.specs.Runs.{IsOpening, is_just_set}
+use Rattle.s3_types.specs.Store.{Content}
+use Rattle.s3_types.specs.declared.journal.Entry.{Entry}
+use Rattle.s3_types.specs.declared.request.Actor.TheVariants.{Driver}
+use Rattle.std.proofs.Common.{List, None, Option, Some, ap, arith, false, inl, inr, length, subst, sym, take, true, ℕ, ◌+◌, ◌∙◌, ◌≡◌}
+use Rattle.std.proofs.Math.Seq.{take-append_seam}
 use Rattle.job_model.specs.declared.events.Op.TheVariants as ops
 
 -- ---- plain facts
@@ -19,11 +46,16 @@ commit_number : (k : Option ℕ) (n : ℕ) → is_begun k n ≡ false → is_beg
 commit_number k n h g = grind arith
 
 -- what a driver begins it may begin
-pub begins_at : (g : Setting) (y : Play) (ev : Event) (op : Op) → MayOpen g y ev None → IsBegin ev Driver op → Begins (y.past.state Driver).stage Driver op (y.past.state Driver).life (y.past.state Driver).stage
-begins_at g y ev op may (inl is) = begins_so (y.past.state Driver).stage Driver op (y.past.state Driver).life (y.past.state Driver).stage (ap (refusal y.past.state) (sym is) ∙ may.refusal_is)
-begins_at g y ev op may (inr is) = begins_so (y.past.state Driver).stage Driver op (y.past.state Driver).life (y.past.state Driver).stage (ap (refusal y.past.state) (sym is) ∙ may.refusal_is)
+pub begins_at : (g : Setting) (y : Play) (ev : Event) (op : Op) → MayOpen g y ev None → IsBegin ev Driver op
+    → Begins (y.past.state Driver).stage Driver op (y.past.state Driver).life (y.past.state Driver).stage
+begins_at g y ev op may (inl is) = begins_so (y.past.state Driver).stage Driver op (y.past.state Driver).life (y.past.state Driver).stage
+    (ap (refusal y.past.state) (sym is) ∙ may.refusal_is)
+begins_at g y ev op may (inr is) = begins_so (y.past.state Driver).stage Driver op (y.past.state Driver).life (y.past.state Driver).stage
+    (ap (refusal y.past.state) (sym is) ∙ may.refusal_is)
 
-module _ (g : Setting) (opening : Content) (j : IsLegal g.script) (is_opening : IsOpening g opening) (x : Play) (run_x : Reachable g opening x) (idle : x.now ≡ None) (i : ℕ) (d : Doing) (end : OpEnd) (es : List Entry) (n : Ending g opening x i Driver d end es) where
+module _ (g : Setting) (opening : Content) (j : IsLegal g.script) (is_opening : IsOpening g opening) (x : Play)
+    (run_x : Reachable g opening x) (idle : x.now ≡ None) (i : ℕ) (d : Doing) (end : OpEnd) (es : List Entry)
+    (n : Ending g opening x i Driver d end es) where
   abbrev w : Script
   w = g.script
 
@@ -39,11 +71,13 @@ module _ (g : Setting) (opening : Content) (j : IsLegal g.script) (is_opening : 
   ahead_then = n.closed.ahead x.ends (ahead_none x idle)
 
   pub run_then : IsRun g opening (happen g z (Closes n.event_end)) (times w x.ends)
-  run_then = is_run g opening j is_opening (happen g z (Closes n.event_end)) (happens z (Closes n.event_end) n.closed.happened n.closed.may) x.ends ahead_then
+  run_then = is_run g opening j is_opening (happen g z (Closes n.event_end)) (happens z (Closes n.event_end) n.closed.happened n.closed.may)
+      x.ends ahead_then
 
   -- and where the operation began
   pub ahead_end : Ahead z x.ends
-  ahead_end = closed_ahead g z n.event_end x.ends (not_refused w z.past.state n.closed.may.event n.event_end _ n.closed.may.turns) ahead_then
+  ahead_end = closed_ahead g z n.event_end x.ends (not_refused w z.past.state n.closed.may.event n.event_end _ n.closed.may.turns)
+      ahead_then
 
   abbrev s : Began g opening z Driver d
   s = start g opening x i Driver d end es n
@@ -62,17 +96,22 @@ module _ (g : Setting) (opening : Content) (j : IsLegal g.script) (is_opening : 
         let h = (carried g opening j is_opening s.at s.happened x.ends ahead_start).along in
         let b = begins_at g s.at s.event d.op s.may s.begins in
         let op = operation_of (s.at.running Driver) in
-        let may : driver_may ops.Commit (s.at.past.state Driver).stage ≡ true = ap (λ v. driver_may v (s.at.past.state Driver).stage) (sym is) ∙ b.may_begin in
-        let just = may_commit_job (s.at.past.state Driver).stage (s.at.past.state Driver).life op (driver_past g opening j is_opening s.at s.happened s.may.idle) may in
-        let timed : IsTimed (begun_at (times w x.ends) (length s.at.ends)) op = subst (λ v. IsTimed (begun_at (times w x.ends) (number v (length s.at.ends))) op) s.may.idle h.timed in
+        let may : driver_may ops.Commit (s.at.past.state Driver).stage ≡ true = ap (λ v. driver_may v (s.at.past.state Driver).stage)
+        (sym is) ∙ b.may_begin in
+        let just = may_commit_job (s.at.past.state Driver).stage (s.at.past.state Driver).life op
+        (driver_past g opening j is_opening s.at s.happened s.may.idle) may in
+        let timed : IsTimed (begun_at (times w x.ends) (length s.at.ends)) op = subst
+        (λ v. IsTimed (begun_at (times w x.ends) (number v (length s.at.ends))) op) s.may.idle h.timed in
         (timed_setting (begun_at (times w x.ends) (length s.at.ends)) op timed (just_setting op just)).0
 
-    pub opened_commit : (ev : Event) → IsBegin ev Driver ops.Commit → operation_of (open_running g s.at ev Driver) ≡ Some (commit_of g (reports w s.at.past.reported))
+    pub opened_commit : (ev : Event) → IsBegin ev Driver ops.Commit
+        → operation_of (open_running g s.at ev Driver) ≡ Some (commit_of g (reports w s.at.past.reported))
     opened_commit ev h = grind arith
 
     timed_now : is_begun k.commit (length s.at.ends + 1) ≡ true
     timed_now =
-        let h = (carried g opening j is_opening (happen g s.at (Opens s.event)) (happens s.at (Opens s.event) s.happened s.may) x.ends ahead_opened).along in
+        let h = (carried g opening j is_opening (happen g s.at (Opens s.event)) (happens s.at (Opens s.event) s.happened s.may) x.ends
+        ahead_opened).along in
         let b : Begun = begun_at (times w x.ends) (length s.at.ends + 1) in
         commit_of_so g (λ op. IsTimed b (Some op) → b.commit ≡ true) (λ missing h. h.0) (λ t h. h.0) (reports w s.at.past.reported)
         (subst (IsTimed b) (opened_commit s.event (subst (λ v. IsBegin s.event Driver v) is s.begins)) h.timed)
@@ -86,7 +125,8 @@ module _ (g : Setting) (opening : Content) (j : IsLegal g.script) (is_opening : 
   unclean_then c at =
       let told = tells_so g k opening j is_opening z.journal run_then.stand run_then.runs in
       let uncleaned = (in_commit g k opening j is_opening z.journal run_then.stand run_then.runs c at).2.uncleaned in
-      sym (ap (λ (m : Told). m.cleaned) told ∙ cleaned_is w z.journal (nothing_told run_then.stand.told.cleans_at) ∙ ap (λ c. has_cleaned c z.journal) run_then.cleans) ∙ uncleaned
+      sym (ap (λ (m : Told). m.cleaned) told ∙ cleaned_is w z.journal (nothing_told run_then.stand.told.cleans_at) ∙ ap
+      (λ c. has_cleaned c z.journal) run_then.cleans) ∙ uncleaned
 
   -- ---- what is seen then
 
@@ -102,6 +142,8 @@ module _ (g : Setting) (opening : Content) (j : IsLegal g.script) (is_opening : 
   pub picks_then : run_then.stand.seen.picks ≡ (seen_until w opening x.journal x.ends (i + 1)).picks
   picks_then =
       ap (λ (v : Seen). v.picks) (sees g k opening j is_opening z.journal run_then.stand run_then.runs)
-      ∙ sym (strange_picks w k (see_all w k (nothing_seen opening) z.journal) strays (until_strange g opening x run_x idle i n.event_end n.closed))
+      ∙ sym (strange_picks w k (see_all w k (nothing_seen opening) z.journal) strays
+      (until_strange g opening x run_x idle i n.event_end n.closed))
       ∙ ap (λ (v : Seen). v.picks) (sym (see_parts w k (nothing_seen opening) z.journal strays))
-      ∙ ap (λ l. (see_all w k (nothing_seen opening) l).picks) (sym (taken_then ∙ journal_until g opening x run_x idle i n.event_end n.closed))
+      ∙ ap (λ l. (see_all w k (nothing_seen opening) l).picks) (sym
+      (taken_then ∙ journal_until g opening x run_x idle i n.event_end n.closed))

@@ -1,12 +1,35 @@
 -- That every run keeps what is promised of its job.
-use Rattle.std.specs.Prelude.{◌≡◌, not, true, Bool, None, List, ℕ, ◌+◌, ◌≤◌, ◌⊎◌, false, Option, length, take}
-use Rattle.job_steps.specs.Prelude.{Content, Driver, Attempt, Entry, Script, Request, WornFirst, IsLegal, Pick, SetupEnd, TaskEnd, CommitEnd, EventEnd, Setting, Promised, ArePicked, all_picks, setting, seen_until, CleansEnd, nothing_seen, see_all, is_new, past, Doing, clean_event, Hold, until, until_last, by_actor, Plays, known_then, EndedIn, CommitEnded, has_cleaned, TaskIs, WasPublished, CommitServed, IsOpening, nothing_told, tell_all, Play, Reachable, times}
+use Rattle.job_facts.specs.Facts.{Hold}
+use Rattle.job_facts.specs.Told.{nothing_told, tell_all}
+use Rattle.job_model.specs.JobScript.{Script}
+use Rattle.job_model.specs.Legal.{IsLegal}
+use Rattle.job_model.specs.declared.ends.CommitEnd.{CommitEnd}
+use Rattle.job_model.specs.declared.ends.EventEnd.{EventEnd}
+use Rattle.job_model.specs.declared.ends.Pick.{Pick}
+use Rattle.job_model.specs.declared.ends.SetupEnd.{SetupEnd}
+use Rattle.job_model.specs.declared.ends.TaskEnd.{TaskEnd}
+use Rattle.job_outcomes.specs.SetupEnds.{SetupListed, keys_listed}
+use Rattle.job_protocol.specs.Operations.{Setting}
+use Rattle.job_protocol.specs.Seen.{nothing_seen, see_all}
+use Rattle.job_spec.specs.Ends.{CommitEnded, EndedIn, has_cleaned}
+use Rattle.job_spec.specs.Entries.{ZeroRename}
+use Rattle.job_spec.specs.Follows.{Plays, known_then}
+use Rattle.job_spec.specs.OperationEnds.{CommitServed, TaskIs, WasPublished}
+use Rattle.job_spec.specs.Promise.{ArePicked, CleansEnd, Promised, all_picks, seen_until, setting}
+use Rattle.job_spec.specs.States.{Doing, clean_event, is_new, past, times}
+use Rattle.job_spec.specs.Turns.{by_actor, until, until_last}
+use Rattle.job_steps.specs.Transitions.{Play, Reachable}
+use Rattle.job_traces.specs.Runs.{IsOpening}
+use Rattle.retries.specs.Worn.{WornFirst}
+use Rattle.s3_types.specs.Store.{Content}
+use Rattle.s3_types.specs.declared.journal.Entry.{Entry}
+use Rattle.s3_types.specs.declared.request.Actor.TheVariants.{Attempt, Driver}
+use Rattle.s3_types.specs.declared.request.Request.{Request}
+use Rattle.std.specs.Prelude.{Bool, List, None, Option, false, length, not, take, true, ℕ, ◌+◌, ◌≡◌, ◌≤◌, ◌⊎◌}
 use Rattle.job_model.specs.declared.events.Op.TheVariants as ops
 use Rattle.job_model.specs.declared.ends.SetupEnd.TheVariants as setups
 use Rattle.job_model.specs.declared.ends.TaskEnd.TheVariants as tasks
 use Rattle.job_model.specs.declared.ends.OpEnd.TheVariants as ends
-use Rattle.job_outcomes.specs.SetupEnds.{keys_listed, SetupListed}
-use Rattle.job_spec.specs.Prelude.{ZeroRename}
 
 -- ---- among strangers that leave the job's own alone
 
@@ -17,18 +40,23 @@ SetupsEndAmong w journal xs = (j : ℕ) (d : Doing) (e : SetupEnd) (es : List En
 
 -- an attempt's operation as is promised of it where nobody else sends
 abbrev pub TasksEndAmong : Script → Content → List Entry → List EventEnd → Type 0
-TasksEndAmong w opening journal xs = (j t a : ℕ) (d : Doing) (e : TaskEnd) (es : List Entry) → EndedIn w xs journal j (Attempt t a) d (ends.Task e) es
+TasksEndAmong w opening journal xs = (j t a : ℕ) (d : Doing) (e : TaskEnd) (es : List Entry)
+    → EndedIn w xs journal j (Attempt t a) d (ends.Task e) es
     → (e ≡ tasks.NoMemory) ⊎ ((worn : Option Request) × WornFirst w.retries es worn
-    × TaskIs d.op w (record { task = t; attempt = a }) es (known_then (setting w opening) (Attempt t a) d (by_actor (Attempt t a) journal)).publish_sent (has_cleaned (clean_event w xs) (until_last (Attempt t a) (until (j + 1) journal))) worn e)
+    × TaskIs d.op w (record { task = t; attempt = a }) es (known_then (setting w opening) (Attempt t a) d
+    (by_actor (Attempt t a) journal)).publish_sent (has_cleaned (clean_event w xs) (until_last (Attempt t a) (until (j + 1) journal)))
+    worn e)
 
 -- among strangers too, a task's commit that ended Done has published
 abbrev pub PublishesAmong : Script → Content → List Entry → List EventEnd → Type 0
-PublishesAmong w opening journal xs = (j t a : ℕ) (d : Doing) (es : List Entry) → EndedIn w xs journal j (Attempt t a) d (ends.Task tasks.Done) es → d.op ≡ ops.Commit
+PublishesAmong w opening journal xs = (j t a : ℕ) (d : Doing) (es : List Entry)
+    → EndedIn w xs journal j (Attempt t a) d (ends.Task tasks.Done) es → d.op ≡ ops.Commit
     → has_cleaned (clean_event w xs) (until_last (Attempt t a) (until (j + 1) journal)) ≡ false → WasPublished w opening journal t a (j + 1)
 
 -- the driver's commit has the end that is due, and is served
 abbrev pub CommitsEndAmong : Script → Content → List Entry → List EventEnd → Type 0
-CommitsEndAmong w opening journal xs = (j : ℕ) (d : Doing) (e : CommitEnd) (es : List Entry) → EndedIn w xs journal j Driver d (ends.Commit e) es
+CommitsEndAmong w opening journal xs = (j : ℕ) (d : Doing) (e : CommitEnd) (es : List Entry)
+    → EndedIn w xs journal j Driver d (ends.Commit e) es
     → CommitEnded w (seen_until w opening journal xs (j + 1)) d.reports.missing es e × CommitServed w es
 
 -- what no stranger can break; how a commit, an abort or a clean ends is told here of a job that is alone at its destination
@@ -46,12 +74,14 @@ pub record KeptAmong (g : Setting) (opening : Content) (journal : List Entry) (p
 
 -- between events all that no stranger can break holds of what has happened
 abbrev pub RunsAreKeptAmong : Type 0
-RunsAreKeptAmong = (g : Setting) → (opening : Content) (x : Play) → IsLegal g.script → IsOpening g opening → Reachable g opening x → x.now ≡ None
+RunsAreKeptAmong = (g : Setting) → (opening : Content) (x : Play) → IsLegal g.script → IsOpening g opening → Reachable g opening x
+    → x.now ≡ None
     → (ps : List Pick) → ArePicked ps (all_picks g.script opening x.journal x.ends) → KeptAmong g opening x.journal ps x.ends
 
 -- between events all that is promised holds of what has happened
 abbrev pub RunsAreKept : Type 0
-RunsAreKept = (g : Setting) → g.shared ≡ false → (opening : Content) (x : Play) → IsLegal g.script → IsOpening g opening → Reachable g opening x → x.now ≡ None
+RunsAreKept = (g : Setting) → g.shared ≡ false → (opening : Content) (x : Play) → IsLegal g.script → IsOpening g opening
+    → Reachable g opening x → x.now ≡ None
     → (ps : List Pick) → ArePicked ps (all_picks g.script opening x.journal x.ends) → Promised g.script opening x.journal ps x.ends
 
 -- the set-up of the job has ended Done

@@ -1,16 +1,39 @@
 -- The text of a destination is read as it again, and what is read as a path.
-use Rattle.job_script.proofs.Common.{Decides-eqb, IsDest, IsScriptWord, IsUtf8-append, IsUtf8-from_is_utf8, IsUtf8-nil, List, None, Ok, Option, Path, PathFault, Some, [], and_parts, ap, append_assoc, arith, bucket_in, bucket_utf8, cond_some, drop, ends_with, false, first_fault, is_bare, is_bucket, is_dest_key, is_element, is_key, is_name_byte, is_other, is_utf8-from_IsUtf8, join_parts, join_with_byte, leb-true, length, list_all, list_all-append, named, need, needed, not, not_so, option_or, part_from, parted, parts_of, passed, path_in, path_text, refl, same_ok, starts_is, starts_with, subst, sym, trimmed, true, true≢false, weaker, without_return, ℕ, ◌++◌, ◌<◌, ◌∙◌, ◌∷◌, ◌≡◌, ◌≢◌}
-use Rattle.std.specs.Prelude.{nat_eq, codes, nat_le}
-use Rattle.std.proofs.lemmas.Slice.Eq.{ends_is}
+use Rattle.basics.proofs.Bools.{not_so}
 use Rattle.basics.proofs.Cuts.{no_return}
-use Rattle.path_keys.specs.Paths.{key_of, element_fault, without_scheme}
-use Rattle.path_keys.specs.declared.fault.PathFault.TheVariants.{BadScheme, BadBucket, TooLong}
-use Rattle.path_keys.proofs.Ends.{no_end}
-use Rattle.path_keys.proofs.Keys.{some_key}
-use Rattle.path_keys.proofs.Faults.{text_fits, key_is, key_of_text}
-use Rattle.path_keys.proofs.Last.{parts_round}
-use Rattle.job_script.proofs.Words.{literal_word, IsClean, clean_cut, clean_end, script_word}
+use Rattle.basics.proofs.Lists.{weaker}
+use Rattle.basics.proofs.Pieces.{join_parts}
+use Rattle.basics.proofs.Reading.{needed, parted, passed, same_ok}
+use Rattle.basics.proofs.Split.{part_from}
+use Rattle.basics.specs.Lines.{without_return}
+use Rattle.basics.specs.Parts.{is_other, parts_of}
+use Rattle.basics.specs.Reading.{need}
+use Rattle.basics.specs.Words.{is_bare}
+use Rattle.job_model.specs.Legal.{IsDest, IsScriptWord}
+use Rattle.job_model.specs.Paths.{is_dest_key}
 use Rattle.job_script.proofs.Lines.{IsLast}
+use Rattle.job_script.proofs.Words.{IsClean, clean_cut, clean_end, literal_word, script_word}
+use Rattle.job_script.specs.HeadLines.{path_text}
+use Rattle.path_keys.proofs.Ends.{no_end}
+use Rattle.path_keys.proofs.Faults.{key_is, key_of_text, text_fits}
+use Rattle.path_keys.proofs.Keys.{some_key}
+use Rattle.path_keys.proofs.Last.{parts_round}
+use Rattle.path_keys.specs.Paths.{Path, bucket_in, element_fault, first_fault, is_key, key_of, named, path_in, without_scheme}
+use Rattle.path_keys.specs.declared.fault.PathFault.{PathFault}
+use Rattle.path_keys.specs.declared.fault.PathFault.TheVariants.{BadBucket, BadScheme, TooLong}
+use Rattle.s3_types.proofs.Utf8.{bucket_utf8}
+use Rattle.s3_types.specs.Names.{is_bucket, is_element, is_name_byte, trimmed}
+use Rattle.std.proofs.Common.{List, None, Ok, Option, Some, ap, append_assoc, arith, drop, false, length, not, refl, subst, sym, true}
+use Rattle.std.proofs.Common.{true≢false, ℕ, [], ◌++◌, ◌<◌, ◌∙◌, ◌∷◌, ◌≡◌, ◌≢◌}
+use Rattle.std.proofs.lemmas.Bool.{and_parts, leb-true}
+use Rattle.std.proofs.lemmas.Bool.Decides.{Decides-eqb}
+use Rattle.std.proofs.lemmas.List.Folds.{list_all-append}
+use Rattle.std.proofs.lemmas.Option.{cond_some}
+use Rattle.std.proofs.lemmas.Slice.Eq.{ends_is, starts_is}
+use Rattle.std.proofs.lemmas.Str.{IsUtf8-append, IsUtf8-from_is_utf8, IsUtf8-nil, is_utf8-from_IsUtf8}
+use Rattle.std.specs.List.{ends_with, join_with_byte, list_all, starts_with}
+use Rattle.std.specs.Option.{option_or}
+use Rattle.std.specs.Prelude.{codes, nat_eq, nat_le}
 
 -- ---- what is printed is read again
 
@@ -28,7 +51,8 @@ element_kept e h = grind arith
 
 elements_kept : (es : List (List ℕ)) → list_all is_element es ≡ true → first_fault es ≡ None
 elements_kept [] h = refl
-elements_kept (e ∷ es) h = let p = and_parts (is_element e) (list_all is_element es) h in ap (λ (f : Option PathFault). option_or f (first_fault es)) (element_kept e p.0) ∙ elements_kept es p.1
+elements_kept (e ∷ es) h = let p = and_parts (is_element e) (list_all is_element es) h in ap
+    (λ (f : Option PathFault). option_or f (first_fault es)) (element_kept e p.0) ∙ elements_kept es p.1
 
 key_again : (key : List ℕ) → 0 < length key → is_key key ≡ true → key_of (parts_of 47 key) ≡ Ok key
 key_again key some h = let k = some_key key some h in text_fits key (sym (elements_kept (parts_of 47 key) k.0)) k.1
@@ -37,8 +61,10 @@ key_again key some h = let k = some_key key some h in text_fits key (sym (elemen
 no_slash_end : (key front : List ℕ) → 0 < length key → is_key key ≡ true → key ≢ front ++ 47 ∷ []
 no_slash_end key front some h e =
     let k = some_key key some h in
-    let all = sym (ap (list_all is_element) (parts_round key front [] e refl) ∙ list_all-append is_element (parts_of 47 front) ([] ∷ [])) ∙ k.0 in
-    let last : list_all is_element ([] ∷ []) ≡ true = (and_parts (list_all is_element (parts_of 47 front)) (list_all is_element ([] ∷ [])) all).1 in
+    let all = sym (ap (list_all is_element) (parts_round key front [] e refl) ∙ list_all-append is_element (parts_of 47 front) ([] ∷ [])) ∙
+    k.0 in
+    let last : list_all is_element ([] ∷ []) ≡ true = (and_parts (list_all is_element (parts_of 47 front)) (list_all is_element ([] ∷ []))
+    all).1 in
     absurd cc
 
 -- what ends a text ends with its end
@@ -52,9 +78,11 @@ whole_end : (xs key front : List ℕ) → 0 < length key → is_key key ≡ true
 whole_end xs [] front some h e = absurd (omega (arith, some))
 whole_end xs (x ∷ ys) front some h e = let c = cut_front xs x ys front 47 e in no_slash_end (x ∷ ys) c.0 some h c.1
 
-named_again : (p : Path) → is_bucket p.bucket ≡ true → 0 < length p.key → is_key p.key ≡ true → named (parts_of 47 (p.bucket ++ 47 ∷ p.key)) ≡ Ok p
+named_again : (p : Path) → is_bucket p.bucket ≡ true → 0 < length p.key → is_key p.key ≡ true
+    → named (parts_of 47 (p.bucket ++ 47 ∷ p.key)) ≡ Ok p
 named_again p b some k =
-    let parts : parts_of 47 (p.bucket ++ 47 ∷ p.key) ≡ p.bucket ∷ parts_of 47 p.key = part_from 47 [] p.bucket p.key (weaker is_name_byte (is_other 47) name_byte_other p.bucket (bucket_bytes p.bucket b)) in
+    let parts : parts_of 47 (p.bucket ++ 47 ∷ p.key) ≡ p.bucket ∷ parts_of 47 p.key = part_from 47 [] p.bucket p.key
+    (weaker is_name_byte (is_other 47) name_byte_other p.bucket (bucket_bytes p.bucket b)) in
     ap named parts ∙ rw (b, key_again p.key some k) refl
 
 pub key_some : (p : Path) → IsDest p → 0 < length p.key
@@ -64,7 +92,8 @@ key_some p h = omega (arith, leb-true 1 (length p.key) (and_parts _ _ (and_parts
 pub path_again : (p : Path) → IsDest p → path_in (path_text p) ≡ Ok p
 path_again p h =
     let some = key_some p h in
-    let whole : p.bucket ++ 47 ∷ p.key ≡ trimmed (p.bucket ++ 47 ∷ p.key) = no_end (p.bucket ++ 47 ∷ p.key) (λ front e. whole_end (p.bucket ++ 47 ∷ []) p.key front some h.key (append_assoc p.bucket (47 ∷ []) p.key ∙ e)) in
+    let whole : p.bucket ++ 47 ∷ p.key ≡ trimmed (p.bucket ++ 47 ∷ p.key) = no_end (p.bucket ++ 47 ∷ p.key)
+    (λ front e. whole_end (p.bucket ++ 47 ∷ []) p.key front some h.key (append_assoc p.bucket (47 ∷ []) p.key ∙ e)) in
     ap (λ (l : List ℕ). named (parts_of 47 l)) (sym whole) ∙ named_again p h.bucket some h.key
 
 pub path_word : (p : Path) → IsDest p → IsScriptWord (path_text p)
@@ -73,22 +102,26 @@ path_word p h =
     let key = IsUtf8-from_is_utf8 p.key h.word.0 in
     let scheme = IsUtf8-from_is_utf8 (codes "s3a://") (literal_word (codes "s3a://") refl).0 in
     let slash = IsUtf8-from_is_utf8 (47 ∷ []) (literal_word (47 ∷ []) refl).0 in
-    let utf8 = IsUtf8-append (codes "s3a://") (p.bucket ++ 47 ∷ p.key) scheme (IsUtf8-append p.bucket (47 ∷ p.key) bucket (IsUtf8-append (47 ∷ []) p.key slash key)) in
+    let utf8 = IsUtf8-append (codes "s3a://") (p.bucket ++ 47 ∷ p.key) scheme
+    (IsUtf8-append p.bucket (47 ∷ p.key) bucket (IsUtf8-append (47 ∷ []) p.key slash key)) in
     let name = weaker is_name_byte is_bare name_byte_bare p.bucket (bucket_bytes p.bucket h.bucket) in
     (is_utf8-from_IsUtf8 (path_text p) utf8, list_all-append is_bare p.bucket (47 ∷ p.key) ∙ rw (name, h.word.1) refl)
 
 -- a word without CR at its end is a last word
 ends_last : (w : List ℕ) → 0 < length w → ends_with nat_eq w (13 ∷ []) ≡ false → IsLast w
 ends_last [] some h front = absurd (omega (arith, some))
-ends_last (x ∷ xs) some h front = sym (no_return (front ++ x ∷ xs) (λ f e. let c = cut_front front x xs f 13 e in true≢false (sym ((ends_is Decides-eqb (x ∷ xs) (13 ∷ []) (ends_with nat_eq (x ∷ xs) (13 ∷ [])) refl).1 c.0 c.1) ∙ h)))
+ends_last (x ∷ xs) some h front = sym (no_return (front ++ x ∷ xs) (λ f e. let c = cut_front front x xs f 13 e in true≢false
+    (sym ((ends_is Decides-eqb (x ∷ xs) (13 ∷ []) (ends_with nat_eq (x ∷ xs) (13 ∷ [])) refl).1 c.0 c.1) ∙ h)))
 
 pub path_last : (p : Path) → IsDest p → IsLast (path_text p)
 path_last p h front =
     let some = key_some p h in
-    let kept = not_so (ends_with nat_eq p.key (13 ∷ [])) (and_parts _ (not (ends_with nat_eq p.key (13 ∷ []))) (and_parts _ _ h.below).0).1 in
+    let kept = not_so (ends_with nat_eq p.key (13 ∷ [])) (and_parts _ (not (ends_with nat_eq p.key (13 ∷ []))) (and_parts _ _ h.below).0).1
+    in
     let before = codes "s3a://" ++ (p.bucket ++ 47 ∷ []) in
     let split : path_text p ≡ before ++ p.key = ap (λ (l : List ℕ). codes "s3a://" ++ l) (sym (append_assoc p.bucket (47 ∷ []) p.key)) in
-    let whole : front ++ path_text p ≡ (front ++ before) ++ p.key = ap (λ (l : List ℕ). front ++ l) split ∙ sym (append_assoc front before p.key) in
+    let whole : front ++ path_text p ≡ (front ++ before) ++ p.key = ap (λ (l : List ℕ). front ++ l) split ∙ sym
+    (append_assoc front before p.key) in
     ap without_return whole ∙ ends_last p.key some kept (front ++ before) ∙ sym whole
 
 -- ---- what is read is within bounds
@@ -99,31 +132,37 @@ pub record IsCleanPath (p : Path) : Type 0 where
   pub key : is_key p.key ≡ true
   pub clean : IsClean is_bare p.key
 
-key_at : (rest x : List ℕ) (f : Option PathFault) → f ≡ first_fault (parts_of 47 rest) → key_of (parts_of 47 rest) ≡ Ok x → (is_key x ≡ true) × (rest ≡ x)
+key_at : (rest x : List ℕ) (f : Option PathFault) → f ≡ first_fault (parts_of 47 rest) → key_of (parts_of 47 rest) ≡ Ok x
+    → (is_key x ≡ true) × (rest ≡ x)
 key_at rest x None e h =
     let p = passed (nat_le (length rest) 1023) TooLong rest x (sym (key_of_text rest None e) ∙ h) in
     (subst (λ (l : List ℕ). is_key l ≡ true) p.1 (key_is rest e (leb-true (length rest) 1023 p.0)), p.1)
 key_at rest x (Some f) e h = let k = sym (key_of_text rest (Some f) e) ∙ h in absurd cc
 
 -- the elements behind the bucket's name are the parts of what stands behind it and a `/`
-key_sound : (text name : List ℕ) (elements : List (List ℕ)) (key : List ℕ) → IsClean is_bare text → is_bucket name ≡ true → parts_of 47 text ≡ name ∷ elements → key_of elements ≡ Ok key → (is_key key ≡ true) × IsClean is_bare key
-key_sound text name [] key c b e h = subst (λ (x : List ℕ). (is_key x ≡ true) × IsClean is_bare x) (same_ok [] key h) (refl, record { utf8 = IsUtf8-nil; all = refl })
+key_sound : (text name : List ℕ) (elements : List (List ℕ)) (key : List ℕ) → IsClean is_bare text → is_bucket name ≡ true
+    → parts_of 47 text ≡ name ∷ elements → key_of elements ≡ Ok key → (is_key key ≡ true) × IsClean is_bare key
+key_sound text name [] key c b e h = subst (λ (x : List ℕ). (is_key x ≡ true) × IsClean is_bare x) (same_ok [] key h)
+    (refl, record { utf8 = IsUtf8-nil; all = refl })
 key_sound text name (x ∷ xs) key c b e h =
     let rest = join_with_byte 47 (x ∷ xs) in
     let whole : text ≡ name ++ 47 ∷ rest = sym (join_parts 47 text) ∙ ap (join_with_byte 47) e in
-    let parts : name ∷ x ∷ xs ≡ name ∷ parts_of 47 rest = sym e ∙ ap (parts_of 47) whole ∙ part_from 47 [] name rest (weaker is_name_byte (is_other 47) name_byte_other name (bucket_bytes name b)) in
+    let parts : name ∷ x ∷ xs ≡ name ∷ parts_of 47 rest = sym e ∙ ap (parts_of 47) whole ∙ part_from 47 [] name rest
+    (weaker is_name_byte (is_other 47) name_byte_other name (bucket_bytes name b)) in
     let same : x ∷ xs ≡ parts_of 47 rest = cc in
     let k = key_at rest key (first_fault (parts_of 47 rest)) refl (sym (ap key_of same) ∙ h) in
     (k.0, subst (IsClean is_bare) k.1 (clean_cut is_bare 47 name rest (omega arith) (subst (IsClean is_bare) whole c)).1)
 
-named_sound : (text : List ℕ) (parts : List (List ℕ)) (p : Path) → IsClean is_bare text → parts_of 47 text ≡ parts → named parts ≡ Ok p → IsCleanPath p
+named_sound : (text : List ℕ) (parts : List (List ℕ)) (p : Path) → IsClean is_bare text → parts_of 47 text ≡ parts → named parts ≡ Ok p
+    → IsCleanPath p
 named_sound text [] p c e h = absurd cc
 named_sound text (name ∷ elements) p c e h =
     let b = parted (bucket_in name) _ p h in
     let k = parted (key_of elements) _ p b.next in
     let is = passed (is_bucket name) BadBucket name b.value b.first in
     let key = key_sound text name elements k.value c is.0 e k.first in
-    subst IsCleanPath (same_ok (record { bucket = b.value; key = k.value }) p k.next) (record { bucket = subst (λ (l : List ℕ). is_bucket l ≡ true) is.1 is.0; key = key.0; clean = key.1 })
+    subst IsCleanPath (same_ok (record { bucket = b.value; key = k.value }) p k.next)
+    (record { bucket = subst (λ (l : List ℕ). is_bucket l ≡ true) is.1 is.0; key = key.0; clean = key.1 })
 
 scheme_clean : (text : List ℕ) → IsClean is_bare text → (rest : List ℕ) → without_scheme text ≡ Some rest → IsClean is_bare rest
 scheme_clean text c rest h =

@@ -1,13 +1,25 @@
 -- The bytes of a file: what is printed is read again, and what is read are bytes.
-use Rattle.job_script.proofs.Common.{AllByRecursion, BadLine, Bool, IsBytes, IsScriptWord, IsUtf8, IsUtf8-from_is_utf8, List, None, Ok, Result, Some, [], and_parts, ap, are_bytes, arith, encode_lower, encodes-chars, false, hex_word, joined, length, list_all, list_all-append, lower_digits, lt-ltb, ltb, ltb-true, nat_lt, needed, refl, replicate, scalars-chars, slice_index, subst, suc, text, true, zero, ℕ, ◌%◌, ◌&&◌, ◌++◌, ◌+◌, ◌/◌, ◌<◌, ◌==◌, ◌∙◌, ◌∷◌, ◌≡◌, ◌≤◌, if◌then◌else◌}
-use Rattle.std.specs.Str.{chars}
-use Rattle.job_script.specs.Content.{hex_bytes, text_at, hex_at, fill_at, content_at}
-use Rattle.std.proofs.Math.Utf8.{encode, encodes, next, scalar, scalars, scalar_cases}
-use Rattle.job_script.proofs.Words.{either, is_lettered, lettered, is_letter, number_bounds}
-use Rattle.hex.specs.Hex.{encode_with, decode_of}
-use Rattle.std.specs.Result.{result_ok}
-use Rattle.hex.specs.declared.error.FromHexError.{FromHexError}
+use Rattle.basics.proofs.Reading.{needed}
+use Rattle.basics.specs.Shapes.{text}
+use Rattle.basics.specs.Words.{joined}
 use Rattle.hex.proofs.HexLemmas.{decode_of-encode_lower, decode_of-ok}
+use Rattle.hex.specs.Hex.{IsBytes, decode_of, encode_lower, encode_with, lower_digits}
+use Rattle.hex.specs.declared.error.FromHexError.{FromHexError}
+use Rattle.job_model.specs.Legal.{IsScriptWord, are_bytes}
+use Rattle.job_script.proofs.Words.{either, is_letter, is_lettered, lettered, number_bounds}
+use Rattle.job_script.specs.Content.{content_at, fill_at, hex_at, hex_bytes, text_at}
+use Rattle.job_script.specs.Print.{hex_word}
+use Rattle.job_script.specs.declared.fault.ScriptFault.TheVariants.{BadLine}
+use Rattle.std.proofs.Common.{Bool, List, None, Ok, Result, Some, ap, arith, false, length, ltb, refl, slice_index, subst, suc, true, zero}
+use Rattle.std.proofs.Common.{ℕ, [], ◌%◌, ◌++◌, ◌+◌, ◌/◌, ◌<◌, ◌==◌, ◌∙◌, ◌∷◌, ◌≡◌, ◌≤◌}
+use Rattle.std.proofs.Math.Utf8.{encode, encodes, next, scalar, scalar_cases, scalars}
+use Rattle.std.proofs.lemmas.Bool.{and_parts, lt-ltb, ltb-true}
+use Rattle.std.proofs.lemmas.List.Folds.{list_all-append}
+use Rattle.std.proofs.lemmas.Str.{IsUtf8-from_is_utf8, encodes-chars, scalars-chars}
+use Rattle.std.specs.List.{AllByRecursion, list_all}
+use Rattle.std.specs.Prelude.{if◌then◌else◌, nat_lt, replicate, ◌&&◌}
+use Rattle.std.specs.Result.{result_ok}
+use Rattle.std.specs.Str.{IsUtf8, chars}
 
 -- ---- what is printed is read again
 
@@ -35,9 +47,11 @@ bytes_at (b ∷ bytes) h (suc i) = bytes_at bytes (and_parts (nat_lt b 256) (are
 pub hex_again : (bytes : List ℕ) → are_bytes bytes ≡ true → hex_bytes (hex_word bytes) ≡ Some bytes
 unfolding encode_with
 hex_again [] h = refl
-hex_again (b ∷ bytes) h = long (slice_index lower_digits (b / 16)) (slice_index lower_digits (b % 16)) (encode_lower bytes) ∙ ap result_ok (decode_of-encode_lower (b ∷ bytes) (bytes_at (b ∷ bytes) h))
+hex_again (b ∷ bytes) h = long (slice_index lower_digits (b / 16)) (slice_index lower_digits (b % 16)) (encode_lower bytes) ∙ ap result_ok
+    (decode_of-encode_lower (b ∷ bytes) (bytes_at (b ∷ bytes) h))
   where
-    long_if : (dash some : Bool) (text : List ℕ) → some ≡ true → (if dash && false then Some [] else (if some then result_ok (decode_of text) else None)) ≡ result_ok (decode_of text)
+    long_if : (dash some : Bool) (text : List ℕ) → some ≡ true
+        → (if dash && false then Some [] else (if some then result_ok (decode_of text) else None)) ≡ result_ok (decode_of text)
     long_if dash some text h = grind arith
 
     long : (x y : ℕ) (rest : List ℕ) → hex_bytes (x ∷ y ∷ rest) ≡ result_ok (decode_of (x ∷ y ∷ rest))
@@ -66,14 +80,22 @@ encoded_bytes c h =
     either (λ (l : List ℕ). are_bytes l ≡ true) (ltb c 128) (c ∷ []) _
     (λ k. let l = ltb-true c 128 k in let m : c < 256 = omega (arith, l) in rw (lt-ltb c 256 m) refl)
     (λ k. either (λ (l : List ℕ). are_bytes l ≡ true) (ltb c 2048) ((192 + c / 64) ∷ next c ∷ []) _
-    (λ k. let l = ltb-true c 2048 k in let m : 192 + c / 64 < 256 = omega (arith, l) in rw (lt-ltb (192 + c / 64) 256 m, lt-ltb (next c) 256 e) refl)
+    (λ k. let l = ltb-true c 2048 k in let m : 192 + c / 64 < 256 = omega (arith, l) in rw
+    (lt-ltb (192 + c / 64) 256 m, lt-ltb (next c) 256 e) refl)
     (λ k. either (λ (l : List ℕ). are_bytes l ≡ true) (ltb c 65536) ((224 + c / 4096) ∷ next (c / 64) ∷ next c ∷ []) _
-    (λ k. let l = ltb-true c 65536 k in let m : 224 + c / 4096 < 256 = omega (arith, l) in rw (lt-ltb (224 + c / 4096) 256 m, lt-ltb (next (c / 64)) 256 f, lt-ltb (next c) 256 e) refl)
-    (λ k. let m : 240 + c / 262144 < 256 = omega (arith, most) in rw (lt-ltb (240 + c / 262144) 256 m, lt-ltb (next (c / 4096)) 256 g, lt-ltb (next (c / 64)) 256 f, lt-ltb (next c) 256 e) refl)))
+    (λ k. let l = ltb-true c 65536 k in let m : 224 + c / 4096 < 256 = omega (arith, l) in rw
+    (lt-ltb (224 + c / 4096) 256 m, lt-ltb (next (c / 64)) 256 f, lt-ltb (next c) 256 e) refl)
+    (λ k. let m : 240 + c / 262144 < 256 = omega (arith, most) in rw (
+      lt-ltb (240 + c / 262144) 256 m,
+      lt-ltb (next (c / 4096)) 256 g,
+      lt-ltb (next (c / 64)) 256 f,
+      lt-ltb (next c) 256 e,
+    ) refl)))
 
 encodes_bytes : (cs : List ℕ) → scalars cs ≡ true → are_bytes (encodes cs) ≡ true
 encodes_bytes [] h = refl
-encodes_bytes (c ∷ cs) h = let p = and_parts (scalar c) (scalars cs) h in bytes_end (encode c) (encodes cs) (encoded_bytes c p.0) (encodes_bytes cs p.1)
+encodes_bytes (c ∷ cs) h = let p = and_parts (scalar c) (scalars cs) h in bytes_end (encode c) (encodes cs) (encoded_bytes c p.0)
+    (encodes_bytes cs p.1)
 
 -- what is UTF-8 has bytes alone
 utf8_bytes : (bs : List ℕ) → IsUtf8 bs → are_bytes bs ≡ true
@@ -120,6 +142,7 @@ unfolding fill_at
 fill_sound n words x h = grind (arith, number_bounds, fill_bytes)
 
 -- what a file's line says of its bytes are bytes
-pub content_sound : (n : ℕ) (form : List ℕ) (words : List (List ℕ)) (x : List ℕ) → AllByRecursion IsScriptWord words → content_at n form words ≡ Ok x → are_bytes x ≡ true
+pub content_sound : (n : ℕ) (form : List ℕ) (words : List (List ℕ)) (x : List ℕ) → AllByRecursion IsScriptWord words
+    → content_at n form words ≡ Ok x → are_bytes x ≡ true
 unfolding content_at
 content_sound n form words x w h = grind (arith, text_sound n words x w, hex_sound n words x, fill_sound n words x)

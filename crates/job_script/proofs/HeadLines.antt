@@ -1,18 +1,43 @@
 -- The lines of a script's head that give one value: what is printed is read again, and what is read is within bounds.
-use Rattle.job_script.proofs.Common.{AllByRecursion, AreFates, BadLine, BadNumber, BadPath, Bool, Committer, Declared, DestIsRoot, Draft, Event, Group, Head, HeadWord, IsDest, IsLegal, IsScriptWord, List, Mode, None, Ok, Option, Path, PathFault, Result, Script, ScriptFault, Some, [], ap, arith, bytes_in, check, checked, committer_word, decimal, false, files_in, flat_map, is_dest_key, is_job_id, length, lit<, lt-ltb, need, needed, number_in-decimal, one, parted, path_in, refl, same_ok, subst, sym, true, ℕ, ◌++◌, ◌+◌, ◌<◌, ◌==◌, ◌^◌, ◌∙◌, ◌∷◌, ◌≡◌, ◌≤◌}
-use Rattle.std.specs.Prelude.{codes, nat_lt, option_map, IfSome}
 use Rattle.basics.proofs.Naturals.{positive}
+use Rattle.basics.proofs.Reading.{checked, needed, parted, same_ok}
+use Rattle.basics.proofs.Round.{number_in-decimal}
+use Rattle.basics.specs.Reading.{check, need}
+use Rattle.basics.specs.Shapes.{one}
+use Rattle.job_model.specs.Attempts.{Declared}
+use Rattle.job_model.specs.JobScript.{Script}
+use Rattle.job_model.specs.Legal.{AreFates, IsDest, IsLegal, IsScriptWord, bytes_in, files_in}
+use Rattle.job_model.specs.Paths.{is_dest_key}
+use Rattle.job_model.specs.declared.events.Event.{Event}
+use Rattle.job_script.proofs.DestPaths.{dest_legal, key_some, path_again, path_last, path_sound, path_word}
+use Rattle.job_script.proofs.Lines.{Goes, IsPrinted, goes_nowhere, goes_on, goes_through, printed, said}
+use Rattle.job_script.proofs.Words.{decimal_lettered, id_lettered, is_lettered, literal_word, number_bounds, word_clean}
+use Rattle.job_script.specs.HeadLines.{Row, Value, as_path, dest_of, head_at, head_order, job_of, name, no_head, number, path_text, row}
+use Rattle.job_script.specs.HeadLines.{row_at, row_lines, unless, value_lines}
+use Rattle.job_script.specs.Kinds.{Names, answer_word, answers, committers, mode_word, modes, named}
+use Rattle.job_script.specs.Script.{is_skipped, kind_of, nothing, said_at}
+use Rattle.job_script.specs.declared.draft.Draft.{Draft}
+use Rattle.job_script.specs.declared.draft.Group.{Group}
+use Rattle.job_script.specs.declared.fault.ScriptFault.{ScriptFault}
+use Rattle.job_script.specs.declared.fault.ScriptFault.TheVariants.{BadLine, BadNumber, BadPath, DestIsRoot}
+use Rattle.job_script.specs.declared.head.Head.{Head}
+use Rattle.job_script.specs.declared.head.HeadWord.{HeadWord}
+use Rattle.path_keys.specs.Paths.{Path, path_in}
+use Rattle.path_keys.specs.declared.fault.PathFault.{PathFault}
+use Rattle.pending_json.specs.Committers.{committer_word}
+use Rattle.s3_types.specs.Names.{is_job_id}
+use Rattle.s3_types.specs.declared.request.Committer.{Committer}
+use Rattle.s3_types.specs.declared.request.Mode.{Mode}
+use Rattle.std.proofs.Common.{Bool, List, None, Ok, Option, Result, Some, ap, arith, decimal, false, length, lit<, refl, subst, sym, true}
+use Rattle.std.proofs.Common.{ℕ, [], ◌++◌, ◌+◌, ◌<◌, ◌==◌, ◌^◌, ◌∙◌, ◌∷◌, ◌≡◌, ◌≤◌}
+use Rattle.std.proofs.lemmas.Bool.{lt-ltb}
+use Rattle.std.specs.List.{AllByRecursion, flat_map}
+use Rattle.std.specs.Prelude.{IfSome, codes, nat_lt, option_map}
 use Rattle.s3_types.specs.declared.request.Committer.TheVariants as committer
 use Rattle.s3_types.specs.declared.request.Mode.TheVariants as mode
 use Rattle.job_script.specs.declared.draft.Group.TheVariants as group
 use Rattle.job_script.specs.declared.head.HeadWord.TheVariants as head
 use Rattle.job_script.specs.declared.kinds.Kind.TheVariants as kind
-use Rattle.job_script.specs.Kinds.{Names, named, committers, modes, answers, mode_word, answer_word}
-use Rattle.job_script.specs.HeadLines.{Value, Row, row, job_of, as_path, dest_of, path_text, name, number, unless, no_head, head_order, row_at, head_at, value_lines, row_lines}
-use Rattle.job_script.specs.Script.{kind_of, is_skipped, said_at, nothing}
-use Rattle.job_script.proofs.Words.{is_lettered, id_lettered, decimal_lettered, literal_word, number_bounds, word_clean}
-use Rattle.job_script.proofs.DestPaths.{path_again, path_word, path_last, key_some, path_sound, dest_legal}
-use Rattle.job_script.proofs.Lines.{IsPrinted, printed, Goes, goes_nowhere, goes_on, goes_through, said}
 
 -- ---- a kind of line
 
@@ -38,10 +63,12 @@ record IsRow {A : Type 0} (word : List ℕ) (read : ℕ → List ℕ → Result 
   pub sound : (n : ℕ) (value : List ℕ) (x : A) → IsScriptWord value → read n value ≡ Ok x → Fits x
 
 -- a word of letters, and such a value
-valued : (word value : List ℕ) → is_lettered word ≡ true → is_lettered value ≡ true → is_skipped (word ++ 32 ∷ value) ≡ false → IsPrinted (word ∷ value ∷ [])
+valued : (word value : List ℕ) → is_lettered word ≡ true → is_lettered value ≡ true → is_skipped (word ++ 32 ∷ value) ≡ false
+    → IsPrinted (word ∷ value ∷ [])
 valued word value w v shown = printed word (value ∷ []) (rw (w, v) refl) shown
 
-number_row : (word : List ℕ) (low high : ℕ) → high < 10 ^ 18 → is_lettered word ≡ true → ((v : List ℕ) → is_skipped (word ++ 32 ∷ v) ≡ false) → IsRow word (number low high) decimal (Between low high)
+number_row : (word : List ℕ) (low high : ℕ) → high < 10 ^ 18 → is_lettered word ≡ true
+    → ((v : List ℕ) → is_skipped (word ++ 32 ∷ v) ≡ false) → IsRow word (number low high) decimal (Between low high)
 unfolding number
 number_row word low high most w shown = record {
   printed = λ x h. valued word (decimal x) w (decimal_lettered x (omega (arith, most, h.1))) (shown (decimal x));
@@ -53,7 +80,8 @@ number_row word low high most w shown = record {
 abbrev pub IsName : {A : Type 0} → Names A → (A → List ℕ) → A → Type 0
 IsName names text x = (named names (text x) ≡ Some x) × (is_lettered (text x) ≡ true)
 
-name_row : {A : Type 0} (word : List ℕ) (names : Names A) (text : A → List ℕ) → ((x : A) → IsName names text x) → is_lettered word ≡ true → ((v : List ℕ) → is_skipped (word ++ 32 ∷ v) ≡ false) → IsRow word (name names) text (λ x. Unit {0})
+name_row : {A : Type 0} (word : List ℕ) (names : Names A) (text : A → List ℕ) → ((x : A) → IsName names text x) → is_lettered word ≡ true
+    → ((v : List ℕ) → is_skipped (word ++ 32 ∷ v) ≡ false) → IsRow word (name names) text (λ x. Unit {0})
 name_row word names text is w shown = record {
   printed = λ x h. valued word (text x) w (is x).1 (shown (text x));
   again = λ n x h. ap (λ o. need o (BadLine n)) (is x).0;
@@ -133,17 +161,20 @@ by_row : (n : ℕ) (w : HeadWord) (h : Head) (values : List (List ℕ)) → head
 by_row n head.Job h values = refl
 by_row n w h values = refl
 
-value_again : (n : ℕ) (w : HeadWord) (h : Head) (x : Value w) → Holds w x → (row w).kept h ≡ None → said_at n (kind.Head w) (headed h) ((row w).text x ∷ []) ≡ Ok (headed ((row w).put n (Some x) h))
+value_again : (n : ℕ) (w : HeadWord) (h : Head) (x : Value w) → Holds w x → (row w).kept h ≡ None
+    → said_at n (kind.Head w) (headed h) ((row w).text x ∷ []) ≡ Ok (headed ((row w).put n (Some x) h))
 unfolding said_at
 value_again n w h x b none = rw (by_row n w h ((row w).text x ∷ []), (is_row w).again n x b, none) refl
 
 -- the line of a value, if there is one
-value_goes : (n : ℕ) (w : HeadWord) (h : Head) (o : Option (Value w)) → IfSome o (Holds w) → (row w).kept h ≡ None → (row w).put n None h ≡ h
+value_goes : (n : ℕ) (w : HeadWord) (h : Head) (o : Option (Value w)) → IfSome o (Holds w) → (row w).kept h ≡ None
+    → (row w).put n None h ≡ h
     → Goes n (headed h) (value_lines (row w).word (option_map (row w).text o)) (headed ((row w).put n o h))
 value_goes n w h None b none same = subst (λ (k : Head). Goes n (headed h) [] (headed k)) (sym same) (goes_nowhere n (headed h))
 value_goes n w h (Some x) b none same =
     goes_on n (headed h) (headed ((row w).put n (Some x) h)) ((row w).word ∷ (row w).text x ∷ []) ((is_row w).printed x b)
-    (said n (row w).word (kind.Head w) group.Head ((row w).text x ∷ []) (headed h) (headed ((row w).put n (Some x) h)) (its_kind w) refl (value_again n w h x b none))
+    (said n (row w).word (kind.Head w) group.Head ((row w).text x ∷ []) (headed h) (headed ((row w).put n (Some x) h)) (its_kind w) refl
+    (value_again n w h x b none))
 
 unless_so : (default n : ℕ) (P : ℕ → Type 0) → ((n == default) ≡ false → P n) → IfSome (unless default n) P
 unless_so default n P f = grind arith
@@ -170,12 +201,15 @@ said_by s n (w ∷ ws) h = said_by s (n + length (row_lines s w)) ws ((row w).pu
 -- none of these kinds of lines has come when its turn comes
 abbrev AreFree : Script → ℕ → List HeadWord → Head → Type 0
 AreFree s n [] h = Unit {0}
-AreFree s n (w ∷ ws) h = ((row w).kept h ≡ None) × ((row w).put n None h ≡ h) × AreFree s (n + length (row_lines s w)) ws ((row w).put n ((row w).said s) h)
+AreFree s n (w ∷ ws) h = ((row w).kept h ≡ None) × ((row w).put n None h ≡ h)
+    × AreFree s (n + length (row_lines s w)) ws ((row w).put n ((row w).said s) h)
 
-rows_go : (s : Script) → IsLegal s → (n : ℕ) (ws : List HeadWord) (h : Head) → AreFree s n ws h → Goes n (headed h) (flat_map (row_lines s) ws) (headed (said_by s n ws h))
+rows_go : (s : Script) → IsLegal s → (n : ℕ) (ws : List HeadWord) (h : Head) → AreFree s n ws h
+    → Goes n (headed h) (flat_map (row_lines s) ws) (headed (said_by s n ws h))
 rows_go s l n [] h f = goes_nowhere n (headed h)
 rows_go s l n (w ∷ ws) h f =
-    goes_through n (headed h) (row_lines s w) (headed ((row w).put n ((row w).said s) h)) (flat_map (row_lines s) ws) _ (value_goes n w h ((row w).said s) (legal_said s l w) f.0 f.1)
+    goes_through n (headed h) (row_lines s w) (headed ((row w).put n ((row w).said s) h)) (flat_map (row_lines s) ws) _
+    (value_goes n w h ((row w).said s) (legal_said s l w) f.0 f.1)
     (rows_go s l (n + length (row_lines s w)) ws ((row w).put n ((row w).said s) h) f.2)
 
 -- the lines of a script's head are read as what it says
@@ -212,7 +246,8 @@ pub record IsSoundHead (h : Head) : Type 0 where
   pub fates : AreFates h.fates
 
 -- a value that a line gives, beside those before
-put_sound : (w v : HeadWord) (n : ℕ) (x : Value w) (h : Head) → Holds w x → IfSome ((row v).kept h) (Holds v) → IfSome ((row v).kept ((row w).put n (Some x) h)) (Holds v)
+put_sound : (w v : HeadWord) (n : ℕ) (x : Value w) (h : Head) → Holds w x → IfSome ((row v).kept h) (Holds v)
+    → IfSome ((row v).kept ((row w).put n (Some x) h)) (Holds v)
 put_sound head.Job head.Job n x h b old = b
 put_sound head.Dest head.Dest n x h b old = b
 put_sound head.Committer head.Committer n x h b old = b
@@ -233,11 +268,13 @@ put_fates w n x h f = f
 one_word : (values : List (List ℕ)) (w : List ℕ) → one values ≡ Some w → AllByRecursion IsScriptWord values → IsScriptWord w
 one_word values w h all = grind arith
 
-row_parts : {A : Type 0} (r : Row A) (n : ℕ) (h k : Head) (values : List (List ℕ)) → row_at r n h values ≡ Ok k → (word : List ℕ) × (x : A) × (one values ≡ Some word) × (r.read n word ≡ Ok x) × (r.put n (Some x) h ≡ k)
+row_parts : {A : Type 0} (r : Row A) (n : ℕ) (h k : Head) (values : List (List ℕ)) → row_at r n h values ≡ Ok k → (word : List ℕ) × (x : A)
+    × (one values ≡ Some word) × (r.read n word ≡ Ok x) × (r.put n (Some x) h ≡ k)
 row_parts r n h k values e = grind arith
 
 -- a line that gives one value keeps the bounds
-pub value_sound : (n : ℕ) (w : HeadWord) (h k : Head) (values : List (List ℕ)) → AllByRecursion IsScriptWord values → head_at n w h values ≡ Ok k → IsSoundHead h → IsSoundHead k
+pub value_sound : (n : ℕ) (w : HeadWord) (h k : Head) (values : List (List ℕ)) → AllByRecursion IsScriptWord values
+    → head_at n w h values ≡ Ok k → IsSoundHead h → IsSoundHead k
 value_sound n w h k values words e s =
     let p = row_parts (row w) n h k values (sym (by_row n w h values) ∙ e) in
     let bound = (is_row w).sound n p.0 p.1 (one_word values p.0 p.2 words) p.3 in

@@ -8,4 +8,3 @@ pub mod AttemptLines
 pub mod EventLines
 pub mod Whole
 pub mod PrintLines
-mod Common

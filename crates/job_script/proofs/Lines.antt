@@ -1,7 +1,24 @@
 -- The lines of a printed text are read again, one after another.
-use Rattle.job_script.proofs.Common.{AllByRecursion, AreLines, Draft, Group, IsBare, IsScriptWord, IsUtf8, IsUtf8-append, IsUtf8-from_is_utf8, IsUtf8-nil, Kind, Line, List, Ok, Some, [], and_parts, ap, append-nil, append_assoc, arith, bare-joined, ended, false, is_utf8, is_utf8-from_IsUtf8, joined, kept_end, length, length-append, lines_again, lines_of, list_all, map, map-append, nat_lt, one_byte, subst, sym, text_of, true, without_return, ℕ, ◌++◌, ◌+◌, ◌>>=◌, ◌∙◌, ◌∷◌, ◌≡◌}
-use Rattle.job_script.specs.Script.{kind_of, enters, is_skipped, said_at, words_at, line_at, lines_at}
+use Rattle.basics.proofs.Lists.{one_byte}
+use Rattle.basics.proofs.Round.{AreLines, bare-joined, kept_end, lines_again}
+use Rattle.basics.specs.Lines.{lines_of, without_return}
+use Rattle.basics.specs.Reading.{◌>>=◌}
+use Rattle.basics.specs.Words.{IsBare, ended, joined, text_of}
+use Rattle.job_model.specs.Legal.{IsScriptWord}
 use Rattle.job_script.proofs.Words.{is_letter, is_lettered, literal_word, plain_word}
+use Rattle.job_script.specs.Kinds.{Line}
+use Rattle.job_script.specs.Script.{enters, is_skipped, kind_of, line_at, lines_at, said_at, words_at}
+use Rattle.job_script.specs.declared.draft.Draft.{Draft}
+use Rattle.job_script.specs.declared.draft.Group.{Group}
+use Rattle.job_script.specs.declared.kinds.Kind.{Kind}
+use Rattle.std.proofs.Common.{List, Ok, Some, ap, append_assoc, arith, false, length, map, subst, sym, true, ℕ, [], ◌++◌, ◌+◌, ◌∙◌, ◌∷◌}
+use Rattle.std.proofs.Common.{◌≡◌}
+use Rattle.std.proofs.lemmas.Bool.{and_parts}
+use Rattle.std.proofs.lemmas.List.{append-nil, length-append, map-append}
+use Rattle.std.proofs.lemmas.Str.{IsUtf8-append, IsUtf8-from_is_utf8, IsUtf8-nil, is_utf8-from_IsUtf8}
+use Rattle.std.specs.List.{AllByRecursion, list_all}
+use Rattle.std.specs.Prelude.{nat_lt}
+use Rattle.std.specs.Str.{IsUtf8, is_utf8}
 
 -- ---- a printed line
 
@@ -67,11 +84,13 @@ lines_printed ls h = lines_again ls (are_lines ls h)
 joined_utf8 : (ws : Line) → AllByRecursion IsScriptWord ws → IsUtf8 (joined ws)
 joined_utf8 [] h = IsUtf8-nil
 joined_utf8 (w ∷ []) h = IsUtf8-from_is_utf8 w h.0.0
-joined_utf8 (w ∷ v ∷ ws) h = IsUtf8-append w (32 ∷ joined (v ∷ ws)) (IsUtf8-from_is_utf8 w h.0.0) (IsUtf8-append (32 ∷ []) (joined (v ∷ ws)) (one_byte 32 (omega arith)) (joined_utf8 (v ∷ ws) h.1))
+joined_utf8 (w ∷ v ∷ ws) h = IsUtf8-append w (32 ∷ joined (v ∷ ws)) (IsUtf8-from_is_utf8 w h.0.0)
+    (IsUtf8-append (32 ∷ []) (joined (v ∷ ws)) (one_byte 32 (omega arith)) (joined_utf8 (v ∷ ws) h.1))
 
 text_utf8 : (ls : List Line) → AllByRecursion IsPrinted ls → IsUtf8 (text_of ls)
 text_utf8 [] h = IsUtf8-nil
-text_utf8 (l ∷ ls) h = IsUtf8-append (ended l) (text_of ls) (IsUtf8-append (joined l) (10 ∷ []) (joined_utf8 l h.0.words) (one_byte 10 (omega arith))) (text_utf8 ls h.1)
+text_utf8 (l ∷ ls) h = IsUtf8-append (ended l) (text_of ls) (IsUtf8-append (joined l) (10 ∷ []) (joined_utf8 l h.0.words)
+    (one_byte 10 (omega arith))) (text_utf8 ls h.1)
 
 pub printed_utf8 : (ls : List Line) → AllByRecursion IsPrinted ls → is_utf8 (text_of ls) ≡ true
 printed_utf8 ls h = is_utf8-from_IsUtf8 (text_of ls) (text_utf8 ls h)
@@ -90,7 +109,8 @@ line_printed : (n : ℕ) (d : Draft) (l : Line) → IsPrinted l → line_at n d 
 line_printed n d [] h = absurd h.kept
 line_printed n d (w ∷ ws) h = rw h.shown (ap (words_at n d) (bare-joined w ws (bares (w ∷ ws) h.words)))
 
-next_line : (n : ℕ) (d e : Draft) (text : List ℕ) (texts : List (List ℕ)) → line_at n d text ≡ Ok e → lines_at n d (text ∷ texts) ≡ lines_at (n + 1) e texts
+next_line : (n : ℕ) (d e : Draft) (text : List ℕ) (texts : List (List ℕ)) → line_at n d text ≡ Ok e
+    → lines_at n d (text ∷ texts) ≡ lines_at (n + 1) e texts
 unfolding lines_at
 next_line n d e text texts h = ap (λ r. r >>= λ (next : Draft). lines_at (n + 1) next texts) h
 
@@ -103,13 +123,16 @@ printed_end [] ms h k = k
 printed_end (l ∷ ls) ms h k = (h.0, printed_end ls ms h.1 k)
 
 -- lines behind lines
-pub goes_through : (n : ℕ) (d : Draft) (ls : List Line) (e : Draft) (ms : List Line) (f : Draft) → Goes n d ls e → Goes (n + length ls) e ms f → Goes n d (ls ++ ms) f
+pub goes_through : (n : ℕ) (d : Draft) (ls : List Line) (e : Draft) (ms : List Line) (f : Draft) → Goes n d ls e
+    → Goes (n + length ls) e ms f → Goes n d (ls ++ ms) f
 goes_through n d ls e ms f first second =
     let all : n + length ls + length ms ≡ n + length (ls ++ ms) = omega (arith, length-append ls ms) in
-    let split = λ (rest : List (List ℕ)). ap (λ (l : List (List ℕ)). l ++ rest) (map-append joined ls ms) ∙ append_assoc (map joined ls) (map joined ms) rest in
+    let split = λ (rest : List (List ℕ)). ap (λ (l : List (List ℕ)). l ++ rest) (map-append joined ls ms) ∙ append_assoc (map joined ls)
+    (map joined ms) rest in
     record {
       printed = printed_end ls ms first.printed second.printed;
-      reads = λ rest. ap (lines_at n d) (split rest) ∙ first.reads (map joined ms ++ rest) ∙ second.reads rest ∙ ap (λ (m : ℕ). lines_at m f rest) all;
+      reads = λ rest. ap (lines_at n d) (split rest) ∙ first.reads (map joined ms ++ rest) ∙ second.reads rest ∙ ap
+          (λ (m : ℕ). lines_at m f rest) all;
     }
 
 -- lines up to the last
@@ -117,23 +140,30 @@ pub goes_all : (n : ℕ) (d : Draft) (ls : List Line) (e : Draft) → Goes n d l
 unfolding lines_at
 goes_all n d ls e h = ap (lines_at n d) (sym (append-nil (map joined ls))) ∙ h.reads []
 
--- a list of things, each printed in some lines: `state` is the draft behind those before, and `Are` is what holds of those before and those behind
-module _ {A : Type 0} (lines : A → List Line) (print : List A → List Line) (none : print [] ≡ []) (more : (x : A) (xs : List A) → print (x ∷ xs) ≡ lines x ++ print xs)
+-- a list of things, each printed in some lines: `state` is the draft behind those before, and `Are` is what holds of those before and those
+-- behind
+module _ {A : Type 0} (lines : A → List Line) (print : List A → List Line) (none : print [] ≡ [])
+    (more : (x : A) (xs : List A) → print (x ∷ xs) ≡ lines x ++ print xs)
     (state : List A → Draft) (whole : List A) (Are : List A → List A → Type 0) where
   -- one more goes from the state before it to the one behind it
   abbrev pub GoesOne : Type 0
-  GoesOne = (n : ℕ) (before : List A) (x : A) (after : List A) → before ++ x ∷ after ≡ whole → Are before (x ∷ after) → Goes n (state before) (lines x) (state (before ++ x ∷ [])) × Are (before ++ x ∷ []) after
+  GoesOne = (n : ℕ) (before : List A) (x : A) (after : List A) → before ++ x ∷ after ≡ whole → Are before (x ∷ after)
+      → Goes n (state before) (lines x) (state (before ++ x ∷ [])) × Are (before ++ x ∷ []) after
 
-  pub each_goes : GoesOne → (n : ℕ) (before after : List A) → before ++ after ≡ whole → Are before after → Goes n (state before) (print after) (state whole)
-  each_goes one n before [] e are = subst (λ (ls : List Line). Goes n (state before) ls (state whole)) (sym none) (subst (λ (l : List A). Goes n (state before) [] (state l)) (sym (append-nil before) ∙ e) (goes_nowhere n (state before)))
+  pub each_goes : GoesOne → (n : ℕ) (before after : List A) → before ++ after ≡ whole → Are before after
+      → Goes n (state before) (print after) (state whole)
+  each_goes one n before [] e are = subst (λ (ls : List Line). Goes n (state before) ls (state whole)) (sym none)
+      (subst (λ (l : List A). Goes n (state before) [] (state l)) (sym (append-nil before) ∙ e) (goes_nowhere n (state before)))
   each_goes one n before (x ∷ xs) e are =
       let g = one n before x xs e are in
       subst (λ (ls : List Line). Goes n (state before) ls (state whole)) (sym (more x xs))
-      (goes_through n (state before) (lines x) (state (before ++ x ∷ [])) (print xs) (state whole) g.0 (each_goes one (n + length (lines x)) (before ++ x ∷ []) xs (append_assoc before (x ∷ []) xs ∙ e) g.1))
+      (goes_through n (state before) (lines x) (state (before ++ x ∷ [])) (print xs) (state whole) g.0
+      (each_goes one (n + length (lines x)) (before ++ x ∷ []) xs (append_assoc before (x ∷ []) xs ∙ e) g.1))
 
 -- ---- what a line is read by
 
 -- a line is read by its kind, where it may stand there
-pub said : (n : ℕ) (word : List ℕ) (k : Kind) (g : Group) (values : List (List ℕ)) (d e : Draft) → kind_of word ≡ Some k → enters k d.group ≡ Some g → said_at n k (record d { group = g }) values ≡ Ok e → words_at n d (word ∷ values) ≡ Ok e
+pub said : (n : ℕ) (word : List ℕ) (k : Kind) (g : Group) (values : List (List ℕ)) (d e : Draft) → kind_of word ≡ Some k
+    → enters k d.group ≡ Some g → said_at n k (record d { group = g }) values ≡ Ok e → words_at n d (word ∷ values) ≡ Ok e
 unfolding words_at
 said n word k g values d e a b h = rw (a, b) h

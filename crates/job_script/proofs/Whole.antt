@@ -1,19 +1,45 @@
 -- The whole script: its printed text is read again, and what is read has the bounds of a script.
-use Rattle.job_script.proofs.Common.{AllByRecursion, AreAttempts, AreEvents, AreFates, BadLine, Bool, Committer, Declared, Draft, Event, Fate, FitsMagic, Group, Head, IfSome, IsLegal, IsScriptWord, Kind, List, MissingHead, Mode, None, Ok, Option, Path, Script, Some, UnknownWord, [], ap, arith, false, flat_map, head_at, head_lines, head_order, is_inside, is_utf8, le-leb, length, lines_of, loss_at, loss_lines, map, nat_cmp, need, needed, no_head, none_left, one_longer, parted, refl, row_lines, same_ok, subst, sym, text_of, true, unless, unwrap_or, words_of, ℕ, ⊤, ◌++◌, ◌+◌, ◌<◌, ◌==◌, ◌^◌, ◌∙◌, ◌∷◌, ◌≡◌, ◌≤◌, if◌then◌else◌}
+use Rattle.basics.proofs.Lists.{one_longer}
+use Rattle.basics.proofs.Reading.{needed, parted, same_ok}
+use Rattle.basics.proofs.Split.{none_left}
+use Rattle.basics.specs.Lines.{is_inside, lines_from, lines_of}
+use Rattle.basics.specs.Reading.{need}
+use Rattle.basics.specs.Words.{text_of, words_of}
+use Rattle.job_model.specs.Attempts.{Declared}
+use Rattle.job_model.specs.JobScript.{Script}
+use Rattle.job_model.specs.Legal.{AreAttempts, AreEvents, AreFates, FitsMagic, IsLegal, IsScriptWord}
+use Rattle.job_model.specs.declared.events.Event.{Event}
+use Rattle.job_script.proofs.AttemptLines.{Grown, IsSoundAttempts, attempt_sound, attempts_go, file_sound, group_after}
+use Rattle.job_script.proofs.EventLines.{Added, are_named, event_added, events_go, events_more}
+use Rattle.job_script.proofs.HeadLines.{Holds, IsSoundHead, drafted, head_goes, headed, none_sound, said_by, value_sound}
+use Rattle.job_script.proofs.Lines.{Goes, goes_all, goes_through, lines_printed, printed_utf8}
+use Rattle.job_script.proofs.LossLines.{loss_line_sound, losses_go}
+use Rattle.job_script.proofs.Words.{IsClean, line_words, text_clean}
+use Rattle.job_script.specs.HeadLines.{head_at, head_lines, head_order, loss_at, loss_lines, no_head, row_lines, unless}
+use Rattle.job_script.specs.Print.{attempt_lines, event_line, script_lines, script_text}
+use Rattle.job_script.specs.Script.{all_inside, complete, enters, is_skipped, kind_of, line_at, lines_at, mode_in, nothing, said_at}
+use Rattle.job_script.specs.Script.{script_of, script_within, unique_in, words_at}
+use Rattle.job_script.specs.declared.draft.Draft.{Draft}
+use Rattle.job_script.specs.declared.draft.Group.{Group}
+use Rattle.job_script.specs.declared.fault.ScriptFault.TheVariants.{BadLine, MissingHead, UnknownWord}
+use Rattle.job_script.specs.declared.head.Head.{Head}
+use Rattle.job_script.specs.declared.kinds.Kind.{Kind}
+use Rattle.path_keys.specs.Paths.{Path}
+use Rattle.s3_types.specs.declared.fates.Fate.{Fate}
+use Rattle.s3_types.specs.declared.request.Committer.{Committer}
+use Rattle.s3_types.specs.declared.request.Mode.{Mode}
+use Rattle.std.proofs.Common.{Bool, List, None, Ok, Option, Some, ap, arith, false, length, map, refl, subst, sym, true, ℕ, [], ◌++◌, ◌+◌}
+use Rattle.std.proofs.Common.{◌<◌, ◌==◌, ◌^◌, ◌∙◌, ◌∷◌, ◌≡◌, ◌≤◌}
+use Rattle.std.proofs.lemmas.Bool.{le-leb}
+use Rattle.std.specs.List.{AllByRecursion, flat_map}
+use Rattle.std.specs.Option.{unwrap_or}
+use Rattle.std.specs.Ordering.{nat_cmp}
+use Rattle.std.specs.Prelude.{IfSome, if◌then◌else◌, ⊤}
+use Rattle.std.specs.Str.{is_utf8}
 use Rattle.std.specs.FinMap as fin
-use Rattle.basics.specs.Lines.{lines_from}
 use Rattle.job_script.specs.declared.draft.Group.TheVariants as group
 use Rattle.job_script.specs.declared.head.HeadWord.TheVariants as head
 use Rattle.job_script.specs.declared.kinds.Kind.TheVariants as kind
-use Rattle.job_script.specs.Script.{kind_of, enters, is_skipped, said_at, words_at, line_at, lines_at, nothing, mode_in, unique_in}
-use Rattle.job_script.specs.Script.{all_inside, complete, script_of, script_within}
-use Rattle.job_script.specs.Print.{attempt_lines, event_line, script_lines, script_text}
-use Rattle.job_script.proofs.Words.{IsClean, text_clean, line_words}
-use Rattle.job_script.proofs.Lines.{Goes, goes_through, goes_all, lines_printed, printed_utf8}
-use Rattle.job_script.proofs.HeadLines.{Holds, IsSoundHead, headed, drafted, said_by, head_goes, value_sound, none_sound}
-use Rattle.job_script.proofs.LossLines.{losses_go, loss_line_sound}
-use Rattle.job_script.proofs.AttemptLines.{IsSoundAttempts, Grown, attempts_go, attempt_sound, file_sound, group_after}
-use Rattle.job_script.proofs.EventLines.{Added, are_named, events_go, event_added, events_more}
 
 -- ---- the code's loop over lines, and the checks after the last
 
@@ -22,10 +48,28 @@ pub at_end : (n : ℕ) (d : Draft) (rest : List ℕ) {b : Bool} → b ≡ (lengt
 unfolding lines_at lines_from
 at_end n d rest is h = rw (none_left rest rest refl is h) refl
 
-pub completed : (d : Draft) (job : List ℕ) (dest : Path) (committer : Committer) (tasks : ℕ) (mode : Mode) (unique : Bool) (retries block lanes : ℕ) (u : ⊤)
-    → need d.head.job MissingHead ≡ Ok job → need d.head.dest MissingHead ≡ Ok dest → need d.head.committer MissingHead ≡ Ok committer → need d.head.tasks MissingHead ≡ Ok tasks
-    → mode_in committer d.head.mode ≡ Ok mode → unique_in committer d.head.unique ≡ Ok unique → retries ≡ unwrap_or d.head.retries 3 → block ≡ unwrap_or d.head.block 0 → lanes ≡ unwrap_or d.head.lanes 1 → all_inside d.outside ≡ Ok u
-    → complete d ≡ Ok (record { job = job; dest = dest; committer = committer; mode = mode; unique = unique; tasks = tasks; retries = retries; block = block; lanes = lanes; stamp = d.head.stamp; fates = d.head.fates; attempts = d.attempts; events = d.events })
+pub completed : (d : Draft) (job : List ℕ) (dest : Path) (committer : Committer) (tasks : ℕ) (mode : Mode) (unique : Bool)
+    (retries block lanes : ℕ) (u : ⊤)
+    → need d.head.job MissingHead ≡ Ok job → need d.head.dest MissingHead ≡ Ok dest → need d.head.committer MissingHead ≡ Ok committer
+    → need d.head.tasks MissingHead ≡ Ok tasks
+    → mode_in committer d.head.mode ≡ Ok mode → unique_in committer d.head.unique ≡ Ok unique → retries ≡ unwrap_or d.head.retries 3
+    → block ≡ unwrap_or d.head.block 0 → lanes ≡ unwrap_or d.head.lanes 1 → all_inside d.outside ≡ Ok u
+    → complete d ≡ Ok (record {
+      job = job;
+      dest = dest;
+      committer = committer;
+      mode = mode;
+      unique = unique;
+      tasks = tasks;
+      retries =
+          retries;
+      block = block;
+      lanes = lanes;
+      stamp = d.head.stamp;
+      fates = d.head.fates;
+      attempts = d.attempts;
+      events = d.events;
+    })
 unfolding complete
 completed d job dest committer tasks mode unique retries block lanes u a b c e f g r k m h = rw (a, b, c, e, f, g, h, r, k, m) refl
 
@@ -46,7 +90,8 @@ whole_head s k = record (said_by s 1 head_order (no_head k)) { fates = s.fates }
 
 -- all that a script's lines have said
 abbrev whole_draft : Script → ℕ → Draft
-whole_draft s k = drafted (group_after (group_after group.Head group.Attempts s.attempts) group.Events s.events) (whole_head s k) s.attempts s.events
+whole_draft s k = drafted (group_after (group_after group.Head group.Attempts s.attempts) group.Events s.events) (whole_head s k) s.attempts
+    s.events
 
 script_goes : (most : ℕ) (s : Script) → IsLegal s → fin.len s.fates ≤ most
     → (k : ℕ) × Goes 1 (nothing most) (script_lines s) (whole_draft s k)
@@ -62,15 +107,19 @@ script_goes most s h few =
     losses.1 in (
       k,
       goes_through 1 (nothing most) (head_lines s) (headed (whole_head s k)) (attempts ++ events) (whole_draft s k) first
-          (goes_through (1 + length (head_lines s)) (headed (whole_head s k)) attempts (drafted enter (whole_head s k) s.attempts []) events (whole_draft s k)
-          (attempts_go (whole_head s k) s.tasks refl h.tasks (1 + length (head_lines s)) s.attempts h.attempts (record { attempts = h.few_attempts; files = h.few_files; bytes = h.few_bytes }))
-          (events_go (1 + length (head_lines s) + length attempts) enter (whole_head s k) s.attempts s.events (are_named s.tasks [] s.attempts h.tasks h.attempts) h.events h.few_events)),
+          (goes_through (1 + length (head_lines s)) (headed (whole_head s k)) attempts (drafted enter (whole_head s k) s.attempts []) events
+          (whole_draft s k)
+          (attempts_go (whole_head s k) s.tasks refl h.tasks (1 + length (head_lines s)) s.attempts h.attempts
+          (record { attempts = h.few_attempts; files = h.few_files; bytes = h.few_bytes }))
+          (events_go (1 + length (head_lines s) + length attempts) enter (whole_head s k) s.attempts s.events
+          (are_named s.tasks [] s.attempts h.tasks h.attempts) h.events h.few_events)),
     )
 
 whole_script : (s : Script) (k : ℕ) → IsLegal s → complete (whole_draft s k) ≡ Ok s
 whole_script s k h =
     completed (whole_draft s k) s.job s.dest s.committer s.tasks s.mode s.unique s.retries s.block s.lanes tt refl refl refl refl
-    (mode_again s.committer 5 s.mode s.unique h.magic) (unique_again s.committer 6 s.mode s.unique h.magic) refl (unless_kept 0 s.block) (unless_kept 1 s.lanes) refl
+    (mode_again s.committer 5 s.mode s.unique h.magic) (unique_again s.committer 6 s.mode s.unique h.magic) refl (unless_kept 0 s.block)
+    (unless_kept 1 s.lanes) refl
 
 read_from : (most size : ℕ) (bytes : List ℕ) (d : Draft) (s : Script) → length bytes ≤ size → is_utf8 bytes ≡ true
     → lines_at 1 (nothing most) (lines_of bytes) ≡ Ok d → complete d ≡ Ok s → script_within most size bytes ≡ Ok s
@@ -111,7 +160,15 @@ record IsSound (d : Draft) : Type 0 where
 head_kept : (d : Draft) (h : Head) → d.attempts ≡ [] → IsSoundHead h → IsSound d → IsSound (record d { head = h })
 head_kept d h none is s = record {
   head = is;
-  attempts = record { attempts = λ tasks t o. subst (AreAttempts tasks []) (sym none) tt; few = s.attempts.few; counted = s.attempts.counted; few_files = s.attempts.few_files; measured = s.attempts.measured; few_bytes = s.attempts.few_bytes };
+  attempts = record {
+    attempts = λ tasks t o. subst (AreAttempts tasks []) (sym none) tt;
+    few = s.attempts.few;
+    counted =
+        s.attempts.counted;
+    few_files = s.attempts.few_files;
+    measured = s.attempts.measured;
+    few_bytes = s.attempts.few_bytes;
+  };
   events = s.events;
   few = s.few;
   early = s.early;
@@ -120,14 +177,27 @@ head_kept d h none is s = record {
 -- a line of attempts or files, before any event
 grown : (d e : Draft) → Grown d e → d.group ≡ group.Attempts → d.events ≡ [] → IsSound d → IsSound e
 grown d e g at none s =
-    subst IsSound g.is (record { head = s.head; attempts = g.sound; events = subst (AreEvents g.all) (sym none) tt; few = s.few; early = subst (λ (x : Group). IsEarly x g.all d.events) (sym at) none })
+    subst IsSound g.is (record {
+      head = s.head;
+      attempts = g.sound;
+      events = subst (AreEvents g.all) (sym none) tt;
+      few = s.few;
+      early =
+          subst (λ (x : Group). IsEarly x g.all d.events) (sym at) none;
+    })
 
 -- one more event
 added : (d e : Draft) → Added d e → d.group ≡ group.Events → IsSound d → IsSound e
 added d e a at s =
     let longer = one_longer d.events a.event in
     let few = a.few in
-    subst IsSound a.after (record { head = s.head; attempts = s.attempts; events = events_more d.attempts d.events a.event a.is s.events; few = omega arith; early = subst (λ (x : Group). IsEarly x d.attempts (d.events ++ a.event ∷ [])) (sym at) tt })
+    subst IsSound a.after (record {
+      head = s.head;
+      attempts = s.attempts;
+      events = events_more d.attempts d.events a.event a.is s.events;
+      few = omega arith;
+      early = subst (λ (x : Group). IsEarly x d.attempts (d.events ++ a.event ∷ [])) (sym at) tt;
+    })
 
 -- the group that a kind of line is of
 abbrev group_of : Kind → Group
@@ -137,22 +207,27 @@ group_of (kind.Event w) = group.Events
 group_of k = group.Attempts
 
 -- a line's group is its kind's, and comes behind those before it
-grouped : (k : Kind) (now g : Group) (all : List Declared) (es : List Event) → enters k now ≡ Some g → IsEarly now all es → (g ≡ group_of k) × IsEarly (group_of k) all es
+grouped : (k : Kind) (now g : Group) (all : List Declared) (es : List Event) → enters k now ≡ Some g → IsEarly now all es → (g ≡ group_of k)
+    × IsEarly (group_of k) all es
 grouped k now g all es h e = grind arith
 
-said_sound : (n : ℕ) (k : Kind) (d e : Draft) (values : List (List ℕ)) → AllByRecursion IsScriptWord values → d.group ≡ group_of k → IsEarly (group_of k) d.attempts d.events → said_at n k d values ≡ Ok e → IsSound d → IsSound e
+said_sound : (n : ℕ) (k : Kind) (d e : Draft) (values : List (List ℕ)) → AllByRecursion IsScriptWord values → d.group ≡ group_of k
+    → IsEarly (group_of k) d.attempts d.events → said_at n k d values ≡ Ok e → IsSound d → IsSound e
 unfolding said_at
 said_sound n (kind.Head w) d e values words at early h s =
     let a = parted (head_at n w d.head values) _ _ h in
-    subst IsSound (same_ok (record d { head = a.value }) e a.next) (head_kept d a.value early.0 (value_sound n w d.head a.value values words a.first s.head) s)
+    subst IsSound (same_ok (record d { head = a.value }) e a.next) (head_kept d a.value early.0
+    (value_sound n w d.head a.value values words a.first s.head) s)
 said_sound n kind.Loss d e values words at early h s =
     let a = parted (loss_at n d.head values) _ _ h in
-    subst IsSound (same_ok (record d { head = a.value }) e a.next) (head_kept d a.value early.0 (loss_line_sound n d.head a.value values a.first s.head) s)
+    subst IsSound (same_ok (record d { head = a.value }) e a.next) (head_kept d a.value early.0
+    (loss_line_sound n d.head a.value values a.first s.head) s)
 said_sound n kind.Attempt d e values words at early h s = grown d e (attempt_sound n d e values h s.attempts) at early s
 said_sound n kind.File d e values words at early h s = grown d e (file_sound n d e values words h s.attempts) at early s
 said_sound n (kind.Event w) d e values words at early h s = added d e (event_added n w d e values h) at s
 
-words_sound : (n : ℕ) (d e : Draft) (words : List (List ℕ)) → AllByRecursion IsScriptWord words → words_at n d words ≡ Ok e → IsSound d → IsSound e
+words_sound : (n : ℕ) (d e : Draft) (words : List (List ℕ)) → AllByRecursion IsScriptWord words → words_at n d words ≡ Ok e → IsSound d
+    → IsSound e
 unfolding words_at
 words_sound n d e [] w h s = absurd cc
 words_sound n d e (word ∷ values) w h s =
@@ -160,13 +235,16 @@ words_sound n d e (word ∷ values) w h s =
     let b = parted (need (enters a.value d.group) (BadLine n)) _ _ a.next in
     let g = grouped a.value d.group b.value d.attempts d.events (needed (enters a.value d.group) (BadLine n) b.value b.first) s.early in
     let early = subst (λ (x : Group). IsEarly x d.attempts d.events) (sym g.0) g.1 in
-    said_sound n a.value (record d { group = b.value }) e values w.1 g.0 g.1 b.next (record { head = s.head; attempts = s.attempts; events = s.events; few = s.few; early = early })
+    said_sound n a.value (record d { group = b.value }) e values w.1 g.0 g.1 b.next
+    (record { head = s.head; attempts = s.attempts; events = s.events; few = s.few; early = early })
 
-line_at_sound : (b : Bool) (n : ℕ) (d e : Draft) (text : List ℕ) → IsClean is_inside text → (if b then Ok d else words_at n d (words_of text)) ≡ Ok e → IsSound d → IsSound e
+line_at_sound : (b : Bool) (n : ℕ) (d e : Draft) (text : List ℕ) → IsClean is_inside text
+    → (if b then Ok d else words_at n d (words_of text)) ≡ Ok e → IsSound d → IsSound e
 line_at_sound true n d e text c h s = subst IsSound (same_ok d e h) s
 line_at_sound false n d e text c h s = words_sound n d e (words_of text) (line_words text c) h s
 
-lines_sound : (n : ℕ) (d e : Draft) (texts : List (List ℕ)) → AllByRecursion (IsClean is_inside) texts → lines_at n d texts ≡ Ok e → IsSound d → IsSound e
+lines_sound : (n : ℕ) (d e : Draft) (texts : List (List ℕ)) → AllByRecursion (IsClean is_inside) texts → lines_at n d texts ≡ Ok e
+    → IsSound d → IsSound e
 unfolding lines_at
 lines_sound n d e [] c h s = subst IsSound (same_ok d e h) s
 lines_sound n d e (text ∷ texts) c h s =
@@ -179,13 +257,21 @@ no_fates n fate h = let none : None ≡ Some fate = sym (fin.get-empty nat_cmp n
 nothing_sound : (most : ℕ) → IsSound (nothing most)
 nothing_sound most = record {
   head = record { values = none_sound most; fates = no_fates };
-  attempts = record { attempts = λ tasks t o. tt; few = omega arith; counted = omega arith; few_files = omega arith; measured = omega arith; few_bytes = omega arith };
+  attempts = record {
+    attempts = λ tasks t o. tt;
+    few = omega arith;
+    counted = omega arith;
+    few_files = omega arith;
+    measured = omega arith;
+    few_bytes = omega arith;
+  };
   events = tt;
   few = omega arith;
   early = (refl, refl);
 }
 
-magic_fits : (c : Committer) (m : Option (ℕ × Mode)) (u : Option (ℕ × Bool)) (mode : Mode) (unique : Bool) → mode_in c m ≡ Ok mode → unique_in c u ≡ Ok unique → FitsMagic c mode unique
+magic_fits : (c : Committer) (m : Option (ℕ × Mode)) (u : Option (ℕ × Bool)) (mode : Mode) (unique : Bool) → mode_in c m ≡ Ok mode
+    → unique_in c u ≡ Ok unique → FitsMagic c mode unique
 magic_fits c m u mode unique h k = grind arith
 
 -- a value that must be there, and one that may stand for none
@@ -221,7 +307,8 @@ complete_sound d s h is =
       magic = magic_fits c.value d.head.mode d.head.unique g.value k.value g.first k.first;
       tasks = (there (Holds head.Tasks) d.head.tasks f.value f.first (values head.Tasks)).1;
       retries = (or_else (Holds head.Retries) d.head.retries 3 (omega arith, omega arith) (values head.Retries)).1;
-      block = or_else (λ n. n ≤ 67108864) d.head.block 0 (omega arith) (some_weaker (Holds head.Block) (λ n. n ≤ 67108864) d.head.block (λ n b. b.1) (values head.Block));
+      block = or_else (λ n. n ≤ 67108864) d.head.block 0 (omega arith) (some_weaker (Holds head.Block) (λ n. n ≤ 67108864) d.head.block
+          (λ n b. b.1) (values head.Block));
       one_lane = lanes.0;
       few_lanes = lanes.1;
       stamp = some_weaker (Holds head.Stamp) (λ n. n < 10 ^ 18) d.head.stamp (λ n b. omega (arith, b.1)) (values head.Stamp);

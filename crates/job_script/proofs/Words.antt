@@ -1,10 +1,26 @@
 -- Numbers and names that words tell, words of letters, and the words of a text in UTF-8.
-use Rattle.job_script.proofs.Common.{AllByRecursion, Bool, IsAscii, IsAscii-cons, IsAscii-nil, IsBare, IsCharBoundary-before_ascii, IsScriptWord, IsUtf8, IsUtf8-from_ascii, IsUtf8-from_is_utf8, IsUtf8-take, IsWord, List, Option, Some, [], and_parts, ap, append-nil, append_assoc, arith, cond, decimal, decimal_nonempty, digit_inside, drop, eqb-true, false, get_or, is_bare, is_id_byte, is_inside, is_job_id, is_plain, is_utf8, is_utf8-from_IsUtf8, leb-true, length, lines_of, list_all, list_all-append, lt-ltb, ltb-true, nat_tests, refl, subst, sym, take, take-append-drop, true, utf8_cut, weaker, without_return, word_bare, words_of, ℕ, ◌++◌, ◌-◌, ◌<◌, ◌==◌, ◌^◌, ◌∙◌, ◌∷◌, ◌≡◌, ◌≤◌}
-use Rattle.std.specs.Prelude.{◌&&◌, nat_lt, bytes_eq, slice_index, if◌then◌else◌}
-use Rattle.basics.specs.Lines.{lines_from, unless_empty}
-use Rattle.basics.specs.Numbers.{number_in, is_digit}
+use Rattle.basics.proofs.Lists.{weaker}
+use Rattle.basics.proofs.Round.{digit_inside, word_bare}
+use Rattle.basics.proofs.Utf8.{utf8_cut}
+use Rattle.basics.specs.Lines.{is_inside, lines_from, lines_of, unless_empty, without_return}
+use Rattle.basics.specs.Numbers.{is_digit, number_in}
 use Rattle.basics.specs.Parts.{parts_from}
+use Rattle.basics.specs.Words.{IsBare, IsWord, is_bare, is_plain, words_of}
+use Rattle.job_model.specs.Legal.{IsScriptWord}
 use Rattle.job_script.specs.Kinds.{Names, named}
+use Rattle.s3_types.specs.Names.{is_id_byte, is_job_id}
+use Rattle.std.proofs.Common.{Bool, List, Option, Some, ap, append_assoc, arith, cond, decimal, drop, false, get_or, length, refl, subst}
+use Rattle.std.proofs.Common.{sym, take, true, ℕ, [], ◌++◌, ◌-◌, ◌<◌, ◌==◌, ◌^◌, ◌∙◌, ◌∷◌, ◌≡◌, ◌≤◌}
+use Rattle.std.proofs.lemmas.Bool.{and_parts, eqb-true, leb-true, lt-ltb, ltb-true}
+use Rattle.std.proofs.lemmas.Bool.Decides.{nat_tests}
+use Rattle.std.proofs.lemmas.Fmt.{decimal_nonempty}
+use Rattle.std.proofs.lemmas.List.{append-nil, take-append-drop}
+use Rattle.std.proofs.lemmas.List.Folds.{list_all-append}
+use Rattle.std.proofs.lemmas.Str.{IsCharBoundary-before_ascii, IsUtf8-from_ascii, IsUtf8-from_is_utf8, IsUtf8-take, is_utf8-from_IsUtf8}
+use Rattle.std.proofs.lemmas.Str.Ascii.{IsAscii-cons, IsAscii-nil}
+use Rattle.std.specs.List.{AllByRecursion, list_all}
+use Rattle.std.specs.Prelude.{bytes_eq, if◌then◌else◌, nat_lt, slice_index, ◌&&◌}
+use Rattle.std.specs.Str.{IsAscii, IsUtf8, is_utf8}
 
 pub either : {A : Type 0} (P : A → Type 0) (b : Bool) (x y : A) → (b ≡ true → P x) → (b ≡ false → P y) → P (cond b x y)
 either P true x y f g = f refl
@@ -16,13 +32,16 @@ either P false x y f g = g refl
 pub number_bounds : (low high : ℕ) (word : List ℕ) (x : ℕ) → number_in low high word ≡ Some x → (low ≤ x) × (x ≤ high)
 number_bounds low high word x h = grind arith
 
-named_at : {A : Type 0} (P : A → Type 0) (b : Bool) (y x : A) (later : Option A) → P y → (later ≡ Some x → P x) → (if b then Some y else later) ≡ Some x → P x
+named_at : {A : Type 0} (P : A → Type 0) (b : Bool) (y x : A) (later : Option A) → P y → (later ≡ Some x → P x)
+    → (if b then Some y else later) ≡ Some x → P x
 named_at P b y x later p old h = grind arith
 
 -- what holds of each row of a table holds of what it names
-pub named_all : {A : Type 0} (P : A → Type 0) (rows : Names A) (word : List ℕ) (x : A) → AllByRecursion (λ row. P row.1) rows → named rows word ≡ Some x → P x
+pub named_all : {A : Type 0} (P : A → Type 0) (rows : Names A) (word : List ℕ) (x : A) → AllByRecursion (λ row. P row.1) rows
+    → named rows word ≡ Some x → P x
 named_all P [] word x all h = absurd cc
-named_all P (row ∷ rows) word x all h = named_at P (bytes_eq word row.0) row.1 x (named rows word) all.0 (λ k. named_all P rows word x all.1 k) h
+named_all P (row ∷ rows) word x all h = named_at P (bytes_eq word row.0) row.1 x (named rows word) all.0
+    (λ k. named_all P rows word x all.1 k) h
 
 -- ---- words of letters
 
@@ -96,7 +115,8 @@ clean_take p w i fits at h =
     record { utf8 = IsUtf8-take w i h.utf8 (IsCharBoundary-before_ascii w i fits at); all = e.0 }
 
 -- a text without an ASCII byte at its end
-pub clean_end : (p : ℕ → Bool) (b : ℕ) (w : List ℕ) → b < 128 → IsClean p w → IsClean p (cond (nat_lt 0 (length w) && (slice_index w (length w - 1) == b)) (take (length w - 1) w) w)
+pub clean_end : (p : ℕ → Bool) (b : ℕ) (w : List ℕ) → b < 128 → IsClean p w
+    → IsClean p (cond (nat_lt 0 (length w) && (slice_index w (length w - 1) == b)) (take (length w - 1) w) w)
 clean_end p b w small h =
     either (IsClean p) (nat_lt 0 (length w) && (slice_index w (length w - 1) == b)) (take (length w - 1) w) w
     (λ e.
@@ -116,7 +136,8 @@ no_line_end x e = rw e refl
 one_more : (p : ℕ → Bool) (xs : List ℕ) (x : ℕ) → list_all p xs ≡ true → p x ≡ true → list_all p (xs ++ x ∷ []) ≡ true
 one_more p xs x h e = list_all-append p xs (x ∷ []) ∙ rw (h, e) refl
 
-lines_clean : (line rest : List ℕ) → IsUtf8 (line ++ rest) → list_all is_inside line ≡ true → AllByRecursion (IsClean is_inside) (lines_from line rest)
+lines_clean : (line rest : List ℕ) → IsUtf8 (line ++ rest) → list_all is_inside line ≡ true
+    → AllByRecursion (IsClean is_inside) (lines_from line rest)
 unfolding lines_from
 lines_clean line [] h k = unless_clean line (record { utf8 = subst IsUtf8 (append-nil line) h; all = k })
 lines_clean line (x ∷ xs) h k =
@@ -125,7 +146,8 @@ lines_clean line (x ∷ xs) h k =
     let is : x ≡ 10 = eqb-true x 10 e in
     let u = utf8_cut x line xs (omega (arith, is)) h in
     (clean_end is_inside 13 line (omega arith) (record { utf8 = u.0; all = k }), lines_clean [] xs u.1 refl))
-    (λ e. lines_clean (line ++ x ∷ []) xs (subst IsUtf8 (sym (append_assoc line (x ∷ []) xs)) h) (one_more is_inside line x k (no_line_end x e)))
+    (λ e. lines_clean (line ++ x ∷ []) xs (subst IsUtf8 (sym (append_assoc line (x ∷ []) xs)) h)
+    (one_more is_inside line x k (no_line_end x e)))
 
 -- the lines of a text in UTF-8 are so, and have no LF
 pub text_clean : (bytes : List ℕ) → is_utf8 bytes ≡ true → AllByRecursion (IsClean is_inside) (lines_of bytes)
@@ -140,7 +162,8 @@ word_clean w h = record { utf8 = IsUtf8-from_is_utf8 w h.0; all = h.1 }
 bare_byte : (x : ℕ) → (x == 32) ≡ false → is_inside x ≡ true → is_bare x ≡ true
 bare_byte x e h = rw (e, h) refl
 
-words_clean : (part rest : List ℕ) → IsUtf8 (part ++ rest) → IsBare part → list_all is_inside rest ≡ true → AllByRecursion IsScriptWord (parts_from 32 part rest)
+words_clean : (part rest : List ℕ) → IsUtf8 (part ++ rest) → IsBare part → list_all is_inside rest ≡ true
+    → AllByRecursion IsScriptWord (parts_from 32 part rest)
 unfolding parts_from
 words_clean part [] h b k = (script_word part (record { utf8 = subst IsUtf8 (append-nil part) h; all = b }), tt)
 words_clean part (x ∷ xs) h b k =
@@ -150,7 +173,8 @@ words_clean part (x ∷ xs) h b k =
     let is : x ≡ 32 = eqb-true x 32 e in
     let u = utf8_cut x part xs (omega (arith, is)) h in
     (script_word part (record { utf8 = u.0; all = b }), words_clean [] xs u.1 refl q.1))
-    (λ e. words_clean (part ++ x ∷ []) xs (subst IsUtf8 (sym (append_assoc part (x ∷ []) xs)) h) (one_more is_bare part x b (bare_byte x e q.0)) q.1)
+    (λ e. words_clean (part ++ x ∷ []) xs (subst IsUtf8 (sym (append_assoc part (x ∷ []) xs)) h)
+    (one_more is_bare part x b (bare_byte x e q.0)) q.1)
 
 -- the words of such a line are words of a script
 pub line_words : (line : List ℕ) → IsClean is_inside line → AllByRecursion IsScriptWord (words_of line)

@@ -1,13 +1,19 @@
 -- What an attempt's line and a file's line say.
-use Rattle.std.specs.Prelude.{ℕ, ◌+◌, not, List, [], ◌∷◌, ◌++◌, length, Option, Some, None, Result, Ok, nat_le, nat_lt, if◌then◌else◌}
-use Rattle.job_model.specs.Prelude.{need, check, one, two, two_and_more, MOST_SCRIPT_BYTES, has_path, declares, last_files, with_file, option_or, is_path, is_hidden, ◌>>=◌}
-use Rattle.basics.specs.Parts.{parts_of}
 use Rattle.basics.specs.Numbers.{number_in}
+use Rattle.basics.specs.Parts.{parts_of}
+use Rattle.basics.specs.Reading.{check, need, ◌>>=◌}
+use Rattle.basics.specs.Shapes.{one, two, two_and_more}
+use Rattle.job_model.specs.Attempts.{declares, last_files, with_file}
+use Rattle.job_model.specs.Files.{has_path}
+use Rattle.job_model.specs.Paths.{is_hidden, is_path}
 use Rattle.job_model.specs.declared.attempts.AttemptName.{AttemptName}
-use Rattle.job_script.specs.declared.fault.ScriptFault.{ScriptFault}
-use Rattle.job_script.specs.declared.fault.ScriptFault.TheVariants.{BadLine, RepeatedName, BadPath, HiddenPath, TooLarge, BadNumber}
-use Rattle.job_script.specs.declared.draft.Draft.{Draft}
 use Rattle.job_script.specs.Content.{content_at}
+use Rattle.job_script.specs.declared.draft.Draft.{Draft}
+use Rattle.job_script.specs.declared.fault.ScriptFault.{ScriptFault}
+use Rattle.job_script.specs.declared.fault.ScriptFault.TheVariants.{BadLine, BadNumber, BadPath, HiddenPath, RepeatedName, TooLarge}
+use Rattle.s3_types.specs.declared.limits.TheConstants.{MOST_SCRIPT_BYTES}
+use Rattle.std.specs.Option.{option_or}
+use Rattle.std.specs.Prelude.{List, None, Ok, Option, Result, Some, if◌then◌else◌, length, nat_le, nat_lt, not, ℕ, [], ◌++◌, ◌+◌, ◌∷◌}
 
 -- T.A
 unfoldable pub name_at : ℕ → List ℕ → Result AttemptName ScriptFault

@@ -1,15 +1,18 @@
 -- The bytes of a file.
-use Rattle.std.specs.Prelude.{ℕ, List, [], length, Option, Some, None, Result, Ok, Err, nat_lt, codes, bytes_eq, replicate, if◌then◌else◌}
-use Rattle.job_model.specs.Prelude.{need, one, two, text, MOST_SCRIPT_BYTES, ◌>>=◌}
-use Rattle.std.specs.Result.{result_ok}
-use Rattle.hex.specs.Hex.{decode_of}
 use Rattle.basics.specs.Numbers.{number_in}
+use Rattle.basics.specs.Reading.{need, ◌>>=◌}
+use Rattle.basics.specs.Shapes.{one, text, two}
+use Rattle.hex.specs.Hex.{decode_of}
 use Rattle.job_script.specs.declared.fault.ScriptFault.{ScriptFault}
 use Rattle.job_script.specs.declared.fault.ScriptFault.TheVariants.{BadLine, BadNumber}
+use Rattle.s3_types.specs.declared.limits.TheConstants.{MOST_SCRIPT_BYTES}
+use Rattle.std.specs.Prelude.{Err, List, None, Ok, Option, Result, Some, bytes_eq, codes, if◌then◌else◌, length, nat_lt, replicate, ℕ, []}
+use Rattle.std.specs.Result.{result_ok}
 
 -- hex digits in either case, two a byte, or `-` for no bytes
 abbrev pub hex_bytes : List ℕ → Option (List ℕ)
-hex_bytes digits = if bytes_eq digits (codes "-") then Some [] else (if nat_lt 0 (length digits) then result_ok (decode_of digits) else None)
+hex_bytes digits = if bytes_eq digits (codes "-") then Some [] else (if nat_lt 0 (length digits) then result_ok (decode_of digits) else
+    None)
 
 -- text REST
 unfoldable pub text_at : ℕ → List (List ℕ) → Result (List ℕ) ScriptFault
@@ -31,4 +34,5 @@ fill_at n words = do
 
 -- what `text`, `hex` or `fill` with these words behind it is
 unfoldable pub content_at : ℕ → List ℕ → List (List ℕ) → Result (List ℕ) ScriptFault
-content_at n form words = if bytes_eq form (codes "text") then text_at n words else (if bytes_eq form (codes "hex") then hex_at n words else (if bytes_eq form (codes "fill") then fill_at n words else Err (BadLine n)))
+content_at n form words = if bytes_eq form (codes "text") then text_at n words else
+    (if bytes_eq form (codes "hex") then hex_at n words else (if bytes_eq form (codes "fill") then fill_at n words else Err (BadLine n)))

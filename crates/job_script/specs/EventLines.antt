@@ -1,19 +1,22 @@
 -- What an event's line says.
-use Rattle.std.specs.Prelude.{ℕ, Bool, List, [], ◌∷◌, ◌++◌, length, Option, Result, Ok, nat_lt, codes, bytes_eq, if◌then◌else◌}
-use Rattle.job_model.specs.Prelude.{◌>>=◌, need, check, one, two, is_known, actor_of, declares, Actor}
 use Rattle.basics.specs.Numbers.{number_in}
-use Rattle.s3_types.specs.declared.request.Actor.TheVariants as actor
-use Rattle.job_model.specs.declared.events.Op.{Op}
+use Rattle.basics.specs.Reading.{check, need, ◌>>=◌}
+use Rattle.basics.specs.Shapes.{one, two}
+use Rattle.job_model.specs.Attempts.{actor_of, declares, is_known}
 use Rattle.job_model.specs.declared.events.Event.{Event}
-use Rattle.job_model.specs.declared.events.Event.TheVariants as event
-use Rattle.job_script.specs.declared.fault.ScriptFault.{ScriptFault}
-use Rattle.job_script.specs.declared.fault.ScriptFault.TheVariants.{BadLine, UnknownActor, TooLarge, BadNumber}
-use Rattle.job_script.specs.declared.draft.Draft.{Draft}
-use Rattle.job_script.specs.declared.kinds.EventWord.{EventWord}
-use Rattle.job_script.specs.declared.kinds.EventWord.TheVariants as words
-use Rattle.job_script.specs.Kinds.{named, driver_ops, attempt_ops}
-use Rattle.job_script.specs.HeadLines.{value_at, number}
+use Rattle.job_model.specs.declared.events.Op.{Op}
 use Rattle.job_script.specs.AttemptLines.{name_at}
+use Rattle.job_script.specs.HeadLines.{number, value_at}
+use Rattle.job_script.specs.Kinds.{attempt_ops, driver_ops, named}
+use Rattle.job_script.specs.declared.draft.Draft.{Draft}
+use Rattle.job_script.specs.declared.fault.ScriptFault.{ScriptFault}
+use Rattle.job_script.specs.declared.fault.ScriptFault.TheVariants.{BadLine, BadNumber, TooLarge, UnknownActor}
+use Rattle.job_script.specs.declared.kinds.EventWord.{EventWord}
+use Rattle.s3_types.specs.declared.request.Actor.{Actor}
+use Rattle.std.specs.Prelude.{Bool, List, Ok, Option, Result, bytes_eq, codes, if◌then◌else◌, length, nat_lt, ℕ, [], ◌++◌, ◌∷◌}
+use Rattle.s3_types.specs.declared.request.Actor.TheVariants as actor
+use Rattle.job_model.specs.declared.events.Event.TheVariants as event
+use Rattle.job_script.specs.declared.kinds.EventWord.TheVariants as words
 
 -- the word `driver`
 abbrev pub is_driver : List ℕ → Bool

@@ -1,8 +1,9 @@
 -- Faults by their numbers and lines, and what a call returned of what reading gives.
-use Rattle.std.specs.Prelude.{ℕ, ⊤, Bool, true, false, Result}
-use Rattle.basics.specs.Reading as reading
 use Rattle.job_script.specs.declared.fault.ScriptFault.{ScriptFault}
-use Rattle.job_script.specs.declared.fault.ScriptFault.TheVariants.{NotUtf8, BadLine, UnknownWord, MissingHead, RepeatedName, BadPath, HiddenPath, UnknownActor, DestIsRoot, TooLarge, BadNumber, NoMemory}
+use Rattle.job_script.specs.declared.fault.ScriptFault.TheVariants.{BadLine, BadNumber, BadPath, DestIsRoot, HiddenPath, MissingHead}
+use Rattle.job_script.specs.declared.fault.ScriptFault.TheVariants.{NoMemory, NotUtf8, RepeatedName, TooLarge, UnknownActor, UnknownWord}
+use Rattle.std.specs.Prelude.{Bool, Result, false, true, ℕ, ⊤}
+use Rattle.basics.specs.Reading as reading
 
 -- a fault's number
 abbrev pub number_of : ScriptFault → ℕ

@@ -1,17 +1,30 @@
 -- What a head line with these values says, after the head lines before it, and how a script's head is printed.
-use Rattle.std.specs.Prelude.{ℕ, ◌+◌, ◌-◌, ◌==◌, not, ◌||◌, Bool, zero, suc, false, is_some, List, [], ◌∷◌, ◌++◌, map, Option, Some, None}
-use Rattle.std.specs.Prelude.{option_map, Result, Ok, Err, length, nat_le, nat_lt, codes, if◌then◌else◌}
-use Rattle.job_model.specs.Prelude.{flat_map, decimal, ◌>>=◌, need, check, free, one, two_and_more, at_most_one, FateMap, is_job_id, Fate, MOST_SCRIPT_BYTES, Committer, Mode, Path, path_in, PathFault, committer_word, Script, is_dest_key}
-use Rattle.std.specs.FinMap as fin
 use Rattle.basics.specs.Numbers.{number_in}
-use Rattle.s3_types.specs.Fates.{with_fates}
-use Rattle.job_script.specs.declared.fault.ScriptFault.{ScriptFault}
-use Rattle.job_script.specs.declared.fault.ScriptFault.TheVariants.{BadLine, RepeatedName, BadPath, DestIsRoot, TooLarge, BadNumber}
+use Rattle.basics.specs.Reading.{check, free, need, ◌>>=◌}
+use Rattle.basics.specs.Shapes.{at_most_one, one, two_and_more}
+use Rattle.job_model.specs.JobScript.{Script}
+use Rattle.job_model.specs.Paths.{is_dest_key}
+use Rattle.job_script.specs.Kinds.{Line, Names, answer_word, answers, committers, fate_word, fates, mode_word, modes, named}
 use Rattle.job_script.specs.declared.draft.Loss.{Loss}
+use Rattle.job_script.specs.declared.fault.ScriptFault.{ScriptFault}
+use Rattle.job_script.specs.declared.fault.ScriptFault.TheVariants.{BadLine, BadNumber, BadPath, DestIsRoot, RepeatedName, TooLarge}
 use Rattle.job_script.specs.declared.head.Head.{Head}
 use Rattle.job_script.specs.declared.head.HeadWord.{HeadWord}
+use Rattle.path_keys.specs.Paths.{Path, path_in}
+use Rattle.path_keys.specs.declared.fault.PathFault.{PathFault}
+use Rattle.pending_json.specs.Committers.{committer_word}
+use Rattle.s3_types.specs.Fates.{FateMap, with_fates}
+use Rattle.s3_types.specs.Names.{is_job_id}
+use Rattle.s3_types.specs.declared.fates.Fate.{Fate}
+use Rattle.s3_types.specs.declared.limits.TheConstants.{MOST_SCRIPT_BYTES}
+use Rattle.s3_types.specs.declared.request.Committer.{Committer}
+use Rattle.s3_types.specs.declared.request.Mode.{Mode}
+use Rattle.std.specs.Fmt.{decimal}
+use Rattle.std.specs.List.{flat_map}
+use Rattle.std.specs.Prelude.{Bool, Err, List, None, Ok, Option, Result, Some, codes, false, if◌then◌else◌, is_some, length, map, nat_le}
+use Rattle.std.specs.Prelude.{nat_lt, not, option_map, suc, zero, ℕ, [], ◌++◌, ◌+◌, ◌-◌, ◌==◌, ◌||◌, ◌∷◌}
+use Rattle.std.specs.FinMap as fin
 use Rattle.job_script.specs.declared.head.HeadWord.TheVariants as head
-use Rattle.job_script.specs.Kinds.{Line, Names, named, committers, modes, answers, fates, mode_word, answer_word, fate_word}
 
 -- before the first line, where at most so many lines `loss` may come
 abbrev pub no_head : ℕ → Head
@@ -99,20 +112,100 @@ pub record Row (A : Type 0) : Type 0 where
 
 -- the kinds of such lines; a mode and a word `unique` are kept with their lines
 abbrev pub row : (w : HeadWord) → Row (Value w)
-row head.Job = record { word = codes "job"; read = job_of; text = λ id. id; kept = λ h. h.job; put = λ n x h. record h { job = x }; said = λ s. Some s.job }
-row head.Dest = record { word = codes "dest"; read = dest_of; text = path_text; kept = λ h. h.dest; put = λ n x h. record h { dest = x }; said = λ s. Some s.dest }
-row head.Committer = record { word = codes "committer"; read = name committers; text = committer_word; kept = λ h. h.committer; put = λ n x h. record h { committer = x }; said = λ s. Some s.committer }
-row head.Tasks = record { word = codes "tasks"; read = number 0 1000; text = decimal; kept = λ h. h.tasks; put = λ n x h. record h { tasks = x }; said = λ s. Some s.tasks }
-row head.Mode = record { word = codes "mode"; read = name modes; text = mode_word; kept = λ h. option_map (λ m. m.1) h.mode; put = λ n x h. record h { mode = option_map (λ m. (n, m)) x }; said = λ s. Some s.mode }
-row head.Unique = record { word = codes "unique"; read = name answers; text = answer_word; kept = λ h. option_map (λ u. u.1) h.unique; put = λ n x h. record h { unique = option_map (λ u. (n, u)) x }; said = λ s. Some s.unique }
-row head.Retries = record { word = codes "retries"; read = number 0 9; text = decimal; kept = λ h. h.retries; put = λ n x h. record h { retries = x }; said = λ s. Some s.retries }
-row head.Block = record { word = codes "block"; read = number 1 MOST_SCRIPT_BYTES; text = decimal; kept = λ h. h.block; put = λ n x h. record h { block = x }; said = λ s. unless 0 s.block }
-row head.Lanes = record { word = codes "lanes"; read = number 1 8; text = decimal; kept = λ h. h.lanes; put = λ n x h. record h { lanes = x }; said = λ s. unless 1 s.lanes }
-row head.Stamp = record { word = codes "stamp"; read = number 0 999999999999999999; text = decimal; kept = λ h. h.stamp; put = λ n x h. record h { stamp = x }; said = λ s. s.stamp }
+row head.Job = record {
+  word = codes "job";
+  read = job_of;
+  text = λ id. id;
+  kept = λ h. h.job;
+  put = λ n x h. record h { job = x };
+  said = λ
+      s. Some s.job;
+}
+row head.Dest = record {
+  word = codes "dest";
+  read = dest_of;
+  text = path_text;
+  kept = λ h. h.dest;
+  put = λ n x h. record h { dest = x };
+  said = λ s. Some s.dest;
+}
+row head.Committer = record {
+  word = codes "committer";
+  read = name committers;
+  text = committer_word;
+  kept = λ h. h.committer;
+  put = λ n x
+      h. record h { committer = x };
+  said = λ s. Some s.committer;
+}
+row head.Tasks = record {
+  word = codes "tasks";
+  read = number 0 1000;
+  text = decimal;
+  kept = λ h. h.tasks;
+  put = λ n x h. record h
+      { tasks = x };
+  said = λ s. Some s.tasks;
+}
+row head.Mode = record {
+  word = codes "mode";
+  read = name modes;
+  text = mode_word;
+  kept = λ h. option_map (λ m. m.1) h.mode;
+  put = λ n x h.
+      record h { mode = option_map (λ m. (n, m)) x };
+  said = λ s. Some s.mode;
+}
+row head.Unique = record {
+  word = codes "unique";
+  read = name answers;
+  text = answer_word;
+  kept = λ h. option_map (λ u. u.1) h.unique;
+  put =
+      λ n x h. record h { unique = option_map (λ u. (n, u)) x };
+  said = λ s. Some s.unique;
+}
+row head.Retries = record {
+  word = codes "retries";
+  read = number 0 9;
+  text = decimal;
+  kept = λ h. h.retries;
+  put = λ n x h. record h
+      { retries = x };
+  said = λ s. Some s.retries;
+}
+row head.Block = record {
+  word = codes "block";
+  read = number 1 MOST_SCRIPT_BYTES;
+  text = decimal;
+  kept = λ h. h.block;
+  put = λ n x h.
+      record h { block = x };
+  said = λ s. unless 0 s.block;
+}
+row head.Lanes = record {
+  word = codes "lanes";
+  read = number 1 8;
+  text = decimal;
+  kept = λ h. h.lanes;
+  put = λ n x h. record h
+      { lanes = x };
+  said = λ s. unless 1 s.lanes;
+}
+row head.Stamp = record {
+  word = codes "stamp";
+  read = number 0 999999999999999999;
+  text = decimal;
+  kept = λ h. h.stamp;
+  put = λ n x h.
+      record h { stamp = x };
+  said = λ s. s.stamp;
+}
 
 -- the order in which the format lists them
 abbrev pub head_order : List HeadWord
-head_order = head.Job ∷ head.Dest ∷ head.Committer ∷ head.Tasks ∷ head.Mode ∷ head.Unique ∷ head.Retries ∷ head.Block ∷ head.Lanes ∷ head.Stamp ∷ []
+head_order = head.Job ∷ head.Dest ∷ head.Committer ∷ head.Tasks ∷ head.Mode ∷ head.Unique ∷ head.Retries ∷ head.Block ∷ head.Lanes ∷
+    head.Stamp ∷ []
 
 -- their words
 abbrev pub head_words : Names HeadWord

@@ -1,12 +1,15 @@
 -- The words of a script, and what they name.
-use Rattle.std.specs.Prelude.{ℕ, Bool, true, false, List, [], ◌∷◌, map, Option, Some, None, codes, bytes_eq, if◌then◌else◌}
-use Rattle.job_model.specs.Prelude.{Committer, committer_word, Mode, Fate}
+use Rattle.job_model.specs.declared.events.Op.{Op}
 use Rattle.job_script.specs.declared.kinds.EventWord.{EventWord}
+use Rattle.pending_json.specs.Committers.{committer_word}
+use Rattle.s3_types.specs.declared.fates.Fate.{Fate}
+use Rattle.s3_types.specs.declared.request.Committer.{Committer}
+use Rattle.s3_types.specs.declared.request.Mode.{Mode}
+use Rattle.std.specs.Prelude.{Bool, List, None, Option, Some, bytes_eq, codes, false, if◌then◌else◌, map, true, ℕ, [], ◌∷◌}
 use Rattle.job_script.specs.declared.kinds.EventWord.TheVariants as event
 use Rattle.pending_json.specs.Committers as all
 use Rattle.s3_types.specs.declared.request.Mode.TheVariants as mode
 use Rattle.s3_types.specs.declared.fates.Fate.TheVariants as fate
-use Rattle.job_model.specs.declared.events.Op.{Op}
 use Rattle.job_model.specs.declared.events.Op.TheVariants as op
 
 -- a line by its words
@@ -25,7 +28,8 @@ named (row ∷ rows) word = if bytes_eq word row.0 then Some row.1 else named ro
 -- the words of events
 abbrev pub event_words : Names EventWord
 event_words =
-    (codes "do", event.Do) ∷ (codes "start", event.Start) ∷ (codes "step", event.Step) ∷ (codes "run", event.Run) ∷ (codes "kill", event.Kill) ∷ (codes "mix", event.Mix)
+    (codes "do", event.Do) ∷ (codes "start", event.Start) ∷ (codes "step", event.Step) ∷ (codes "run", event.Run) ∷
+    (codes "kill", event.Kill) ∷ (codes "mix", event.Mix)
     ∷ (codes "restart", event.Restart) ∷ (codes "recover", event.Recover) ∷ []
 
 -- the words of committers

@@ -1,11 +1,19 @@
 -- The text that a script is printed as.
-use Rattle.std.specs.Prelude.{ℕ, List, [], ◌∷◌, ◌++◌, map, codes}
-use Rattle.job_model.specs.Prelude.{flat_map, decimal, text_of, File, Declared, Script, actor_text, op_word, Attempt}
-use Rattle.s3_types.specs.Prelude.{encode_lower}
-use Rattle.job_script.specs.Kinds.{Line}
-use Rattle.job_script.specs.HeadLines.{head_lines}
+use Rattle.basics.specs.Words.{text_of}
+use Rattle.hex.specs.Hex.{encode_lower}
+use Rattle.job_model.specs.Attempts.{Declared}
+use Rattle.job_model.specs.Files.{File}
+use Rattle.job_model.specs.JobScript.{Script}
+use Rattle.job_model.specs.Words.{op_word}
 use Rattle.job_model.specs.declared.events.Event.{Event}
-use Rattle.job_model.specs.declared.events.Event.TheVariants.{Do, Start, Step, Run, Kill, Mix, Restart, Recover}
+use Rattle.job_model.specs.declared.events.Event.TheVariants.{Do, Kill, Mix, Recover, Restart, Run, Start, Step}
+use Rattle.job_script.specs.HeadLines.{head_lines}
+use Rattle.job_script.specs.Kinds.{Line}
+use Rattle.s3_types.specs.Spelling.{actor_text}
+use Rattle.s3_types.specs.declared.request.Actor.TheVariants.{Attempt}
+use Rattle.std.specs.Fmt.{decimal}
+use Rattle.std.specs.List.{flat_map}
+use Rattle.std.specs.Prelude.{List, codes, map, ℕ, [], ◌++◌, ◌∷◌}
 
 -- hex digits in lower case, two a byte, or `-` for no bytes
 abbrev pub hex_word : List ℕ → List ℕ

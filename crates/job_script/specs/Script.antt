@@ -1,20 +1,29 @@
 -- What the bytes of a script mean.
-use Rattle.std.specs.Prelude.{◌≡◌, ℕ, ◌+◌, ◌==◌, Bool, true, false, List, [], ◌∷◌, length, Option, Some, None, IsSome, Result, Ok, Err, nat_le, ⊤, option_map, codes, if◌then◌else◌}
-use Rattle.job_model.specs.Prelude.{unwrap_or, option_or, is_utf8, ◌>>=◌, need, check, lines_of, words_of, MOST_SCRIPT_BYTES, Committer, Mode, Script}
-use Rattle.s3_types.specs.declared.request.Committer.TheVariants as committer
-use Rattle.s3_types.specs.declared.request.Mode.TheVariants as mode
-use Rattle.job_script.specs.declared.fault.ScriptFault.{ScriptFault}
-use Rattle.job_script.specs.declared.fault.ScriptFault.TheVariants.{NotUtf8, BadLine, UnknownWord, MissingHead, UnknownActor, TooLarge}
-use Rattle.job_script.specs.declared.head.Chosen.{Chosen}
-use Rattle.job_script.specs.declared.draft.Draft.{Draft}
-use Rattle.job_script.specs.declared.draft.Group.{Group}
-use Rattle.job_script.specs.declared.draft.Group.TheVariants as group
-use Rattle.job_script.specs.declared.kinds.Kind.{Kind}
-use Rattle.job_script.specs.declared.kinds.Kind.TheVariants as kind
-use Rattle.job_script.specs.Kinds.{Names, named, event_words}
-use Rattle.job_script.specs.HeadLines.{no_head, head_words, head_at, loss_at}
+use Rattle.basics.specs.Lines.{lines_of}
+use Rattle.basics.specs.Reading.{check, need, ◌>>=◌}
+use Rattle.basics.specs.Words.{words_of}
+use Rattle.job_model.specs.JobScript.{Script}
 use Rattle.job_script.specs.AttemptLines.{attempt_at, file_at}
 use Rattle.job_script.specs.EventLines.{event_line_at}
+use Rattle.job_script.specs.HeadLines.{head_at, head_words, loss_at, no_head}
+use Rattle.job_script.specs.Kinds.{Names, event_words, named}
+use Rattle.job_script.specs.declared.draft.Draft.{Draft}
+use Rattle.job_script.specs.declared.draft.Group.{Group}
+use Rattle.job_script.specs.declared.fault.ScriptFault.{ScriptFault}
+use Rattle.job_script.specs.declared.fault.ScriptFault.TheVariants.{BadLine, MissingHead, NotUtf8, TooLarge, UnknownActor, UnknownWord}
+use Rattle.job_script.specs.declared.head.Chosen.{Chosen}
+use Rattle.job_script.specs.declared.kinds.Kind.{Kind}
+use Rattle.s3_types.specs.declared.limits.TheConstants.{MOST_SCRIPT_BYTES}
+use Rattle.s3_types.specs.declared.request.Committer.{Committer}
+use Rattle.s3_types.specs.declared.request.Mode.{Mode}
+use Rattle.std.specs.Option.{option_or, unwrap_or}
+use Rattle.std.specs.Prelude.{Bool, Err, IsSome, List, None, Ok, Option, Result, Some, codes, false, if◌then◌else◌, length, nat_le}
+use Rattle.std.specs.Prelude.{option_map, true, ℕ, [], ⊤, ◌+◌, ◌==◌, ◌∷◌, ◌≡◌}
+use Rattle.std.specs.Str.{is_utf8}
+use Rattle.s3_types.specs.declared.request.Committer.TheVariants as committer
+use Rattle.s3_types.specs.declared.request.Mode.TheVariants as mode
+use Rattle.job_script.specs.declared.draft.Group.TheVariants as group
+use Rattle.job_script.specs.declared.kinds.Kind.TheVariants as kind
 
 -- the words of the other kinds of lines but events
 abbrev pub lone_words : Names Kind
@@ -22,7 +31,8 @@ lone_words = (codes "loss", kind.Loss) ∷ (codes "attempt", kind.Attempt) ∷ (
 
 -- the kind of line that begins with this word
 abbrev pub kind_of : List ℕ → Option Kind
-kind_of word = option_or (option_map kind.Head (named head_words word)) (option_or (named lone_words word) (option_map kind.Event (named event_words word)))
+kind_of word = option_or (option_map kind.Head (named head_words word)) (option_or (named lone_words word)
+    (option_map kind.Event (named event_words word)))
 
 -- the group after a line of this kind, where it may stand there
 abbrev pub enters : Kind → Group → Option Group
@@ -108,7 +118,22 @@ complete d = do
   mode ← mode_in committer d.head.mode
   unique ← unique_in committer d.head.unique
   inside ← all_inside d.outside
-  Ok (record { job = job; dest = dest; committer = committer; mode = mode; unique = unique; tasks = tasks; retries = unwrap_or d.head.retries 3; block = unwrap_or d.head.block 0; lanes = unwrap_or d.head.lanes 1; stamp = d.head.stamp; fates = d.head.fates; attempts = d.attempts; events = d.events })
+  Ok (record {
+    job = job;
+    dest = dest;
+    committer = committer;
+    mode = mode;
+    unique = unique;
+    tasks = tasks;
+    retries = unwrap_or
+        d.head.retries 3;
+    block = unwrap_or d.head.block 0;
+    lanes = unwrap_or d.head.lanes 1;
+    stamp = d.head.stamp;
+    fates = d.head.fates;
+    attempts = d.attempts;
+    events = d.events;
+  })
 
 -- what the bytes mean as a script of at most so many lines `loss` and so many bytes, or the first fault
 abbrev pub script_within : ℕ → ℕ → List ℕ → Result Script ScriptFault

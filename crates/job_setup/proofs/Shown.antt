@@ -1,10 +1,24 @@
 -- The first file of a destination on a page.
-use Rattle.path_keys.proofs.Common.{Bool, Bor, Decides-eqb, List, MatchOption, None, Option, Some, [], and_parts, ap, arith, at_most_is, drop, false, length, nat_eq, nat_le, option_map, parts_of, refl, relative_in, starts_is, starts_with, suc, sym, true, ℕ, ◌++◌, ◌+◌, ◌-◌, ◌==◌, ◌∙◌, ◌∷◌, ◌≡◌, ◌≢◌, ◌≤◌}
-use Rattle.std.proofs.Common.{not, zero}
-use Rattle.std.specs.Prelude.{codes}
-use Rattle.job_protocol.specs.Prelude.{FindsTextPrefix, IsJob, Job, Script, ends_with, first_shown, is_folder, is_reserved, list_any, or_next, shown_path, slice_get}
-use Rattle.job_setup.specs.Files.{first_of, path_behind}
 use Rattle.basics.proofs.Lists.{some_length}
+use Rattle.basics.proofs.Naturals.{at_most_is}
+use Rattle.basics.specs.Parts.{parts_of}
+use Rattle.job_model.specs.JobScript.{Script}
+use Rattle.job_model.specs.Jobs.{Job}
+use Rattle.job_model.specs.Paths.{is_reserved}
+use Rattle.job_model.specs.Plans.{IsJob}
+use Rattle.job_protocol.specs.Setup.{first_shown, or_next, shown_path}
+use Rattle.job_protocol.specs.View.{is_folder}
+use Rattle.job_setup.specs.Files.{first_of, path_behind}
+use Rattle.path_keys.specs.Paths.{relative_in}
+use Rattle.std.proofs.Common.{Bool, Bor, List, None, Option, Some, ap, arith, drop, false, length, nat_eq, nat_le, not, option_map, refl}
+use Rattle.std.proofs.Common.{suc, sym, true, zero, ℕ, [], ◌++◌, ◌+◌, ◌-◌, ◌==◌, ◌∙◌, ◌∷◌, ◌≡◌, ◌≢◌, ◌≤◌}
+use Rattle.std.proofs.lemmas.Bool.{and_parts}
+use Rattle.std.proofs.lemmas.Bool.Decides.{Decides-eqb}
+use Rattle.std.proofs.lemmas.Slice.Eq.{starts_is}
+use Rattle.std.specs.List.{ends_with, list_any, slice_get, starts_with}
+use Rattle.std.specs.Option.{MatchOption}
+use Rattle.std.specs.Prelude.{codes}
+use Rattle.std.specs.Str.Pattern.{FindsTextPrefix}
 
 path_is : (key k : List ℕ) → 1 ≤ length key → path_behind (key ++ codes "/") k ≡ relative_in key k
 path_is [] k h = absurd (omega arith)
@@ -55,6 +69,8 @@ begins_not front text h = by (starts_with nat_eq text front) refl
     by true e = absurd (h (drop (length front) text) ((starts_is Decides-eqb text front (starts_with nat_eq text front) refl).0 e))
     by false e = refl
 
-pub text_behind : (p s : List ℕ) (r : Option (Bor (List ℕ))) → MatchOption r (FindsTextPrefix p s None) (λ x. (n : ℕ) × FindsTextPrefix p s (Some n) × (x.now ≡ drop n s) × (length x.now + n ≡ length s)) → option_map (λ r. r.now) r ≡ path_behind p s
+pub text_behind : (p s : List ℕ) (r : Option (Bor (List ℕ)))
+    → MatchOption r (FindsTextPrefix p s None) (λ x. (n : ℕ) × FindsTextPrefix p s (Some n) × (x.now ≡ drop n s)
+    × (length x.now + n ≡ length s)) → option_map (λ r. r.now) r ≡ path_behind p s
 text_behind p s None h = rw (begins_not p s h) refl
 text_behind p s (Some x) h = rw (begins_so p s (drop h.0 s) h.1.1) (ap Some (h.2 ∙ ap (λ n. drop n s) h.1.0))

@@ -1,16 +1,26 @@
 -- How a set-up stands.
-use Rattle.std.specs.Prelude.{◌≡◌, ℕ, true, false, cond, List, [], Option, Some, None, is_none, is_some}
-use Rattle.std.proofs.Common.{refl}
-use Rattle.job_protocol.specs.Prelude.{Magic, Request, Reply, Head, Page, Job, Script, job_script, setup_wants, setup_told, checks_all, Walked, More, Whole, keys_on, sweep_hears, all_go, Setup, Heading, Clearing, Sweeping, SetupOver, setup_asks, setup_hears, if_bucket, headed, first_shown, checked_by, checked, cleared}
-use Rattle.machine.specs.Prelude.{AskLaws, Fine}
-use Rattle.list_walk.specs.Walks.{walked}
-use Rattle.job_protocol.specs.Setup.{Checking, setup_over, sweeping}
+use Rattle.job_model.specs.JobScript.{Script}
+use Rattle.job_model.specs.Jobs.{Job}
 use Rattle.job_protocol.proofs.Faults.{if_bucket_so}
+use Rattle.job_protocol.specs.AtWork.{job_script, setup_told, setup_wants}
+use Rattle.job_protocol.specs.Conflicts.{checks_all}
+use Rattle.job_protocol.specs.Setup.{Checking, Clearing, Heading, Setup, SetupOver, Sweeping, checked, checked_by, cleared, first_shown}
+use Rattle.job_protocol.specs.Setup.{headed, if_bucket, setup_asks, setup_hears, setup_over, sweeping}
 use Rattle.job_setup.specs.Fits.{FitsDriving, standing, standing_of}
+use Rattle.list_walk.specs.Walks.{More, Walked, Whole, all_go, keys_on, sweep_hears, walked}
+use Rattle.machine.specs.Asks.{AskLaws}
+use Rattle.machine.specs.Standing.{Fine}
+use Rattle.s3_types.specs.declared.reply.Reply.{Reply}
+use Rattle.s3_types.specs.declared.reply.Reply.TheVariants.{Head, Page}
+use Rattle.s3_types.specs.declared.request.Committer.TheVariants.{Magic}
+use Rattle.s3_types.specs.declared.request.Request.{Request}
+use Rattle.std.proofs.Common.{refl}
+use Rattle.std.specs.Prelude.{List, None, Option, Some, cond, false, is_none, is_some, true, ℕ, [], ◌≡◌}
 
 fine_headed : (w : Script) (r : Reply) → standing_of (headed w r) ≡ Fine
 fine_headed w (Head len header) = refl
-fine_headed w _ = elim (checks_all w.committer w.mode) as (λ b. standing_of (cond b (Checking []) Clearing) ≡ Fine) [ true ↦ refl | false ↦ refl ]
+fine_headed w _ = elim (checks_all w.committer w.mode) as (λ b. standing_of (cond b (Checking []) Clearing) ≡ Fine)
+    [ true ↦ refl | false ↦ refl ]
 
 fine_by : (o : Option (List ℕ)) (x : Walked (List ℕ)) → standing_of (checked_by o x) ≡ Fine
 fine_by (Some p) x = refl
@@ -25,11 +35,14 @@ fine_checked w keys _ = refl
 fine_if : (r : Reply) (next : Setup) → standing_of next ≡ Fine → standing_of (if_bucket r next) ≡ Fine
 fine_if r next h = if_bucket_so (λ c. standing_of c ≡ Fine) r next refl h
 
-goes_on : (j : Job) (c : Setup) (r : Request) (a : Reply) → setup_asks (job_script j) c ≡ Some r → standing_of (setup_hears (job_script j) c a) ≡ standing_of c
+goes_on : (j : Job) (c : Setup) (r : Request) (a : Reply) → setup_asks (job_script j) c ≡ Some r
+    → standing_of (setup_hears (job_script j) c a) ≡ standing_of c
 goes_on j Heading r a e = fine_if a (headed (job_script j) a) (fine_headed (job_script j) a)
 goes_on j (Checking keys) r a e = fine_if a (checked (job_script j) keys a) (fine_checked (job_script j) keys a)
-goes_on j Clearing r a e = fine_if a (cleared j.committer) (elim j.committer as (λ c. standing_of (cleared c) ≡ Fine) [ Magic ↦ refl | _ ↦ refl ])
-goes_on j (Sweeping s) r a e = let o = sweep_hears all_go s a in fine_if a (sweeping o) (elim o as (λ o. standing_of (sweeping o) ≡ Fine) [ Some w ↦ refl | None ↦ refl ])
+goes_on j Clearing r a e = fine_if a (cleared j.committer) (elim j.committer as (λ c. standing_of (cleared c) ≡ Fine)
+    [ Magic ↦ refl | _ ↦ refl ])
+goes_on j (Sweeping s) r a e = let o = sweep_hears all_go s a in fine_if a (sweeping o)
+    (elim o as (λ o. standing_of (sweeping o) ≡ Fine) [ Some w ↦ refl | None ↦ refl ])
 goes_on j (SetupOver end) r a e = refl
 
 -- it asks a request until it is over

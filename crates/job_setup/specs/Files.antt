@@ -1,6 +1,7 @@
 -- Files of a destination among the keys below it.
-use Rattle.std.specs.Prelude.{ℕ, nat_eq, List, [], ◌∷◌, drop, length, Option, Some, None, if◌then◌else◌}
-use Rattle.job_protocol.specs.Prelude.{starts_with, shown_path, or_next}
+use Rattle.job_protocol.specs.Setup.{or_next, shown_path}
+use Rattle.std.specs.List.{starts_with}
+use Rattle.std.specs.Prelude.{List, None, Option, Some, drop, if◌then◌else◌, length, nat_eq, ℕ, [], ◌∷◌}
 
 -- what stands behind a prefix in a text that begins so
 abbrev pub path_behind : List ℕ → List ℕ → Option (List ℕ)

@@ -1,9 +1,12 @@
 -- The replies that fit a set-up, and how it stands.
-use Rattle.std.specs.Prelude.{◌≡◌, ◌⊎◌, Bool, true}
-use Rattle.job_protocol.specs.Prelude.{Reply, SetupEnd, Driving, Setup, Sweeping, SetupOver, lacks_bucket, FitsPage, FitsSweep}
-use Rattle.machine.specs.Prelude.{Standing, Fine, Faulted, Broken}
-use Rattle.job_model.specs.declared.ends.SetupEnd.TheVariants.{StoreFault, NoMemory}
-use Rattle.job_protocol.specs.Setup.{Checking}
+use Rattle.job_model.specs.declared.ends.SetupEnd.{SetupEnd}
+use Rattle.job_model.specs.declared.ends.SetupEnd.TheVariants.{NoMemory, StoreFault}
+use Rattle.job_protocol.specs.AtWork.{Driving}
+use Rattle.job_protocol.specs.Setup.{Checking, Setup, SetupOver, Sweeping, lacks_bucket}
+use Rattle.list_walk.specs.Fitting.{FitsPage, FitsSweep}
+use Rattle.machine.specs.Standing.{Broken, Faulted, Fine, Standing}
+use Rattle.s3_types.specs.declared.reply.Reply.{Reply}
+use Rattle.std.specs.Prelude.{Bool, true, ◌≡◌, ◌⊎◌}
 
 -- a page that is not folded has keys alone; that the bucket is not there fits at each request
 abbrev pub FitsSetup : Setup → Reply → Type 0

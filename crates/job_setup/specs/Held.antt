@@ -1,9 +1,12 @@
 -- A set-up as it is kept.
-use Rattle.std.specs.Prelude.{ℕ, cond, List, []}
-use Rattle.job_protocol.specs.Prelude.{Script, SetupEnd, checks_all, keys_on, Sweep, Setup, Heading, Clearing, Sweeping, SetupOver}
-use Rattle.job_protocol.specs.Setup.{Checking}
+use Rattle.job_model.specs.JobScript.{Script}
+use Rattle.job_model.specs.declared.ends.SetupEnd.{SetupEnd}
+use Rattle.job_protocol.specs.Conflicts.{checks_all}
+use Rattle.job_protocol.specs.Setup.{Checking, Clearing, Heading, Setup, SetupOver, Sweeping}
 use Rattle.job_setup.specs.declared.held.Held.{Held}
 use Rattle.job_setup.specs.declared.held.Stage.{Stage}
+use Rattle.list_walk.specs.Walks.{Sweep, keys_on}
+use Rattle.std.specs.Prelude.{List, cond, ℕ, []}
 use Rattle.job_setup.specs.declared.held.Stage.TheVariants as stages
 
 -- a set-up of a stage, the keys of the walk, the sweep, and the end

@@ -1,5 +1,6 @@
 -- A set-up among others.
-use Rattle.job_protocol.specs.Prelude.{setup_wants, setup_told, FallsAmong}
+use Rattle.job_protocol.specs.AtWork.{setup_told, setup_wants}
+use Rattle.job_protocol.specs.Measures.{FallsAmong}
 use Rattle.job_setup.specs.Fits.{FitsDriving}
 use Rattle.job_setup.specs.Left.{setup_left}
 

@@ -1,8 +1,14 @@
 -- What a set-up has left in a scene.
-use Rattle.std.specs.Prelude.{ℕ, ◌+◌, ◌++◌, [], codes}
-use Rattle.job_protocol.specs.Prelude.{Scene, Committer, Magic, Job, Driving, sweep_start, Setup, Heading, Clearing, Sweeping, SetupOver, walk_left, sweep_left}
+use Rattle.job_model.specs.Jobs.{Job}
+use Rattle.job_protocol.specs.AtWork.{Driving}
+use Rattle.job_protocol.specs.Setup.{Checking, Clearing, Heading, Setup, SetupOver, Sweeping}
+use Rattle.list_walk.specs.Left.{sweep_left, walk_left}
+use Rattle.list_walk.specs.Walks.{sweep_start}
+use Rattle.s3_types.specs.Store.{Scene}
+use Rattle.s3_types.specs.declared.request.Committer.{Committer}
+use Rattle.s3_types.specs.declared.request.Committer.TheVariants.{Magic}
+use Rattle.std.specs.Prelude.{codes, ℕ, [], ◌++◌, ◌+◌}
 use Rattle.magic_paths.specs.Layout as layout
-use Rattle.job_protocol.specs.Setup.{Checking}
 
 -- once the marker is deleted
 abbrev pub cleared_left : Committer → Job → Scene → ℕ

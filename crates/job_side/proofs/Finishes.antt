@@ -1,36 +1,72 @@
 -- What holds of a world where an operation of one of its actors ends.
-use Rattle.job_side.proofs.Common.{Actor, ActorEnd, ActorState, AreOf, At, Body, Bool, Content, Driver, Empty, Entry, Finishes, Global, Hand, HandIs, HandsAre, Holds, IsLegal, IsLost, IsOver, IsSome, Kept, Known, List, MayFinish, Op, OpEnd, Option, Past, Pick, Plan, Play, Reachable, Running, Script, Setting, Some, Stands, Vec, [], actors, all_sound, ap, append-nil, arith, busy_is, decide, end_op, ended, ended_idle, false, false_true, hand_end, happen, happens, inl, inr, is_busy, is_busy_at, is_commit, is_committing, is_memory, is_wanting, knows_now, lacked_memory, length, none_or_some, none_some, over, put_here, put_other, refl, setting_of, slice_get, slice_get_within, some_is, some_of, subst, sym, told_all, true, vec_capacity, ℕ, ◌++◌, ◌+◌, ◌<◌, ◌∙◌, ◌∷◌, ◌≡◌, ◌≤◌, ◌⊎◌}
-use Rattle.job_model.specs.declared.ends.OpEnd.TheVariants as ends
+use Rattle.basics.proofs.Members.{false_true, none_or_some, none_some, same_or_not as same_number, some_is}
+use Rattle.basics.proofs.Options.{some_of}
+use Rattle.job_actor.specs.Picks.{is_committing}
+use Rattle.job_model.specs.JobScript.{Script}
+use Rattle.job_model.specs.Known.{Known}
+use Rattle.job_model.specs.Legal.{IsLegal}
+use Rattle.job_model.specs.declared.ends.ActorEnd.{ActorEnd}
+use Rattle.job_model.specs.declared.ends.OpEnd.{OpEnd}
+use Rattle.job_model.specs.declared.ends.Pick.{Pick}
+use Rattle.job_model.specs.declared.events.Op.{Op}
+use Rattle.job_model.specs.declared.states.ActorState.{ActorState}
+use Rattle.job_protocol.specs.Operations.{Running, Setting, over}
+use Rattle.job_side.proofs.PicksStay.{decides_not, picked_ended, put_by_ended}
 use Rattle.job_side.proofs.Places.{apart}
 use Rattle.job_side.proofs.Standings.{busy_at, busy_nowhere}
-use Rattle.job_side.proofs.PicksStay.{decides_not, picked_ended, put_by_ended}
-use Rattle.basics.proofs.Members.{same_or_not as same_number}
+use Rattle.job_side.specs.Holds.{AreOf, HandIs, HandsAre, Holds, IsLost, IsOver, all_sound, is_busy_at, setting_of}
+use Rattle.job_side.specs.Sending.{hand_end}
+use Rattle.job_side.specs.declared.body.Body.{Body}
+use Rattle.job_side.specs.declared.hands.Hand.{Hand}
+use Rattle.job_side.specs.declared.hands.Hand.TheVariants.{At, Empty, Plan}
+use Rattle.job_spec.specs.Promise.{lacked_memory}
+use Rattle.job_spec.specs.States.{Past, actors, decide, end_op, ended, is_commit}
+use Rattle.job_spec.specs.Turns.{is_busy, is_memory, is_wanting}
+use Rattle.job_states.specs.Stands.{Kept, Stands}
+use Rattle.job_steps.proofs.Actors.{put_here, put_other}
+use Rattle.job_steps.proofs.PastMore.{busy_is, ended_idle}
+use Rattle.job_steps.proofs.Told.{told_all}
+use Rattle.job_steps.specs.Transitions.{Finishes, MayFinish, Play, Reachable, happen, happens, knows_now}
+use Rattle.s3_types.specs.Store.{Content}
+use Rattle.s3_types.specs.declared.journal.Entry.{Entry}
+use Rattle.s3_types.specs.declared.request.Actor.{Actor}
+use Rattle.s3_types.specs.declared.request.Actor.TheVariants.{Driver}
+use Rattle.std.proofs.Common.{Bool, Global, IsSome, List, Option, Some, Vec, ap, append-nil, arith, false, inl, inr, length, refl}
+use Rattle.std.proofs.Common.{slice_get, subst, sym, true, vec_capacity, ℕ, [], ◌++◌, ◌+◌, ◌<◌, ◌∙◌, ◌∷◌, ◌≡◌, ◌≤◌, ◌⊎◌}
+use Rattle.std.proofs.lemmas.Option.{slice_get_within}
+use Rattle.job_model.specs.declared.ends.OpEnd.TheVariants as ends
 
 -- ---- places
 
 -- an actor's end changes how it stands, and no other
-pub end_idle : (w : Script) (k : Kept) (p : Past) (y : ActorEnd) → Stands w k (end_op p y) → (place : ℕ) → slice_get (actors w) place ≡ Some y.actor → is_busy_at k.actors place ≡ false
+pub end_idle : (w : Script) (k : Kept) (p : Past) (y : ActorEnd) → Stands w k (end_op p y) → (place : ℕ)
+    → slice_get (actors w) place ≡ Some y.actor → is_busy_at k.actors place ≡ false
 end_idle w k p y s place e =
     busy_at w k (end_op p y) s place y.actor e
     ∙ ap (λ (v : ActorState). is_busy v.life) (put_here p.state y.actor (ended y.end (p.state y.actor).stage) y.actor refl)
     ∙ ended_idle y.end (p.state y.actor).stage
 
-pub end_others : (w : Script) → IsLegal w → (k l : Kept) (p : Past) (y : ActorEnd) → Stands w k p → Stands w l (end_op p y) → (place : ℕ) → slice_get (actors w) place ≡ Some y.actor → (q : ℕ) → (q ≡ place → ⊥) → is_busy_at l.actors q ≡ is_busy_at k.actors q
+pub end_others : (w : Script) → IsLegal w → (k l : Kept) (p : Past) (y : ActorEnd) → Stands w k p → Stands w l (end_op p y) → (place : ℕ)
+    → slice_get (actors w) place ≡ Some y.actor → (q : ℕ) → (q ≡ place → ⊥) → is_busy_at l.actors q ≡ is_busy_at k.actors q
 end_others w j k l p y s t place e q ne = elim (none_or_some (slice_get (actors w) q)) [
   | inl none ↦ busy_nowhere w l (end_op p y) t q none ∙ sym (busy_nowhere w k p s q none)
   | inr found ↦
       busy_at w l (end_op p y) t q found.0 found.1
-      ∙ ap (λ (v : ActorState). is_busy v.life) (put_other p.state y.actor (ended y.end (p.state y.actor).stage) found.0 (apart w j place q y.actor found.0 ne e found.1))
+      ∙ ap (λ (v : ActorState). is_busy v.life) (put_other p.state y.actor (ended y.end (p.state y.actor).stage) found.0
+      (apart w j place q y.actor found.0 ne e found.1))
       ∙ sym (busy_at w k p s q found.0 found.1)
 ]
 
 -- an actor of the script has a hand
-pub has_hand : {W : Type 0} (is_of : Setting → Actor → W → Type 0) (running : Known → W → Running) (picks_of : W → Option (List Pick)) (sound : ℕ → Bool) (b : Body W) (place : ℕ) (a : Actor) → Holds is_of running picks_of sound b → slice_get (actors b.side.script) place ≡ Some a → place < length b.side.hands.items
+pub has_hand : {W : Type 0} (is_of : Setting → Actor → W → Type 0) (running : Known → W → Running) (picks_of : W → Option (List Pick))
+    (sound : ℕ → Bool) (b : Body W) (place : ℕ) (a : Actor) → Holds is_of running picks_of sound b
+    → slice_get (actors b.side.script) place ≡ Some a → place < length b.side.hands.items
 has_hand is_of running picks_of sound b place a h here = omega (arith, slice_get_within (actors b.side.script) place a here, h.places)
 
 -- how picks go with what the driver does
 abbrev pub Doing : Type 0
-Doing = (g : Setting) (opening : Content) (x : Play) → IsLegal g.script → Reachable g opening x → is_committing (x.running Driver) ≡ is_commit (x.live.doing Driver)
+Doing = (g : Setting) (opening : Content) (x : Play) → IsLegal g.script → Reachable g opening x
+    → is_committing (x.running Driver) ≡ is_commit (x.live.doing Driver)
 
 module _ {W : Type 0} (is_of : Setting → Actor → W → Type 0) (running : Known → W → Running) (picks_of : W → Option (List Pick)) where
   -- ---- hands
@@ -39,7 +75,8 @@ module _ {W : Type 0} (is_of : Setting → Actor → W → Type 0) (running : Kn
   pub hands_by : (g : Setting) (opening : Content) (x : Play) (sound : ℕ → Bool) (place : ℕ) (a : Actor) (h : Hand W) (hs : List (Hand W))
       → slice_get (actors g.script) place ≡ Some a
       → (sound place ≡ true → slice_get hs place ≡ Some h) → HandIs is_of running picks_of g opening x a h
-      → ((q : ℕ) (b : Actor) (k : Hand W) → (q ≡ place → ⊥) → sound q ≡ true → slice_get (actors g.script) q ≡ Some b → slice_get hs q ≡ Some k → HandIs is_of running picks_of g
+      → ((q : ℕ) (b : Actor) (k : Hand W) → (q ≡ place → ⊥) → sound q ≡ true → slice_get (actors g.script) q ≡ Some b
+      → slice_get hs q ≡ Some k → HandIs is_of running picks_of g
       opening x b k)
       → HandsAre is_of running picks_of sound g opening x hs
   hands_by g opening x sound place a h hs at here is others q b k s e i = elim (same_number q place) [
@@ -63,41 +100,49 @@ module _ {W : Type 0} (is_of : Setting → Actor → W → Type 0) (running : Kn
         let ne = other_than a l.idle in
         record {
           idle = ap (λ (v : ActorState). is_busy v.life) (state_of a ne) ∙ l.idle;
-          wanting = λ d c. ap lacked_memory (decides_not y.actor (is_commit (x.live.doing y.actor)) y.end x.live.commit (λ s. ne (d ∙ sym s))) ∙ l.wanting d c;
+          wanting = λ d c. ap lacked_memory (decides_not y.actor (is_commit (x.live.doing y.actor)) y.end x.live.commit
+              (λ s. ne (d ∙ sym s))) ∙ l.wanting d c;
           dead = λ n. ap (λ (v : ActorState). v.life) (state_of a ne) ∙ l.dead n;
         }
 
-    pub hand_stays : (a : Actor) (h : Hand W) → HandIs is_of running picks_of g opening x a h → HandIs is_of running picks_of g opening (happen g x (Finishes y)) a h
+    pub hand_stays : (a : Actor) (h : Hand W) → HandIs is_of running picks_of g opening x a h
+        → HandIs is_of running picks_of g opening (happen g x (Finishes y)) a h
     hand_stays a (Plan p) i = (ap (λ (v : ActorState). is_busy v.life) (state_of a (other_than a i.0)) ∙ i.0, i.1, i.2)
     hand_stays a (At m) i = (i.0, (i.1.0, picked_ended g opening x y (picks_of m) i.1.1))
     hand_stays a Empty (inl l) = inl (still_lost a l)
     hand_stays a Empty (inr n) = inr n
 
     -- who ended for want of memory is lost
-    pub is_lost : y.end ≡ ends.NoMemory → is_committing (x.running Driver) ≡ is_commit (x.live.doing Driver) → IsLost (happen g x (Finishes y)) y.actor
+    pub is_lost : y.end ≡ ends.NoMemory → is_committing (x.running Driver) ≡ is_commit (x.live.doing Driver)
+        → IsLost (happen g x (Finishes y)) y.actor
     is_lost e doing =
         let v = ended y.end (x.live.state y.actor).stage in
         let now = put_here x.live.state y.actor v y.actor refl in
         record {
           idle = ap (λ (v : ActorState). is_busy v.life) now ∙ ended_idle y.end (x.live.state y.actor).stage;
           wanting = λ d c.
-              ap lacked_memory (ap (λ a. decide a (is_commit (x.live.doing a)) y.end x.live.commit) d ∙ ap (λ t. decide Driver t y.end x.live.commit) (sym doing ∙ c))
+              ap lacked_memory (ap (λ a. decide a (is_commit (x.live.doing a)) y.end x.live.commit) d ∙ ap
+              (λ t. decide Driver t y.end x.live.commit) (sym doing ∙ c))
               ∙ ap is_memory e;
           dead = λ n. ap (λ (v : ActorState). v.life) (now ∙ ap (λ o. ended o (x.live.state y.actor).stage) e);
         }
 
   -- ---- a world
 
-  at_end : (end_of : W → Option OpEnd) (e : OpEnd) (o : Option (Hand W)) → hand_end end_of o ≡ Some e → (m : W) × (o ≡ Some (At m)) × (end_of m ≡ Some e)
+  at_end : (end_of : W → Option OpEnd) (e : OpEnd) (o : Option (Hand W)) → hand_end end_of o ≡ Some e → (m : W) × (o ≡ Some (At m))
+      × (end_of m ≡ Some e)
   at_end end_of e (Some (At m)) h = (m, refl, h)
   at_end end_of e _ h = absurd (none_some refl h)
 
-  module _ (doing : Doing) (b : Body W) (place : ℕ) (y : ActorEnd) (sound : ℕ → Bool) (k : Kept) (f : Vec ActorEnd Global) (hs : Vec (Hand W) Global)
-      (actor : slice_get (actors b.side.script) place ≡ Some y.actor) (busy : is_busy_at b.side.states.actors place ≡ true) (during : IsSome b.side.event)
+  module _ (doing : Doing) (b : Body W) (place : ℕ) (y : ActorEnd) (sound : ℕ → Bool) (k : Kept) (f : Vec ActorEnd Global)
+      (hs : Vec (Hand W) Global)
+      (actor : slice_get (actors b.side.script) place ≡ Some y.actor) (busy : is_busy_at b.side.states.actors place ≡ true)
+      (during : IsSome b.side.event)
       (h : Holds is_of running picks_of sound b)
       (told : f.items ≡ b.side.finished.items ++ y ∷ []) (capacity : vec_capacity b.side.finished ≤ vec_capacity f)
       (stands : (p : Past) → Stands b.side.script b.side.states p → Stands b.side.script k (end_op p y))
-      (places : length hs.items ≡ length b.side.hands.items) (others : (q : ℕ) → (q ≡ place → ⊥) → slice_get hs.items q ≡ slice_get b.side.hands.items q) where
+      (places : length hs.items ≡ length b.side.hands.items) (others : (q : ℕ) → (q ≡ place → ⊥) → slice_get hs.items q ≡ slice_get
+      b.side.hands.items q) where
     -- all holds, and the operation is over
     abbrev pub IsDone : Type 0
     IsDone =
@@ -107,15 +152,25 @@ module _ {W : Type 0} (is_of : Setting → Actor → W → Type 0) (running : Kn
     now : is_busy (h.play.live.state y.actor).life ≡ true
     now = sym (busy_at b.side.script b.side.states h.play.live h.stands place y.actor actor) ∙ busy
 
-    done : ((op : Op) → is_wanting y.actor op y.end ≡ true) ⊎ ((m : Running) × (h.play.running y.actor ≡ Some m) × (over m.operation ≡ Some y.end))
-        → HandsAre is_of running picks_of all_sound (setting_of b) b.shared.opening (happen (setting_of b) h.play (Finishes y)) hs.items → IsDone
+    done : ((op : Op) → is_wanting y.actor op y.end ≡ true)
+        ⊎ ((m : Running) × (h.play.running y.actor ≡ Some m) × (over m.operation ≡ Some y.end))
+        → HandsAre is_of running picks_of all_sound (setting_of b) b.shared.opening (happen (setting_of b) h.play (Finishes y)) hs.items
+        → IsDone
     done end hands =
         let x = h.play in
         let g = setting_of b in
         let ev = some_of b.side.event during in
         let life = busy_is (x.live.state y.actor).life now in
         let d = (told_all g b.shared.opening x h.happened).does y.actor life in
-        let may : MayFinish x y = record { event = ev.0; during = sym h.now ∙ ev.1; busy = life; doing = d.0; does = d.1; end = elim end [ inl wanting ↦ inl (wanting d.0.op) | inr q ↦ inr q ] } in
+        let may : MayFinish x y = record {
+          event = ev.0;
+          during = sym h.now ∙ ev.1;
+          busy = life;
+          doing = d.0;
+          does = d.1;
+          end = elim end
+              [ inl wanting ↦ inl (wanting d.0.op) | inr q ↦ inr q ];
+        } in
         let turn = h.turn during in
         let ended = told ∙ ap (λ xs. xs ++ y ∷ []) h.finished in
         let picks = put_by_ended g b.shared.opening x y b.side.picks (doing g b.shared.opening x h.legal h.happened) h.picks in
@@ -142,7 +197,10 @@ module _ {W : Type 0} (is_of : Setting → Actor → W → Type 0) (running : Kn
     -- for want of memory
     pub is_dead : y.end ≡ ends.NoMemory → ((q : ℕ) → (q ≡ place → ⊥) → sound q ≡ true) → slice_get hs.items place ≡ Some Empty → IsDone
     is_dead lack kept empty =
-        let gone = is_lost (setting_of b) b.shared.opening h.play y now lack (doing (setting_of b) b.shared.opening h.play h.legal h.happened) in
+        let gone = is_lost (setting_of b) b.shared.opening h.play y now lack (doing (setting_of b) b.shared.opening h.play h.legal
+        h.happened) in
         done (inl (λ op. ap (is_wanting y.actor op) lack))
-        (hands_by (setting_of b) b.shared.opening (happen (setting_of b) h.play (Finishes y)) all_sound place y.actor Empty hs.items actor (λ s. empty) (inl gone)
-        (λ q a v ne s e i. hand_stays (setting_of b) b.shared.opening h.play y now a v (h.hands q a v (kept q ne) e (sym (others q ne) ∙ i))))
+        (hands_by (setting_of b) b.shared.opening (happen (setting_of b) h.play (Finishes y)) all_sound place y.actor Empty hs.items actor
+        (λ s. empty) (inl gone)
+        (λ q a v ne s e i. hand_stays (setting_of b) b.shared.opening h.play y now a v
+        (h.hands q a v (kept q ne) e (sym (others q ne) ∙ i))))

@@ -26,4 +26,3 @@ pub mod Rooms
 pub mod Firsts
 pub mod KeptSides
 pub mod Beside
-mod Common

@@ -1,15 +1,37 @@
 -- What a world that holds says of its run: which event may begin, that its numbers are small, and what stands at its places.
-use Rattle.job_side.proofs.Common.{Actor, Body, Bool, Event, EventFault, Hand, Holds, IsEvent, Known, List, MayOpen, Next, None, Option, Past, Pick, Play, Running, Setting, Some, Stands, Told, [], actors, ap, arith, by_actor, event_at, event_entries, event_none, false_true, is_busy, is_busy_at, knows, knows_now, knows_of, length, of_event, past, refusal, seen_by, setting_of, slice_get, slice_get_within, subst, sym, told_all, who, ℕ, ◌+◌, ◌-◌, ◌<◌, ◌^◌, ◌∙◌, ◌≡◌}
-use Rattle.std.specs.Prelude.{IsSome, is_some}
+use Rattle.basics.proofs.Members.{false_true}
+use Rattle.job_model.specs.Known.{Known}
+use Rattle.job_model.specs.Legal.{IsEvent}
+use Rattle.job_model.specs.declared.ends.EventFault.{EventFault}
+use Rattle.job_model.specs.declared.ends.Pick.{Pick}
+use Rattle.job_model.specs.declared.events.Event.{Event}
+use Rattle.job_protocol.specs.Knowledge.{knows}
+use Rattle.job_protocol.specs.Operations.{Running, Setting, who}
 use Rattle.job_side.proofs.Lives.{Lives, lives}
 use Rattle.job_side.proofs.Places.{there}
 use Rattle.job_side.proofs.Standings.{busy_at}
+use Rattle.job_side.specs.Events.{Next, event_entries, knows_of}
+use Rattle.job_side.specs.Holds.{Holds, is_busy_at, seen_by, setting_of}
+use Rattle.job_side.specs.declared.body.Body.{Body}
+use Rattle.job_side.specs.declared.hands.Hand.{Hand}
+use Rattle.job_spec.specs.States.{Past, actors, past, refusal}
+use Rattle.job_spec.specs.Turns.{by_actor, is_busy, of_event}
+use Rattle.job_states.specs.Stands.{Stands}
+use Rattle.job_steps.proofs.Parts.{event_none}
+use Rattle.job_steps.proofs.PastMore.{event_at}
+use Rattle.job_steps.proofs.Told.{Told, told_all}
+use Rattle.job_steps.specs.Transitions.{MayOpen, Play, knows_now}
+use Rattle.s3_types.specs.declared.request.Actor.{Actor}
+use Rattle.std.proofs.Common.{Bool, List, None, Option, Some, ap, arith, length, slice_get, subst, sym, ℕ, [], ◌+◌, ◌-◌, ◌<◌, ◌^◌, ◌∙◌, ◌≡◌}
+use Rattle.std.proofs.lemmas.Option.{slice_get_within}
+use Rattle.std.specs.Prelude.{IsSome, is_some}
 
 -- where there is none there is not one
 pub never : {A : Type 0} (X : Type 0) (o : Option A) → o ≡ None → IsSome o → X
 never X o none some = absurd (false_true (ap is_some none) some)
 
-module _ {W : Type 0} (is_of : Setting → Actor → W → Type 0) (running : Known → W → Running) (picks_of : W → Option (List Pick)) (sound : ℕ → Bool) (b : Body W) (h : Holds is_of running picks_of sound b) where
+module _ {W : Type 0} (is_of : Setting → Actor → W → Type 0) (running : Known → W → Running) (picks_of : W → Option (List Pick))
+    (sound : ℕ → Bool) (b : Body W) (h : Holds is_of running picks_of sound b) where
   abbrev play : Play
   play = h.play
 
@@ -39,7 +61,8 @@ module _ {W : Type 0} (is_of : Setting → Actor → W → Type 0) (running : Kn
   pub next_of : (ev : Event) → Next b ev → slice_get b.side.script.events (length h.play.ends) ≡ Some ev
   next_of ev next = ap (λ xs. slice_get b.side.script.events (length xs)) (sym h.ends) ∙ next
 
-  pub may_open : (ev : Event) (f : Option EventFault) → b.side.event ≡ None → Next b ev → refusal (past b.side.script b.side.ends.items).state ev ≡ f → MayOpen (setting_of b) h.play ev f
+  pub may_open : (ev : Event) (f : Option EventFault) → b.side.event ≡ None → Next b ev
+      → refusal (past b.side.script b.side.ends.items).state ev ≡ f → MayOpen (setting_of b) h.play ev f
   may_open ev f idle next is = record {
     idle = is_idle idle;
     next = next_of ev next;
@@ -79,5 +102,6 @@ module _ {W : Type 0} (is_of : Setting → Actor → W → Type 0) (running : Kn
       let same = h.places in
       there b.side.hands.items q (omega arith)
 
-  pub busy_of : (q : ℕ) (a : Actor) → slice_get (actors b.side.script) q ≡ Some a → is_busy_at b.side.states.actors q ≡ is_busy (h.play.live.state a).life
+  pub busy_of : (q : ℕ) (a : Actor) → slice_get (actors b.side.script) q ≡ Some a
+      → is_busy_at b.side.states.actors q ≡ is_busy (h.play.live.state a).life
   busy_of q a at = busy_at b.side.script b.side.states h.play.live h.stands q a at

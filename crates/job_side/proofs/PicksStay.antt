@@ -1,6 +1,22 @@
 -- The picks of a run stay while nobody sends who picks.
-use Rattle.job_side.proofs.Common.{Actor, ActorEnd, ArePicked, Attempt, Bool, Content, Decided, Driver, Entry, Finishes, HasPicked, LeavesPicks, List, MaySend, None, OpEnd, Option, Pick, Play, PutBy, Sends, Setting, Some, ap, decide, false, finished_ahead, happen, inl, inr, is_commit, is_committing, lacked_memory, refl, same_or_not, same_picks, sent_ahead, subst, sym, true, ◌∙◌, ◌≡◌}
+use Rattle.job_actor.proofs.Staying.{same_picks}
+use Rattle.job_actor.specs.Picks.{HasPicked, LeavesPicks, is_committing}
+use Rattle.job_model.specs.declared.ends.ActorEnd.{ActorEnd}
+use Rattle.job_model.specs.declared.ends.OpEnd.{OpEnd}
+use Rattle.job_model.specs.declared.ends.Pick.{Pick}
+use Rattle.job_protocol.specs.Operations.{Setting}
 use Rattle.job_side.proofs.Along.{commits_on}
+use Rattle.job_side.specs.Holds.{PutBy}
+use Rattle.job_spec.specs.Promise.{ArePicked, lacked_memory}
+use Rattle.job_spec.specs.States.{Decided, decide, is_commit}
+use Rattle.job_steps.proofs.Actors.{same_or_not}
+use Rattle.job_steps.proofs.Running.{finished_ahead, sent_ahead}
+use Rattle.job_steps.specs.Transitions.{Finishes, MaySend, Play, Sends, happen}
+use Rattle.s3_types.specs.Store.{Content}
+use Rattle.s3_types.specs.declared.journal.Entry.{Entry}
+use Rattle.s3_types.specs.declared.request.Actor.{Actor}
+use Rattle.s3_types.specs.declared.request.Actor.TheVariants.{Attempt, Driver}
+use Rattle.std.proofs.Common.{Bool, List, None, Option, Some, ap, false, inl, inr, refl, subst, sym, true, ◌∙◌, ◌≡◌}
 
 -- an attempt's end decides nothing of the driver's
 pub decides_not : (a : Actor) (b : Bool) (e : OpEnd) (d : Decided) → (a ≡ Driver → ⊥) → decide a b e d ≡ d
@@ -11,16 +27,20 @@ decides_not _ _ e d ne = refl
 module _ (g : Setting) (opening : Content) (x : Play) where
   -- ---- another actor sends
 
-  pub same_picked : (e : Entry) → LeavesPicks g opening x e → (o : Option (List Pick)) → HasPicked g opening x o → HasPicked g opening (happen g x (Sends e)) o
+  pub same_picked : (e : Entry) → LeavesPicks g opening x e → (o : Option (List Pick)) → HasPicked g opening x o
+      → HasPicked g opening (happen g x (Sends e)) o
   same_picked e stays None h = tt
   same_picked e stays (Some ps) h = same_picks g opening x e stays ps h
 
-  pub put_by_sent : (e : Entry) (ps : List Pick) → MaySend g opening x e → (is_committing (x.running Driver) ≡ false → LeavesPicks g opening x e) → PutBy g opening x ps → PutBy g opening (happen g x (Sends e)) ps
+  pub put_by_sent : (e : Entry) (ps : List Pick) → MaySend g opening x e
+      → (is_committing (x.running Driver) ≡ false → LeavesPicks g opening x e) → PutBy g opening x ps
+      → PutBy g opening (happen g x (Sends e)) ps
   put_by_sent e ps may stays h =
       let same = sym (commits_on g opening x e may Driver) in
       record {
         none = λ c. h.none (same ∙ c);
-        first = λ c xs ahead. let old = sent_ahead g x e xs ahead in subst (ArePicked ps) (sym (stays (same ∙ c) xs old)) (h.first (same ∙ c) xs old);
+        first = λ c xs ahead. let old = sent_ahead g x e xs ahead in subst (ArePicked ps) (sym (stays (same ∙ c) xs old))
+            (h.first (same ∙ c) xs old);
         all = λ c fine. same_picks g opening x e (stays (same ∙ c)) ps (h.all (same ∙ c) fine);
       }
 
@@ -37,7 +57,8 @@ module _ (g : Setting) (opening : Content) (x : Play) where
     | inr ne ↦ decides_not y.actor (is_commit (x.live.doing y.actor)) y.end x.live.commit ne
   ]
 
-  pub put_by_ended : (y : ActorEnd) (ps : List Pick) → is_committing (x.running Driver) ≡ is_commit (x.live.doing Driver) → PutBy g opening x ps → PutBy g opening (happen g x (Finishes y)) ps
+  pub put_by_ended : (y : ActorEnd) (ps : List Pick) → is_committing (x.running Driver) ≡ is_commit (x.live.doing Driver)
+      → PutBy g opening x ps → PutBy g opening (happen g x (Finishes y)) ps
   put_by_ended y ps doing h = record {
     none = h.none;
     first = λ c xs ahead. h.first c xs (finished_ahead g x y xs ahead);

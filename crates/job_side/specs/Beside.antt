@@ -1,15 +1,29 @@
 -- Another's event beside a side.
-use Rattle.std.specs.Prelude.{◌≡◌, ℕ, ◌+◌, ◌≤◌, ◌^◌, false, List, [], ◌∷◌, ◌++◌, length, Option, Some}
-use Rattle.job_steps.specs.Prelude.{Scene, answer, effect, after_all, IsHonestOutcome, fate_at, AreForetold, Request, Actor, Entry, Who, actor_of, Known, Drawn, Script, Pick, Setting, Running}
-use Rattle.job_facts.specs.Prelude.{IsForeign}
-use Rattle.job_side.specs.Holds.{Quiet, is_mine}
+use Rattle.job_facts.specs.Foreign.{IsForeign}
+use Rattle.job_model.specs.Attempts.{Who, actor_of}
+use Rattle.job_model.specs.JobScript.{Script}
+use Rattle.job_model.specs.Known.{Drawn, Known}
+use Rattle.job_model.specs.declared.ends.Pick.{Pick}
+use Rattle.job_protocol.specs.Operations.{Running, Setting}
 use Rattle.job_side.specs.Events.{knows_of}
+use Rattle.job_side.specs.Holds.{Quiet, is_mine}
 use Rattle.job_side.specs.declared.body.Body.{Body}
+use Rattle.s3_types.specs.Answer.{answer}
+use Rattle.s3_types.specs.Fates.{fate_at}
+use Rattle.s3_types.specs.Foretold.{AreForetold}
+use Rattle.s3_types.specs.Moment.{IsHonestOutcome, after_all, effect}
+use Rattle.s3_types.specs.Store.{Scene}
+use Rattle.s3_types.specs.declared.journal.Entry.{Entry}
+use Rattle.s3_types.specs.declared.request.Actor.{Actor}
+use Rattle.s3_types.specs.declared.request.Request.{Request}
+use Rattle.std.specs.Prelude.{List, Option, Some, false, length, ℕ, [], ◌++◌, ◌+◌, ◌^◌, ◌∷◌, ◌≡◌, ◌≤◌}
 
--- these were sent in event n, one after another from a scene on: each is foreign to a job whose attempts know this, and has an answer that is due
+-- these were sent in event n, one after another from a scene on: each is foreign to a job whose attempts know this, and has an answer that
+-- is due
 abbrev pub AreForeign : Script → (Who → List Drawn) → ℕ → Scene → List Entry → Type 0
 AreForeign w drawn n s [] = Unit {0}
-AreForeign w drawn n s (e ∷ es) = (e.event ≡ n) × IsForeign w drawn e.request × IsHonestOutcome e.outcome (answer s e.request) × AreForeign w drawn n (effect s e.request e.outcome) es
+AreForeign w drawn n s (e ∷ es) = (e.event ≡ n) × IsForeign w drawn e.request × IsHonestOutcome e.outcome (answer s e.request)
+    × AreForeign w drawn n (effect s e.request e.outcome) es
 
 -- an event of another was played, which leaves all of the side's own
 pub record IsBeside {W : Type 0} (b c : Body W) : Type 0 where
@@ -27,5 +41,7 @@ pub record IsBeside {W : Type 0} (b c : Body W) : Type 0 where
   pub few : c.shared.store.scene.content.next ≤ 2 ^ 62 + c.shared.store.requests
 
 -- what a side keeps between its events it keeps beside another's
-abbrev pub RestsBeside : {W : Type 0} → (W → Option Request) → (Setting → Actor → W → Type 0) → (Known → W → Running) → (W → Option (List Pick)) → Type 0
-RestsBeside wants is_of running picks_of = (b c : Body _) → Quiet wants is_of running picks_of b → IsBeside b c → Quiet wants is_of running picks_of c
+abbrev pub RestsBeside : {W : Type 0} → (W → Option Request) → (Setting → Actor → W → Type 0) → (Known → W → Running)
+    → (W → Option (List Pick)) → Type 0
+RestsBeside wants is_of running picks_of = (b c : Body _) → Quiet wants is_of running picks_of b → IsBeside b c
+    → Quiet wants is_of running picks_of c

@@ -1,17 +1,33 @@
 -- The events of a world.
-use Rattle.std.specs.Prelude.{◌≡◌, ◌⊎◌, ℕ, ◌+◌, ◌<◌, ◌≤◌, ◌-◌, Bool, true, false, List, [], ◌∷◌, ◌++◌, length, map, slice_get, Option, Some}
-use Rattle.std.specs.Prelude.{None, IsSome, IfOk, unwrap_or, Result, vec_len, vec_capacity}
-use Rattle.job_steps.specs.Prelude.{Entry, Request, Actor, Known, Op, Event, Do, Start, Kill, Mix, Restart, Recover, ActorEnd, EventEnd, Done, Ended, EventFault, OpEnd, Pick, knows, Reports, reports, Setting, Running, who, start_of, Past, actors, refusal, past, told, open_event, Turns, AllBy, busy_actors, of_event, by_actor, begun}
-use Rattle.job_protocol.specs.Prelude.{Mixed}
-use Rattle.job_states.specs.Stands.{Stands, IsPlace}
-use Rattle.job_model.specs.declared.ends.OpEnd.TheVariants.{NoMemory}
 use Rattle.job_actor.specs.Acts.{ends_with_path}
 use Rattle.job_actor.specs.Plans.{IsPlanOf}
+use Rattle.job_model.specs.Known.{Known}
+use Rattle.job_model.specs.declared.ends.ActorEnd.{ActorEnd}
+use Rattle.job_model.specs.declared.ends.EventEnd.{EventEnd}
+use Rattle.job_model.specs.declared.ends.EventEnd.TheVariants.{Done, Ended, Mixed}
+use Rattle.job_model.specs.declared.ends.EventFault.{EventFault}
+use Rattle.job_model.specs.declared.ends.OpEnd.{OpEnd}
+use Rattle.job_model.specs.declared.ends.OpEnd.TheVariants.{NoMemory}
+use Rattle.job_model.specs.declared.ends.Pick.{Pick}
+use Rattle.job_model.specs.declared.events.Event.{Event}
+use Rattle.job_model.specs.declared.events.Event.TheVariants.{Do, Kill, Mix, Recover, Restart, Start}
+use Rattle.job_model.specs.declared.events.Op.{Op}
+use Rattle.job_protocol.specs.Knowledge.{knows}
+use Rattle.job_protocol.specs.Operations.{Reports, Running, Setting, start_of, who}
+use Rattle.job_side.specs.Holds.{AreOf, Going, HandIs, Holds, IsTurn, Quiet, Stays, all_but, all_sound, is_busy_at, seen_by, setting_of}
 use Rattle.job_side.specs.Sending.{Asks}
-use Rattle.job_side.specs.Holds.{Holds, Going, Quiet, IsTurn, Stays, HandIs, AreOf, seen_by, all_sound, all_but, setting_of, is_busy_at}
-use Rattle.job_side.specs.declared.hands.Hand.{Hand}
-use Rattle.job_side.specs.declared.hands.Hand.TheVariants.{Plan, At}
 use Rattle.job_side.specs.declared.body.Body.{Body}
+use Rattle.job_side.specs.declared.hands.Hand.{Hand}
+use Rattle.job_side.specs.declared.hands.Hand.TheVariants.{At, Plan}
+use Rattle.job_spec.specs.States.{Past, actors, open_event, past, refusal, reports, told}
+use Rattle.job_spec.specs.Turns.{AllBy, Turns, busy_actors, by_actor, of_event}
+use Rattle.job_states.specs.Stands.{IsPlace, Stands}
+use Rattle.job_steps.specs.Transitions.{begun}
+use Rattle.s3_types.specs.declared.journal.Entry.{Entry}
+use Rattle.s3_types.specs.declared.request.Actor.{Actor}
+use Rattle.s3_types.specs.declared.request.Request.{Request}
+use Rattle.std.specs.Prelude.{Bool, IfOk, IsSome, List, None, Option, Result, Some, false, length, map, slice_get, true, unwrap_or}
+use Rattle.std.specs.Prelude.{vec_capacity, vec_len, ℕ, [], ◌++◌, ◌+◌, ◌-◌, ◌<◌, ◌∷◌, ◌≡◌, ◌≤◌, ◌⊎◌}
 
 -- the event is the script's next one
 abbrev pub Next : {W : Type 0} → Body W → Event → Type 0
@@ -59,7 +75,8 @@ pub record Grown {W : Type 0} (b c : Body W) : Type 0 where
   pub more : (part : List Entry) × (c.shared.journal.entries ≡ b.shared.journal.entries ++ part) × AreOf (b.shared.events + 1) part
 
 -- an event may be played: it is the script's next one and is not refused, and there is room for its end
-pub record MayPlay {W : Type 0} (wants : W → Option Request) (is_of : Setting → Actor → W → Type 0) (running : Known → W → Running) (picks_of : W → Option (List Pick)) (event : Event) (b : Body W) : Type 0 where
+pub record MayPlay {W : Type 0} (wants : W → Option Request) (is_of : Setting → Actor → W → Type 0) (running : Known → W → Running)
+    (picks_of : W → Option (List Pick)) (event : Event) (b : Body W) : Type 0 where
   pub next : Next b event
   pub fine : IsFine b event
   pub turn : IsTurn b
@@ -67,7 +84,8 @@ pub record MayPlay {W : Type 0} (wants : W → Option Request) (is_of : Setting 
   pub quiet : Quiet wants is_of running picks_of b
 
 -- the event is over, and has its end
-pub record IsPast {W : Type 0} (wants : W → Option Request) (is_of : Setting → Actor → W → Type 0) (running : Known → W → Running) (picks_of : W → Option (List Pick)) (b c : Body W) : Type 0 where
+pub record IsPast {W : Type 0} (wants : W → Option Request) (is_of : Setting → Actor → W → Type 0) (running : Known → W → Running)
+    (picks_of : W → Option (List Pick)) (b c : Body W) : Type 0 where
   pub quiet : Quiet wants is_of running picks_of c
   pub grown : Grown b c
 
@@ -125,7 +143,8 @@ abbrev pub knows_of : {W : Type 0} → Body W → Actor → Known
 knows_of b a = knows b.side.script (who a) (by_actor a (seen_by b))
 
 -- a hand gives the plan that an attempt goes by, which knows this: it is at nothing, or its operation ended
-abbrev pub GivesPlan : {W : Type 0} → (W → Option Request) → (Setting → Actor → W → Type 0) → (Known → W → Running) → Setting → Actor → Known → Option (Hand W) → Type 0
+abbrev pub GivesPlan : {W : Type 0} → (W → Option Request) → (Setting → Actor → W → Type 0) → (Known → W → Running) → Setting → Actor
+    → Known → Option (Hand W) → Type 0
 GivesPlan wants is_of running g a k (Some (Plan p)) = IsPlanOf g a k p
 GivesPlan wants is_of running g a k (Some (At m)) = is_of g a m × (wants m ≡ None) × ((running k m).known ≡ k)
 GivesPlan wants is_of running g a k _ = ⊥
@@ -135,19 +154,24 @@ abbrev pub of_tasks : Option ℕ → Reports
 of_tasks missing = record { missing = missing; attempts = [] }
 
 -- the operation that an actor begins, by what is past
-pub record IsWork {W : Type 0} (is_of : Setting → Actor → W → Type 0) (running : Known → W → Running) (picks_of : W → Option (List Pick)) (b : Body W) (a : Actor) (op : Op) (work : W) : Type 0 where
+pub record IsWork {W : Type 0} (is_of : Setting → Actor → W → Type 0) (running : Known → W → Running) (picks_of : W → Option (List Pick))
+    (b : Body W) (a : Actor) (op : Op) (work : W) : Type 0 where
   pub goes_by : is_of (setting_of b) a work
-  pub starts : (p : Past) → Stands b.side.script b.side.states p → begun (start_of (setting_of b) a op (reports b.side.script p.reported) (knows_of b a)) (knows_of b a) ≡ Some (running (knows_of b a) work)
+  pub starts : (p : Past) → Stands b.side.script b.side.states p
+      → begun (start_of (setting_of b) a op (reports b.side.script p.reported) (knows_of b a)) (knows_of b a) ≡ Some
+      (running (knows_of b a) work)
   pub picks : (ps : List Pick) → picks_of work ≡ Some ps → ps ≡ []
 
 -- An event goes on in which the actor at a place began an operation: all holds, but for its hand; and the operation, where memory was
 -- there for it, fits that.
-pub record Begun {W E : Type 0} (wants : W → Option Request) (is_of : Setting → Actor → W → Type 0) (running : Known → W → Running) (picks_of : W → Option (List Pick)) (place : ℕ) (a : Actor) (b : Body W) (work : Result W E) : Type 0 where
+pub record Begun {W E : Type 0} (wants : W → Option Request) (is_of : Setting → Actor → W → Type 0) (running : Known → W → Running)
+    (picks_of : W → Option (List Pick)) (place : ℕ) (a : Actor) (b : Body W) (work : Result W E) : Type 0 where
   pub holds : Holds is_of running picks_of (all_but place) b
   pub actor : IsPlace b.side.script a (Some place)
   pub fits : IfOk work (λ m. HandIs is_of running picks_of (setting_of b) b.shared.opening holds.play a (At m))
   pub busy : is_busy_at b.side.states.actors place ≡ true
-  pub others : (q : ℕ) (h : Hand W) → (q ≡ place → ⊥) → is_busy_at b.side.states.actors q ≡ true → slice_get b.side.hands.items q ≡ Some h → Asks wants h
+  pub others : (q : ℕ) (h : Hand W) → (q ≡ place → ⊥) → is_busy_at b.side.states.actors q ≡ true → slice_get b.side.hands.items q ≡ Some h
+      → Asks wants h
   pub during : IsSome b.side.event
   pub none : b.side.finished.items ≡ []
   pub room : vec_len b.side.finished < vec_capacity b.side.finished
@@ -160,20 +184,23 @@ pub record Handed {W : Type 0} (place : ℕ) (hand : Hand W) (b c : Body W) : Ty
   pub others : (q : ℕ) → (q ≡ place → ⊥) → slice_get c.side.hands.items q ≡ slice_get b.side.hands.items q
 
 -- all holds in it, and the actor at a place has the operation in hand
-pub record InHand {W : Type 0} (wants : W → Option Request) (is_of : Setting → Actor → W → Type 0) (running : Known → W → Running) (picks_of : W → Option (List Pick)) (place : ℕ) (a : Actor) (b : Body W) : Type 0 where
+pub record InHand {W : Type 0} (wants : W → Option Request) (is_of : Setting → Actor → W → Type 0) (running : Known → W → Running)
+    (picks_of : W → Option (List Pick)) (place : ℕ) (a : Actor) (b : Body W) : Type 0 where
   pub holds : Holds is_of running picks_of all_sound b
   pub actor : IsPlace b.side.script a (Some place)
   pub work : W
   pub hand : slice_get b.side.hands.items place ≡ Some (At work)
   pub busy : is_busy_at b.side.states.actors place ≡ true
-  pub others : (q : ℕ) (h : Hand W) → (q ≡ place → ⊥) → is_busy_at b.side.states.actors q ≡ true → slice_get b.side.hands.items q ≡ Some h → Asks wants h
+  pub others : (q : ℕ) (h : Hand W) → (q ≡ place → ⊥) → is_busy_at b.side.states.actors q ≡ true → slice_get b.side.hands.items q ≡ Some h
+      → Asks wants h
   pub during : IsSome b.side.event
   pub none : b.side.finished.items ≡ []
   pub room : vec_len b.side.finished < vec_capacity b.side.finished
 
 -- the actor at a place goes on, or its operation ended at once
 abbrev pub TakenUp : {W : Type 0} → ℕ → Actor → Body W → Bool → Type 0
-TakenUp place a b true = (is_busy_at b.side.states.actors place ≡ true) × (b.side.finished.items ≡ []) × (vec_len b.side.finished < vec_capacity b.side.finished)
+TakenUp place a b true = (is_busy_at b.side.states.actors place ≡ true) × (b.side.finished.items ≡ [])
+    × (vec_len b.side.finished < vec_capacity b.side.finished)
 TakenUp place a b false = (end : OpEnd) × (b.side.finished.items ≡ record { actor = a; end = end } ∷ [])
 
 -- this is told of an operation that ended so: its end, or out of memory where its end names a path
@@ -195,17 +222,20 @@ pub record Entered {W : Type 0} (event : Event) (b c : Body W) : Type 0 where
   pub fresh : event_entries c ≡ []
 
 -- the actor at a place began an operation in the event, and goes on or not
-pub record HasBegun {W : Type 0} (wants : W → Option Request) (is_of : Setting → Actor → W → Type 0) (running : Known → W → Running) (picks_of : W → Option (List Pick)) (event : Event) (place : ℕ) (a : Actor) (b c : Body W) (goes_on : Bool) : Type 0 where
+pub record HasBegun {W : Type 0} (wants : W → Option Request) (is_of : Setting → Actor → W → Type 0) (running : Known → W → Running)
+    (picks_of : W → Option (List Pick)) (event : Event) (place : ℕ) (a : Actor) (b c : Body W) (goes_on : Bool) : Type 0 where
   pub going : Going wants is_of running picks_of c
   pub entered : Entered event b c
   pub taken : TakenUp place a c goes_on
 
 -- these are the places of the busy actors
 abbrev pub AreBusy : {W : Type 0} → Body W → List ℕ → Type 0
-AreBusy b places = map (slice_get (actors b.side.script)) places ≡ map (λ x. Some x) (busy_actors b.side.script (past b.side.script b.side.ends.items).state)
+AreBusy b places = map (slice_get (actors b.side.script)) places ≡ map (λ x. Some x)
+    (busy_actors b.side.script (past b.side.script b.side.ends.items).state)
 
 -- an event goes on that begins no operation: nothing was sent in it and nobody has ended yet, and there is room still
-pub record HasEntered {W : Type 0} (wants : W → Option Request) (is_of : Setting → Actor → W → Type 0) (running : Known → W → Running) (picks_of : W → Option (List Pick)) (event : Event) (b c : Body W) : Type 0 where
+pub record HasEntered {W : Type 0} (wants : W → Option Request) (is_of : Setting → Actor → W → Type 0) (running : Known → W → Running)
+    (picks_of : W → Option (List Pick)) (event : Event) (b c : Body W) : Type 0 where
   pub going : Going wants is_of running picks_of c
   pub entered : Entered event b c
   pub fine : IsFine c event

@@ -1,15 +1,23 @@
 -- A job, and what it stands on, before any event.
-use Rattle.std.specs.Prelude.{◌≡◌, ℕ, false, [], ◌∷◌, List, map, Option, None}
-use Rattle.job_steps.specs.Prelude.{Content, Request, Actor, Known, nothing_known, Script, IsLegal, Pick, Setting, Running, task_of, nothing_past}
-use Rattle.job_spec.specs.Prelude.{opening}
-use Rattle.job_states.specs.Stands.{Stands}
 use Rattle.job_actor.specs.declared.plan.Plan.TheVariants.{Task}
+use Rattle.job_model.specs.JobScript.{Script}
+use Rattle.job_model.specs.Known.{Known, nothing_known}
+use Rattle.job_model.specs.Legal.{IsLegal}
+use Rattle.job_model.specs.declared.ends.Pick.{Pick}
+use Rattle.job_protocol.specs.AtWork.{task_of}
+use Rattle.job_protocol.specs.Operations.{Running, Setting}
 use Rattle.job_side.specs.Holds.{Quiet}
-use Rattle.job_side.specs.declared.hands.Hand.{Hand}
-use Rattle.job_side.specs.declared.hands.Hand.TheVariants.{Plan, Empty}
 use Rattle.job_side.specs.declared.body.Body.{Body}
-use Rattle.job_side.specs.declared.body.Side.{Side}
 use Rattle.job_side.specs.declared.body.Shared.{Shared}
+use Rattle.job_side.specs.declared.body.Side.{Side}
+use Rattle.job_side.specs.declared.hands.Hand.{Hand}
+use Rattle.job_side.specs.declared.hands.Hand.TheVariants.{Empty, Plan}
+use Rattle.job_spec.specs.States.{nothing_past}
+use Rattle.job_states.specs.Stands.{Stands}
+use Rattle.s3_types.specs.Store.{Content, opening}
+use Rattle.s3_types.specs.declared.request.Actor.{Actor}
+use Rattle.s3_types.specs.declared.request.Request.{Request}
+use Rattle.std.specs.Prelude.{List, None, Option, false, map, ℕ, [], ◌∷◌, ◌≡◌}
 
 -- the hands of a script's first attempts: each is its plan
 abbrev pub planned : {W : Type 0} → Script → ℕ → List (Hand W)
@@ -32,7 +40,8 @@ pub record IsFirstShared (w : Script) (s : Shared) : Type 0 where
   pub events : s.events ≡ 0
 
 -- nothing has happened of this script over a store with this content, and all events are the job's
-pub record IsBegun {W : Type 0} (wants : W → Option Request) (is_of : Setting → Actor → W → Type 0) (running : Known → W → Running) (picks_of : W → Option (List Pick)) (w : Script) (c : Content) (b : Body W) : Type 0 where
+pub record IsBegun {W : Type 0} (wants : W → Option Request) (is_of : Setting → Actor → W → Type 0) (running : Known → W → Running)
+    (picks_of : W → Option (List Pick)) (w : Script) (c : Content) (b : Body W) : Type 0 where
   pub quiet : Quiet wants is_of running picks_of b
   pub script : b.side.script ≡ w
   pub opening : b.shared.opening ≡ c

@@ -1,19 +1,39 @@
 -- What a side keeps.
-use Rattle.std.specs.Prelude.{◌≡◌, ℕ, zero, suc, ◌+◌, ◌*◌, ◌-◌, ◌<◌, ◌≤◌, ◌^◌, ◌⊎◌, not, nat_eq, Bool, true, false, cond, List, [], ◌∷◌, ◌++◌, length, slice_get, Option, Some, None, IsSome, vec_len, vec_capacity, refl}
-use Rattle.std.proofs.Common.{◌∙◌, sym, ap, subst, append-nil, append_assoc}
-use Rattle.job_steps.specs.Prelude.{AllByRecursion, Content, Scene, fate_at, AreForetold, Request, Actor, Driver, Shell, Entry, Known, Script, IsLegal, OpEnd, EventEnd, Pick, Dead, Setting, Running, actors, is_busy, is_own, of_event, ArePicked, all_picks, lacked_memory, IsOpening, Play, Reachable, scene_of, knows_now, Ahead}
-use Rattle.job_facts.specs.Prelude.{list_any}
-use Rattle.job_spec.specs.Prelude.{in_eyes}
-use Rattle.job_spec.specs.Eyes.{number_in}
-use Rattle.job_states.specs.Stands.{Stands}
-use Rattle.job_states.specs.declared.standing.Standing.{Standing}
-use Rattle.job_states.specs.Turning.{Table, KeepsLaws}
-use Rattle.job_actor.specs.Plans.{IsPlanOf}
 use Rattle.job_actor.specs.Picks.{ArePicksOf, HasPicked, is_committing}
+use Rattle.job_actor.specs.Plans.{IsPlanOf}
+use Rattle.job_model.specs.JobScript.{Script}
+use Rattle.job_model.specs.Known.{Known}
+use Rattle.job_model.specs.Legal.{IsLegal}
+use Rattle.job_model.specs.declared.ends.EventEnd.{EventEnd}
+use Rattle.job_model.specs.declared.ends.OpEnd.{OpEnd}
+use Rattle.job_model.specs.declared.ends.Pick.{Pick}
+use Rattle.job_model.specs.declared.states.Life.TheVariants.{Dead}
+use Rattle.job_protocol.specs.Operations.{Running, Setting}
 use Rattle.job_side.specs.Sending.{Asks}
-use Rattle.job_side.specs.declared.hands.Hand.{Hand}
-use Rattle.job_side.specs.declared.hands.Hand.TheVariants.{Plan, At, Empty}
 use Rattle.job_side.specs.declared.body.Body.{Body}
+use Rattle.job_side.specs.declared.hands.Hand.{Hand}
+use Rattle.job_side.specs.declared.hands.Hand.TheVariants.{At, Empty, Plan}
+use Rattle.job_spec.specs.Eyes.{in_eyes, number_in}
+use Rattle.job_spec.specs.Promise.{ArePicked, all_picks, lacked_memory}
+use Rattle.job_spec.specs.States.{actors}
+use Rattle.job_spec.specs.Turns.{is_busy, is_own, of_event}
+use Rattle.job_states.specs.Stands.{Stands}
+use Rattle.job_states.specs.Turning.{KeepsLaws, Table}
+use Rattle.job_states.specs.declared.standing.Standing.{Standing}
+use Rattle.job_steps.specs.Running.{Ahead}
+use Rattle.job_steps.specs.Transitions.{Play, Reachable, knows_now, scene_of}
+use Rattle.job_traces.specs.Runs.{IsOpening}
+use Rattle.s3_types.specs.Fates.{fate_at}
+use Rattle.s3_types.specs.Foretold.{AreForetold}
+use Rattle.s3_types.specs.Store.{Content, Scene}
+use Rattle.s3_types.specs.declared.journal.Entry.{Entry}
+use Rattle.s3_types.specs.declared.request.Actor.{Actor}
+use Rattle.s3_types.specs.declared.request.Actor.TheVariants.{Driver, Shell}
+use Rattle.s3_types.specs.declared.request.Request.{Request}
+use Rattle.std.proofs.Common.{ap, append-nil, append_assoc, subst, sym, ◌∙◌}
+use Rattle.std.specs.List.{AllByRecursion, list_any}
+use Rattle.std.specs.Prelude.{Bool, IsSome, List, None, Option, Some, cond, false, length, nat_eq, not, refl, slice_get, suc, true}
+use Rattle.std.specs.Prelude.{vec_capacity, vec_len, zero, ℕ, [], ◌*◌, ◌++◌, ◌+◌, ◌-◌, ◌<◌, ◌^◌, ◌∷◌, ◌≡◌, ◌≤◌, ◌⊎◌}
 
 -- an event of the run is the side's own, where these are the numbers of the others
 abbrev pub is_mine : List ℕ → ℕ → Bool
@@ -40,14 +60,19 @@ pub record IsLost (x : Play) (a : Actor) : Type 0 where
   pub dead : (a ≡ Driver → ⊥) → (x.live.state a).life ≡ Dead
 
 -- an actor's hand is as the play says: an attempt's plan while it is at nothing, the operation that it began last, or nothing
-abbrev pub HandIs : {W : Type 0} → (Setting → Actor → W → Type 0) → (Known → W → Running) → (W → Option (List Pick)) → Setting → Content → Play → Actor → Hand W → Type 0
-HandIs is_of running picks_of g opening x a (Plan p) = (is_busy (x.live.state a).life ≡ false) × IsPlanOf g a (knows_now g x a) p × (a ≡ Driver → ⊥)
-HandIs is_of running picks_of g opening x a (At m) = is_of g a m × ((x.running a ≡ Some (running (knows_now g x a) m)) × HasPicked g opening x (picks_of m))
+abbrev pub HandIs : {W : Type 0} → (Setting → Actor → W → Type 0) → (Known → W → Running) → (W → Option (List Pick)) → Setting → Content
+    → Play → Actor → Hand W → Type 0
+HandIs is_of running picks_of g opening x a (Plan p) = (is_busy (x.live.state a).life ≡ false) × IsPlanOf g a (knows_now g x a) p
+    × (a ≡ Driver → ⊥)
+HandIs is_of running picks_of g opening x a (At m) = is_of g a m
+    × ((x.running a ≡ Some (running (knows_now g x a) m)) × HasPicked g opening x (picks_of m))
 HandIs is_of running picks_of g opening x a Empty = IsLost x a ⊎ ((a ≡ Driver) × ((x.running Driver) ≡ None))
 
 -- every hand is, but at the places that are left out
-abbrev pub HandsAre : {W : Type 0} → (Setting → Actor → W → Type 0) → (Known → W → Running) → (W → Option (List Pick)) → (ℕ → Bool) → Setting → Content → Play → List (Hand W) → Type 0
-HandsAre is_of running picks_of sound g opening x hands = (place : ℕ) (a : Actor) (h : Hand _) → sound place ≡ true → slice_get (actors g.script) place ≡ Some a → slice_get hands place ≡ Some h → HandIs is_of running picks_of g opening x a h
+abbrev pub HandsAre : {W : Type 0} → (Setting → Actor → W → Type 0) → (Known → W → Running) → (W → Option (List Pick)) → (ℕ → Bool)
+    → Setting → Content → Play → List (Hand W) → Type 0
+HandsAre is_of running picks_of sound g opening x hands = (place : ℕ) (a : Actor) (h : Hand _) → sound place ≡ true
+    → slice_get (actors g.script) place ≡ Some a → slice_get hands place ≡ Some h → HandIs is_of running picks_of g opening x a h
 
 -- no place is left out
 abbrev pub all_sound : ℕ → Bool
@@ -57,15 +82,18 @@ all_sound place = true
 abbrev pub all_but : ℕ → ℕ → Bool
 all_but p place = not (nat_eq place p)
 
--- The picks that are put by: none while the job's commit is what the driver began last, and else the first of those that are seen, or all where it did not end for want of memory.
+-- The picks that are put by: none while the job's commit is what the driver began last, and else the first of those that are seen, or all
+-- where it did not end for want of memory.
 pub record PutBy (g : Setting) (opening : Content) (x : Play) (ps : List Pick) : Type 0 where
   pub none : is_committing (x.running Driver) ≡ true → ps ≡ []
-  pub first : is_committing (x.running Driver) ≡ false → (xs : List EventEnd) → Ahead x xs → ArePicked ps (all_picks g.script opening x.journal xs)
+  pub first : is_committing (x.running Driver) ≡ false → (xs : List EventEnd) → Ahead x xs
+      → ArePicked ps (all_picks g.script opening x.journal xs)
   pub all : is_committing (x.running Driver) ≡ false → lacked_memory x.live.commit ≡ false → ArePicksOf g opening x ps
 
 -- What holds of a side while an event goes on, and between events: all that happened was allowed, and gives what it keeps. At the
 -- places that are left out the hand may be anything.
-pub record Holds {W : Type 0} (is_of : Setting → Actor → W → Type 0) (running : Known → W → Running) (picks_of : W → Option (List Pick)) (sound : ℕ → Bool) (b : Body W) : Type 0 where
+pub record Holds {W : Type 0} (is_of : Setting → Actor → W → Type 0) (running : Known → W → Running) (picks_of : W → Option (List Pick))
+    (sound : ℕ → Bool) (b : Body W) : Type 0 where
   pub legal : IsLegal b.side.script
   pub opens : IsOpening (setting_of b) b.shared.opening
   pub play : Play
@@ -97,16 +125,19 @@ is_busy_at standings place = busy_in (slice_get standings place)
 
 -- who is busy has more to send
 abbrev pub NoneOver : {W : Type 0} → (W → Option Request) → Body W → Type 0
-NoneOver wants b = (place : ℕ) (h : Hand _) → is_busy_at b.side.states.actors place ≡ true → slice_get b.side.hands.items place ≡ Some h → Asks wants h
+NoneOver wants b = (place : ℕ) (h : Hand _) → is_busy_at b.side.states.actors place ≡ true → slice_get b.side.hands.items place ≡ Some h
+    → Asks wants h
 
 -- while an event goes on
-pub record Going {W : Type 0} (wants : W → Option Request) (is_of : Setting → Actor → W → Type 0) (running : Known → W → Running) (picks_of : W → Option (List Pick)) (b : Body W) : Type 0 where
+pub record Going {W : Type 0} (wants : W → Option Request) (is_of : Setting → Actor → W → Type 0) (running : Known → W → Running)
+    (picks_of : W → Option (List Pick)) (b : Body W) : Type 0 where
   pub holds : Holds is_of running picks_of all_sound b
   pub none_over : NoneOver wants b
   pub during : IsSome b.side.event
 
 -- between events
-pub record Quiet {W : Type 0} (wants : W → Option Request) (is_of : Setting → Actor → W → Type 0) (running : Known → W → Running) (picks_of : W → Option (List Pick)) (b : Body W) : Type 0 where
+pub record Quiet {W : Type 0} (wants : W → Option Request) (is_of : Setting → Actor → W → Type 0) (running : Known → W → Running)
+    (picks_of : W → Option (List Pick)) (b : Body W) : Type 0 where
   pub holds : Holds is_of running picks_of all_sound b
   pub none_over : NoneOver wants b
   pub idle : b.side.event ≡ None
@@ -129,7 +160,14 @@ pub record Stays {W : Type 0} (b c : Body W) : Type 0 where
   pub fates : (n : ℕ) → fate_at c.shared.store.fates n ≡ fate_at b.shared.store.fates n
 
 abbrev pub stays_on : {W : Type 0} (a b c : Body W) → Stays a b → Stays b c → Stays a c
-stays_on a b c f g = record { script = g.script ∙ f.script; others = g.others ∙ f.others; shares = g.shares ∙ f.shares; opening = g.opening ∙ f.opening; fates = λ n. g.fates n ∙ f.fates n }
+stays_on a b c f g = record {
+  script = g.script ∙ f.script;
+  others = g.others ∙ f.others;
+  shares = g.shares ∙ f.shares;
+  opening = g.opening
+      ∙ f.opening;
+  fates = λ n. g.fates n ∙ f.fates n;
+}
 
 -- what no turn changes
 pub record Same {W : Type 0} (b c : Body W) : Type 0 where
@@ -144,7 +182,14 @@ pub record Same {W : Type 0} (b c : Body W) : Type 0 where
 -- what no turn changes stays so through any turns
 abbrev pub same_laws : {W : Type 0} → KeepsLaws (Same {W = W})
 same_laws = record {
-  self = λ b. record { stays = record { script = refl; others = refl; shares = refl; opening = refl; fates = λ n. refl }; ends = refl; event = refl; events = refl; places = refl; more = ([], sym (append-nil b.shared.journal.entries), tt) };
+  self = λ b. record {
+    stays = record { script = refl; others = refl; shares = refl; opening = refl; fates = λ n. refl };
+    ends = refl;
+    event = refl;
+    events = refl;
+    places = refl;
+    more = ([], sym (append-nil b.shared.journal.entries), tt);
+  };
   chain = λ a b c f g. record {
     stays = stays_on a b c f.stays g.stays;
     ends = g.ends ∙ f.ends;
@@ -190,7 +235,8 @@ weight rise (suc place) left = (rise + 1) * (left + 1)
 -- the weights of the busy actors from a place on
 abbrev pub weights : {W : Type 0} → (W → Scene → ℕ) → ℕ → Scene → List Standing → ℕ → List (Hand W) → ℕ
 weights left rise s standings place [] = 0
-weights left rise s standings place (h ∷ hs) = cond (is_busy_at standings place) (weight rise place (hand_left left s h)) 0 + weights left rise s standings (place + 1) hs
+weights left rise s standings place (h ∷ hs) = cond (is_busy_at standings place) (weight rise place (hand_left left s h)) 0 + weights left
+    rise s standings (place + 1) hs
 
 -- what of a world matters to turns
 abbrev pub table_of : {W : Type 0} → (W → Scene → ℕ) → (Script → ℕ) → Body W → Table

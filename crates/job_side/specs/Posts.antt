@@ -1,12 +1,18 @@
 -- What one sending of a busy actor of a world leaves.
-use Rattle.std.specs.Prelude.{◌≡◌, ℕ, zero, suc, ◌+◌, ◌<◌, ◌≤◌, true, List, [], ◌∷◌, ◌++◌, length, slice_get, Option, Some}
-use Rattle.job_steps.specs.Prelude.{Scene, Actor, Entry, Known, Script, Pick, Setting, Running}
 use Rattle.job_actor.specs.declared.posting.Posted.{Posted}
-use Rattle.job_actor.specs.declared.posting.Posted.TheVariants.{Unsent, Broken, Heard}
-use Rattle.job_side.specs.Holds.{Holds, Stays, seen_by, all_sound, all_but, is_busy_at, hand_left}
+use Rattle.job_actor.specs.declared.posting.Posted.TheVariants.{Broken, Heard, Unsent}
+use Rattle.job_model.specs.JobScript.{Script}
+use Rattle.job_model.specs.Known.{Known}
+use Rattle.job_model.specs.declared.ends.Pick.{Pick}
+use Rattle.job_protocol.specs.Operations.{Running, Setting}
+use Rattle.job_side.specs.Holds.{Holds, Stays, all_but, all_sound, hand_left, is_busy_at, seen_by}
+use Rattle.job_side.specs.declared.body.Body.{Body}
 use Rattle.job_side.specs.declared.hands.Hand.{Hand}
 use Rattle.job_side.specs.declared.hands.Hand.TheVariants.{At}
-use Rattle.job_side.specs.declared.body.Body.{Body}
+use Rattle.s3_types.specs.Store.{Scene}
+use Rattle.s3_types.specs.declared.journal.Entry.{Entry}
+use Rattle.s3_types.specs.declared.request.Actor.{Actor}
+use Rattle.std.specs.Prelude.{List, Option, Some, length, slice_get, suc, true, zero, ℕ, [], ◌++◌, ◌+◌, ◌<◌, ◌∷◌, ◌≡◌, ◌≤◌}
 
 -- all is as it was but the store, the journal and the hand at a place
 pub record Around {W : Type 0} (place : ℕ) (b c : Body W) : Type 0 where
@@ -25,7 +31,13 @@ pub record Wrote {W : Type 0} (actor : Actor) (b c : Body W) : Type 0 where
   pub by : entry.actor ≡ actor
   pub number : entry.event ≡ b.shared.events + 1
   pub appended : c.shared.journal.entries ≡ b.shared.journal.entries ++ entry ∷ []
-  pub seen : seen_by c ≡ seen_by b ++ record { event = length b.side.ends.items + 1; actor = actor; request = entry.request; outcome = entry.outcome } ∷ []
+  pub seen : seen_by c ≡ seen_by b ++ record {
+    event = length b.side.ends.items + 1;
+    actor = actor;
+    request = entry.request;
+    outcome =
+        entry.outcome;
+  } ∷ []
 
 -- by how much another actor's request may raise what the actor at a place has left; the driver's alone rises
 abbrev pub raised : ℕ → ℕ → ℕ
@@ -34,18 +46,24 @@ raised rise (suc place) = 0
 
 -- in this scene the busy actors beside the one at a place have no more left than that
 abbrev pub RaisedBy : {W : Type 0} → (W → Scene → ℕ) → (Script → ℕ) → ℕ → Body W → Scene → Type 0
-RaisedBy left rise place b s = (q : ℕ) (h : Hand _) → (q ≡ place → ⊥) → is_busy_at b.side.states.actors q ≡ true → slice_get b.side.hands.items q ≡ Some h → hand_left left s h ≤ hand_left left b.shared.store.scene h + raised (rise b.side.script) q
+RaisedBy left rise place b s = (q : ℕ) (h : Hand _) → (q ≡ place → ⊥) → is_busy_at b.side.states.actors q ≡ true
+    → slice_get b.side.hands.items q ≡ Some h → hand_left left s h ≤ hand_left left b.shared.store.scene h + raised (rise b.side.script) q
 
 -- the actor at a place has less left
 abbrev pub FellAt : {W : Type 0} → (W → Scene → ℕ) → ℕ → Body W → Body W → Type 0
-FellAt left place b c = (h k : Hand _) → slice_get b.side.hands.items place ≡ Some h → slice_get c.side.hands.items place ≡ Some k → hand_left left c.shared.store.scene k < hand_left left b.shared.store.scene h
+FellAt left place b c = (h k : Hand _) → slice_get b.side.hands.items place ≡ Some h → slice_get c.side.hands.items place ≡ Some k
+    → hand_left left c.shared.store.scene k < hand_left left b.shared.store.scene h
 
 -- the hand is at an operation
 abbrev pub IsWorking : {W : Type 0} → ℕ → Body W → Type 0
 IsWorking place b = (m : _) × (slice_get b.side.hands.items place ≡ Some (At m))
 
 -- what one turn of the actor at a place leaves, by how it went
-abbrev pub PostedAt : {W : Type 0} → (W → Scene → ℕ) → (Setting → Actor → W → Type 0) → (Known → W → Running) → (Script → ℕ) → (W → Option (List Pick)) → ℕ → Actor → Body W → Body W → Posted → Type 0
-PostedAt left is_of running rise picks_of place actor b c Unsent = Holds is_of running picks_of (all_but place) c × (c.shared.journal.entries ≡ b.shared.journal.entries) × (c.shared.store.scene ≡ b.shared.store.scene)
-PostedAt left is_of running rise picks_of place actor b c Broken = Holds is_of running picks_of (all_but place) c × Wrote actor b c × RaisedBy left rise place b c.shared.store.scene
-PostedAt left is_of running rise picks_of place actor b c Heard = Holds is_of running picks_of all_sound c × Wrote actor b c × RaisedBy left rise place b c.shared.store.scene × FellAt left place b c × IsWorking place c
+abbrev pub PostedAt : {W : Type 0} → (W → Scene → ℕ) → (Setting → Actor → W → Type 0) → (Known → W → Running) → (Script → ℕ)
+    → (W → Option (List Pick)) → ℕ → Actor → Body W → Body W → Posted → Type 0
+PostedAt left is_of running rise picks_of place actor b c Unsent = Holds is_of running picks_of (all_but place) c
+    × (c.shared.journal.entries ≡ b.shared.journal.entries) × (c.shared.store.scene ≡ b.shared.store.scene)
+PostedAt left is_of running rise picks_of place actor b c Broken = Holds is_of running picks_of (all_but place) c × Wrote actor b c
+    × RaisedBy left rise place b c.shared.store.scene
+PostedAt left is_of running rise picks_of place actor b c Heard = Holds is_of running picks_of all_sound c × Wrote actor b c
+    × RaisedBy left rise place b c.shared.store.scene × FellAt left place b c × IsWorking place c

@@ -1,11 +1,17 @@
 -- What a driver is told of its tasks as it begins an operation.
-use Rattle.std.specs.Prelude.{◌≡◌, ℕ, Bool, true, List, map, take, length, Option, Some, is_some}
-use Rattle.job_steps.specs.Prelude.{Actor, Who, actor_of, Known, Op, Script, Past, Reports, reports, start_of}
-use Rattle.job_states.specs.Stands.{Kept, Stands}
 use Rattle.job_actor.specs.Reports.{IsReport, report_dirs}
 use Rattle.job_actor.specs.declared.reported.Reported.{Reported}
+use Rattle.job_model.specs.Attempts.{Who, actor_of}
+use Rattle.job_model.specs.JobScript.{Script}
+use Rattle.job_model.specs.Known.{Known}
+use Rattle.job_model.specs.declared.events.Op.{Op}
+use Rattle.job_protocol.specs.Operations.{Reports, start_of}
 use Rattle.job_side.specs.Holds.{setting_of}
 use Rattle.job_side.specs.declared.body.Body.{Body}
+use Rattle.job_spec.specs.States.{Past, reports}
+use Rattle.job_states.specs.Stands.{Kept, Stands}
+use Rattle.s3_types.specs.declared.request.Actor.{Actor}
+use Rattle.std.specs.Prelude.{Bool, List, Option, Some, is_some, length, map, take, true, ℕ, ◌≡◌}
 
 -- which of the first n attempts have reported
 abbrev pub flags_to : Script → Past → ℕ → List Bool
@@ -27,7 +33,8 @@ pub record ArePartitions (shares : Bool) (w : Script) (s : Kept) (x : Option (Li
 pub record IsTold {W : Type 0} (b : Body W) (a : Actor) (op : Op) (x : Reported) : Type 0 where
   pub tells : Reports
   pub is : IsReport (setting_of b) a op x tells
-  pub same : (p : Past) (k : Known) → Stands b.side.script b.side.states p → start_of (setting_of b) a op tells k ≡ start_of (setting_of b) a op (reports b.side.script p.reported) k
+  pub same : (p : Past) (k : Known) → Stands b.side.script b.side.states p
+      → start_of (setting_of b) a op tells k ≡ start_of (setting_of b) a op (reports b.side.script p.reported) k
 
 -- nothing is told but whether the destination is shared
 pub record IsUntold {W : Type 0} (b : Body W) (x : Reported) : Type 0 where

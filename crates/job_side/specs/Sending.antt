@@ -1,10 +1,14 @@
 -- One sending of what an actor of a world has in hand.
-use Rattle.std.specs.Prelude.{ℕ, Option, Some, None, IsSome}
-use Rattle.job_steps.specs.Prelude.{Scene, Request, Actor, Outcome, OpEnd}
-use Rattle.job_actor.specs.Posting.{Sight, PostedBy, DueFits}
+use Rattle.job_actor.specs.Posting.{DueFits, PostedBy, Sight}
 use Rattle.job_actor.specs.declared.posting.Posted.{Posted}
+use Rattle.job_model.specs.declared.ends.OpEnd.{OpEnd}
 use Rattle.job_side.specs.declared.hands.Hand.{Hand}
 use Rattle.job_side.specs.declared.hands.Hand.TheVariants.{At}
+use Rattle.s3_types.specs.Store.{Scene}
+use Rattle.s3_types.specs.declared.journal.Outcome.{Outcome}
+use Rattle.s3_types.specs.declared.request.Actor.{Actor}
+use Rattle.s3_types.specs.declared.request.Request.{Request}
+use Rattle.std.specs.Prelude.{IsSome, None, Option, Some, ℕ}
 
 -- the hand is at an operation that asks a request
 abbrev pub Asks : {W : Type 0} → (W → Option Request) → Hand W → Type 0
@@ -17,7 +21,8 @@ HandDue wants fits (At m) s = DueFits wants fits m s
 HandDue wants fits _ s = ⊥
 
 -- it was sent, or not, by what was in hand
-abbrev pub HandPosted : {W : Type 0} → (W → Option Request) → (W → Outcome → W) → (W → Option OpEnd) → Actor → ℕ → Hand W → Hand W → Sight → Sight → Posted → Type 0
+abbrev pub HandPosted : {W : Type 0} → (W → Option Request) → (W → Outcome → W) → (W → Option OpEnd) → Actor → ℕ → Hand W → Hand W → Sight
+    → Sight → Posted → Type 0
 HandPosted wants tells end_of actor event (At m) (At n) c d posted = PostedBy wants tells end_of actor event m n c d posted
 HandPosted wants tells end_of actor event _ _ c d posted = ⊥
 

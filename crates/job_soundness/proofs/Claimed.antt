@@ -1,30 +1,34 @@
 -- What a script's claim says of its files is what the job's picks want, and what the conflict mode keeps.
-use Rattle.std.proofs.Common.{◌≡◌, ℕ, zero, suc, ◌<◌, ◌==◌, ◌&&◌, ◌||◌, nat_eq, Bool, true, false, cond, List, [], ◌∷◌, ◌++◌, map, Option}
-use Rattle.std.proofs.Common.{Some, None, refl, sym, ap, subst, ◌∙◌, arith, inl, inr}
-use Rattle.std.specs.Prelude.{is_some}
-use Rattle.std.specs.List.{AllZip, Contains, list_any, list_all, starts_with}
-use Rattle.std.specs.Str.{bytes_eq}
-use Rattle.std.specs.Option.{unwrap_or}
-use Rattle.std.proofs.Math.Bool.{or-true}
-use Rattle.std.proofs.lemmas.Bool.Decides.{nat_tests}
-use Rattle.s3_types.proofs.Begins.{begins_is}
-use Rattle.s3_types.specs.Prelude.{begins, filter, option_map, text_eq}
-use Rattle.s3_types.specs.declared.request.Committer.{Committer}
-use Rattle.s3_types.specs.declared.request.Mode.{Mode}
-use Rattle.job_spec.proofs.Common.{and_parts, false_true, in_append, in_back, in_front, in_map, map_in, none_or_some, none_some}
-use Rattle.job_spec.proofs.Common.{same_or_not, some_is, text_is, true_or_false}
-use Rattle.job_model.specs.Prelude.{File, Script, lookup, same_name}
-use Rattle.job_model.specs.Attempts.{Declared, declares}
+use Rattle.basics.proofs.Members.{false_true, in_append, in_back, in_front, in_map, map_in, none_or_some, none_some, same_or_not, some_is}
+use Rattle.basics.proofs.Members.{text_is, true_or_false}
+use Rattle.basics.specs.Members.{IsIn}
+use Rattle.basics.specs.Order.{text_eq}
+use Rattle.conflict.proofs.Rising.{from_ordered, in_ordered}
+use Rattle.job_facts.proofs.Wanted.{in_wanted, wanted_in}
+use Rattle.job_model.specs.Attempts.{Declared, declares, same_name}
+use Rattle.job_model.specs.Files.{File}
+use Rattle.job_model.specs.JobScript.{Script}
 use Rattle.job_model.specs.Placed.{placed}
 use Rattle.job_protocol.specs.Conflicts.{dir_from, dir_of, dirs_of, displaced as displaced_by, is_below_any, keeps_of, partitions, stays}
 use Rattle.job_protocol.specs.Conflicts.{with_dir}
 use Rattle.job_protocol.specs.Outputs.{Picks, files_picked, is_picked, picked_below, wanted, wanted_at, wanted_below, wanted_paths}
-use Rattle.job_facts.specs.Prelude.{IsIn}
-use Rattle.job_facts.proofs.Wanted.{in_wanted, wanted_in}
-use Rattle.conflict.proofs.Rising.{from_ordered, in_ordered}
+use Rattle.job_soundness.specs.Claim.{attempts_of, chosen_below, claim_of, keeps_by, tasks_below}
+use Rattle.s3_types.proofs.Begins.{begins_is}
+use Rattle.s3_types.specs.Pages.{begins}
+use Rattle.s3_types.specs.declared.request.Committer.{Committer}
+use Rattle.s3_types.specs.declared.request.Mode.{Mode}
 use Rattle.soundness.specs.Claims.{Attempts, Chooses, Files, always_reaches, chosen_at, directory, file_at, is_below, is_kept, is_replaced}
 use Rattle.soundness.specs.Claims.{kept_by, or_else, reaches, replaced_by, with_byte, writes_into}
-use Rattle.job_soundness.specs.Claim.{attempts_of, chosen_below, claim_of, keeps_by, tasks_below}
+use Rattle.std.proofs.Common.{Bool, List, None, Option, Some, ap, arith, cond, false, inl, inr, map, nat_eq, refl, subst, suc, sym, true}
+use Rattle.std.proofs.Common.{zero, ℕ, [], ◌&&◌, ◌++◌, ◌<◌, ◌==◌, ◌||◌, ◌∙◌, ◌∷◌, ◌≡◌}
+use Rattle.std.proofs.Math.Bool.{or-true}
+use Rattle.std.proofs.lemmas.Bool.{and_parts}
+use Rattle.std.proofs.lemmas.Bool.Decides.{nat_tests}
+use Rattle.std.specs.List.{AllZip, Contains, filter, list_all, list_any, starts_with}
+use Rattle.std.specs.Map.{lookup}
+use Rattle.std.specs.Option.{option_map, unwrap_or}
+use Rattle.std.specs.Prelude.{is_some}
+use Rattle.std.specs.Str.{bytes_eq}
 
 -- ---- what the chosen attempts write
 

@@ -1,17 +1,30 @@
 -- Each attempt that the job's commit has chosen is one that the script declares.
-use Rattle.std.proofs.Common.{◌≡◌, ◌⊎◌, ℕ, true, List, [], ◌∷◌, ◌++◌, length, Some, refl, sym, ap, subst, ◌∙◌, arith, inl, inr}
-use Rattle.std.proofs.lemmas.Bool.Decides.{nat_tests}
-use Rattle.job_spec.proofs.Common.{false_true, in_append, none_some}
-use Rattle.job_spec.specs.Prelude.{Past, dead, end_op, ended, idle, is_busy, is_own, open_event, put, restarted}
+use Rattle.basics.proofs.Members.{false_true, in_append, none_some}
+use Rattle.basics.specs.Members.{IsIn}
+use Rattle.job_facts.specs.Told.{strange_entry}
 use Rattle.job_model.specs.Attempts.{Declared, declares, is_known}
-use Rattle.job_steps.specs.Prelude.{Actor, ActorEnd, ActorState, Attempt, Closes, Content, Do, Driver, Enabled, Entry, Event, Finishes}
-use Rattle.job_steps.specs.Prelude.{IsEvent, IsIn, IsLegal, Kill, Opens, Play, Reachable, Refuses, Restart, Script, Seen, Sends, Setting}
-use Rattle.job_steps.specs.Prelude.{Start, Strays, Times, Transition, happen, happens, nothing_happened, nothing_seen, see, see_all}
-use Rattle.job_steps.specs.Prelude.{strange_entry}
+use Rattle.job_model.specs.JobScript.{Script}
+use Rattle.job_model.specs.Legal.{IsEvent, IsLegal}
+use Rattle.job_model.specs.declared.ends.ActorEnd.{ActorEnd}
+use Rattle.job_model.specs.declared.events.Event.{Event}
+use Rattle.job_model.specs.declared.events.Event.TheVariants.{Do, Kill, Restart, Start}
+use Rattle.job_model.specs.declared.states.ActorState.{ActorState}
+use Rattle.job_protocol.specs.Operations.{Setting}
+use Rattle.job_protocol.specs.Seen.{Seen, Times, nothing_seen, see, see_all}
+use Rattle.job_soundness.proofs.Claimed.{AreDeclared}
+use Rattle.job_spec.specs.States.{Past, dead, end_op, ended, idle, open_event, put, restarted}
+use Rattle.job_spec.specs.Turns.{is_busy, is_own}
 use Rattle.job_steps.proofs.Actors.{one_put}
 use Rattle.job_steps.proofs.PastMore.{busy_so, ended_idle, event_at}
 use Rattle.job_steps.proofs.Told.{told_all}
-use Rattle.job_soundness.proofs.Claimed.{AreDeclared}
+use Rattle.job_steps.specs.Transitions.{Closes, Enabled, Finishes, Opens, Play, Reachable, Refuses, Sends, Strays, Transition, happen}
+use Rattle.job_steps.specs.Transitions.{happens, nothing_happened}
+use Rattle.s3_types.specs.Store.{Content}
+use Rattle.s3_types.specs.declared.journal.Entry.{Entry}
+use Rattle.s3_types.specs.declared.request.Actor.{Actor}
+use Rattle.s3_types.specs.declared.request.Actor.TheVariants.{Attempt, Driver}
+use Rattle.std.proofs.Common.{List, Some, ap, arith, inl, inr, length, refl, subst, sym, true, ℕ, [], ◌++◌, ◌∙◌, ◌∷◌, ◌≡◌, ◌⊎◌}
+use Rattle.std.proofs.lemmas.Bool.Decides.{nat_tests}
 
 -- ---- who is busy is of the job
 

@@ -1,25 +1,5 @@
 -- Once the job's commit has begun, no success marker exists but one that the job has put: its set-up has deleted the old one.
-use Rattle.std.proofs.Common.{◌≡◌, ℕ, true, false, List, ◌∷◌, length, take, Option, Some, None, refl, sym, ap, subst, ◌∙◌, arith, inl, inr}
-use Rattle.std.specs.FinMap as fin
-use Rattle.job_spec.proofs.Common.{false_true, key_magic, none_some, same_or_other, some_is, text_gone, text_true, true_or_false}
-use Rattle.job_spec.specs.Prelude.{AreOwn}
-use Rattle.job_protocol.proofs.Begun.{after_check_so, clean_of_so, commit_of_so}
-use Rattle.job_protocol.proofs.Faults.{if_bucket_so}
-use Rattle.job_protocol.specs.Rechecks.{check_after}
-use Rattle.job_protocol.specs.Setup.{Checking, Clearing, Heading, Setup, SetupOver, Sweeping, checked, cleared, dest_prefix, headed}
-use Rattle.job_protocol.specs.Setup.{setup_after, setup_asks, setup_hears, sweeping}
-use Rattle.job_model.specs.declared.ends.SetupEnd.TheVariants as setups
-use Rattle.list_walk.specs.Walks.{Deleting, Listing, Sweep, all_go, page_after, sweep_asks, sweep_hears}
-use Rattle.magic_paths.specs.Layout.{magic_prefix, success_key}
-use Rattle.magic_paths.specs.Places.{SuccessPlace}
-use Rattle.job_facts.specs.Prelude.{Answered, Commit, CommitOver, Commits, Committer, Completing, Content, DeleteObject, Driver, Entry}
-use Rattle.job_facts.specs.Prelude.{Fetching, HasBucket, HeadObject, IsHonestOutcome, IsLegal, Marking, Operation, Outcome, Pending}
-use Rattle.job_facts.specs.Prelude.{Replacing, Reply, ReplyLost, Request, Retried, Reverting, Scene, Script, Seen, SetsUp, Setting}
-use Rattle.job_facts.specs.Prelude.{TheCheck, TheClean, TheCommit, TheSetup, TheSparing, Times, Told, abort, all_commits, answer, apply}
-use Rattle.job_facts.specs.Prelude.{asks, at_key, commit_asks, completion, deletion, driver_entry, effect, entry, is_effective, is_marking}
-use Rattle.job_facts.specs.Prelude.{nth, only_reads, see, seen, set_request, step, tells, with_objects, who}
-use Rattle.job_facts.specs.Driver.{FitsSweep}
-use Rattle.job_facts.specs.Filed.{IsCommit}
+use Rattle.basics.proofs.Members.{false_true, none_some, same_or_other, some_is, text_gone, text_true, true_or_false}
 use Rattle.job_facts.proofs.Aborting.{taken_in}
 use Rattle.job_facts.proofs.Cleaning.{clean_hides}
 use Rattle.job_facts.proofs.Effects.{abort_keys, deletion_key, deletion_other, other_key}
@@ -32,8 +12,25 @@ use Rattle.job_facts.proofs.SettingUp.{no_success}
 use Rattle.job_facts.proofs.Shapes.{key_after, store_is}
 use Rattle.job_facts.proofs.Sharing.{check_reads, reads_leave, sparing_hides}
 use Rattle.job_facts.proofs.Shows.{HidesAll}
-use Rattle.job_traces.specs.Runs.{BeginClean, BeginCommit, BeginSetup, Beginning, IsOpening, MayBegin, Runs, Stand, begin, is_just_set}
-use Rattle.job_traces.specs.Runs.{is_set, nothing_learnt}
+use Rattle.job_facts.specs.Driver.{FitsSweep}
+use Rattle.job_facts.specs.Emptying.{SetsUp}
+use Rattle.job_facts.specs.Filed.{IsCommit}
+use Rattle.job_facts.specs.FiledLaws.{Commits}
+use Rattle.job_facts.specs.Stores.{at_key}
+use Rattle.job_facts.specs.Told.{Told, driver_entry, entry}
+use Rattle.job_model.specs.JobScript.{Script}
+use Rattle.job_model.specs.Legal.{IsLegal}
+use Rattle.job_protocol.proofs.Begun.{after_check_so, clean_of_so, commit_of_so}
+use Rattle.job_protocol.proofs.Faults.{if_bucket_so}
+use Rattle.job_protocol.specs.JobCommits.{Commit, CommitOver, Completing, Fetching, Marking, Replacing, Reverting, all_commits, commit_asks}
+use Rattle.job_protocol.specs.JobCommits.{set_request}
+use Rattle.job_protocol.specs.Lanes.{abort, completion, deletion, nth}
+use Rattle.job_protocol.specs.Operations.{Operation, Setting, TheCheck, TheClean, TheCommit, TheSetup, TheSparing, asks, tells, who}
+use Rattle.job_protocol.specs.Rechecks.{check_after}
+use Rattle.job_protocol.specs.Seen.{Seen, Times, is_marking, see, seen}
+use Rattle.job_protocol.specs.Setup.{Checking, Clearing, Heading, Setup, SetupOver, Sweeping, checked, cleared, dest_prefix, headed}
+use Rattle.job_protocol.specs.Setup.{setup_after, setup_asks, setup_hears, sweeping}
+use Rattle.job_spec.specs.Entries.{AreOwn}
 use Rattle.job_traces.proofs.Entries.{front, in_commit, late_now, own_taken, sees}
 use Rattle.job_traces.proofs.EveryRun.{good, own_front, own_last, shown}
 use Rattle.job_traces.proofs.Folds.{each_run}
@@ -42,7 +39,31 @@ use Rattle.job_traces.proofs.Plain.{one_scene}
 use Rattle.job_traces.proofs.Replacing.{taken_after}
 use Rattle.job_traces.proofs.Running.{At, CommitShows, Shows}
 use Rattle.job_traces.proofs.Steps.{hidden_same}
+use Rattle.job_traces.specs.Runs.{BeginClean, BeginCommit, BeginSetup, Beginning, IsOpening, MayBegin, Runs, Stand, begin, is_just_set}
+use Rattle.job_traces.specs.Runs.{is_set, nothing_learnt}
+use Rattle.list_walk.specs.Walks.{Deleting, Listing, Sweep, all_go, page_after, sweep_asks, sweep_hears}
+use Rattle.magic_paths.proofs.Tails.{key_magic}
+use Rattle.magic_paths.specs.Layout.{magic_prefix, success_key}
+use Rattle.magic_paths.specs.Places.{SuccessPlace}
+use Rattle.pending_json.specs.Pending.{Pending}
+use Rattle.retries.specs.Retries.{Retried, step}
+use Rattle.s3_types.specs.Answer.{answer, apply, with_objects}
+use Rattle.s3_types.specs.Moment.{IsHonestOutcome, effect, is_effective}
+use Rattle.s3_types.specs.Requests.{only_reads}
+use Rattle.s3_types.specs.Store.{Content, Scene}
+use Rattle.s3_types.specs.declared.journal.Entry.{Entry}
+use Rattle.s3_types.specs.declared.journal.Outcome.{Outcome}
+use Rattle.s3_types.specs.declared.journal.Outcome.TheVariants.{Answered, ReplyLost}
+use Rattle.s3_types.specs.declared.reply.Reply.{Reply}
+use Rattle.s3_types.specs.declared.request.Actor.TheVariants.{Driver}
+use Rattle.s3_types.specs.declared.request.Committer.{Committer}
+use Rattle.s3_types.specs.declared.request.Request.{Request}
+use Rattle.s3_types.specs.declared.request.Request.TheVariants.{DeleteObject, HeadObject}
+use Rattle.std.proofs.Common.{List, None, Option, Some, ap, arith, false, inl, inr, length, refl, subst, sym, take, true, ℕ, ◌∙◌, ◌∷◌, ◌≡◌}
+use Rattle.store_frame.specs.Held.{HasBucket}
 use Rattle.twin_facts.proofs.OneSide.{mark_puts, mark_stays}
+use Rattle.std.specs.FinMap as fin
+use Rattle.job_model.specs.declared.ends.SetupEnd.TheVariants as setups
 
 module _ (w : Script) where
   -- no success marker exists

@@ -1,35 +1,43 @@
 -- Every run of a job is sound for readers.
-use Rattle.std.proofs.Common.{◌≡◌, ℕ, zero, suc, ◌≤◌, ◌&&◌, not, Bool, true, false, cond, List, [], length, Option, Some, None, refl, sym}
-use Rattle.std.proofs.Common.{ap, subst, ◌∙◌, arith, inl, inr}
-use Rattle.std.specs.Prelude.{is_some}
-use Rattle.std.specs.List.{All}
-use Rattle.std.proofs.lemmas.List.Elements.{All-push}
-use Rattle.job_spec.proofs.Common.{and_parts, false_true, none_some, true_or_false}
-use Rattle.job_spec.specs.Headline.{or_else}
-use Rattle.job_spec.specs.Prelude.{AreOwn, Kept, Whole as WholeJob, times}
-use Rattle.job_steps.specs.Prelude.{Content, Entry, IsLegal, IsOpening, Play, Reachable, Script, Seen, Setting, Times, nothing_seen}
-use Rattle.job_steps.specs.Prelude.{see_all, seen}
-use Rattle.job_steps.specs.Running.{IsRun}
-use Rattle.job_steps.proofs.Running.{is_run}
-use Rattle.job_safety.proofs.Ending.{ahead_none}
-use Rattle.job_protocol.specs.Outputs.{Picks, is_clash, is_decided, is_picked, wanted_at}
-use Rattle.job_protocol.specs.View.{object_at, view}
-use Rattle.job_protocol.specs.Conflicts.{keeps_of}
-use Rattle.job_facts.specs.Prelude.{at_key}
+use Rattle.basics.proofs.Members.{false_true, none_some, true_or_false}
 use Rattle.job_facts.proofs.Wanted.{wanted_of}
-use Rattle.magic_paths.specs.Layout.{success_key}
-use Rattle.job_traces.proofs.Entries.{always, sees, take_all}
-use Rattle.soundness.specs.Paths.{is_visible}
-use Rattle.soundness.specs.Claims.{is_kept, is_replaced}
-use Rattle.soundness.specs.Moments.{Explains, Fits, MayShow, Moment, Shown, Sound, Unchanged, Whole}
-use Rattle.soundness.specs.declared.marker.Marker.TheVariants as markers
-use Rattle.job_soundness.specs.Claim.{chosen_below, claim_of, marker_of, moment_of, moments_to, shown}
-use Rattle.job_soundness.specs.Safe.{PicksExplain, RunsAreSafe, picks_at_end}
+use Rattle.job_facts.specs.Stores.{at_key}
+use Rattle.job_model.specs.JobScript.{Script}
+use Rattle.job_model.specs.Legal.{IsLegal}
+use Rattle.job_protocol.specs.Conflicts.{keeps_of}
+use Rattle.job_protocol.specs.Operations.{Setting}
+use Rattle.job_protocol.specs.Outputs.{Picks, is_clash, is_decided, is_picked, wanted_at}
+use Rattle.job_protocol.specs.Seen.{Seen, Times, nothing_seen, see_all, seen}
+use Rattle.job_protocol.specs.View.{object_at, view}
+use Rattle.job_safety.proofs.Ending.{ahead_none}
 use Rattle.job_soundness.proofs.Claimed.{AreDeclared, chooses, chosen_wanted, kept_is, replaced_is}
 use Rattle.job_soundness.proofs.Declared.{declared}
 use Rattle.job_soundness.proofs.Marked.{no_old}
 use Rattle.job_soundness.proofs.Steady.{settled}
 use Rattle.job_soundness.proofs.Visible.{file_visible, shown_is}
+use Rattle.job_soundness.specs.Claim.{chosen_below, claim_of, marker_of, moment_of, moments_to, shown}
+use Rattle.job_soundness.specs.Safe.{PicksExplain, RunsAreSafe, picks_at_end}
+use Rattle.job_spec.specs.Entries.{AreOwn}
+use Rattle.job_spec.specs.Headline.{Kept, Whole as WholeJob, or_else}
+use Rattle.job_spec.specs.States.{times}
+use Rattle.job_steps.proofs.Running.{is_run}
+use Rattle.job_steps.specs.Running.{IsRun}
+use Rattle.job_steps.specs.Transitions.{Play, Reachable}
+use Rattle.job_traces.proofs.Entries.{always, sees, take_all}
+use Rattle.job_traces.specs.Runs.{IsOpening}
+use Rattle.magic_paths.specs.Layout.{success_key}
+use Rattle.s3_types.specs.Store.{Content}
+use Rattle.s3_types.specs.declared.journal.Entry.{Entry}
+use Rattle.soundness.specs.Claims.{is_kept, is_replaced}
+use Rattle.soundness.specs.Moments.{Explains, Fits, MayShow, Moment, Shown, Sound, Unchanged, Whole}
+use Rattle.soundness.specs.Paths.{is_visible}
+use Rattle.std.proofs.Common.{Bool, List, None, Option, Some, ap, arith, cond, false, inl, inr, length, not, refl, subst, suc, sym, true}
+use Rattle.std.proofs.Common.{zero, ℕ, [], ◌&&◌, ◌∙◌, ◌≡◌, ◌≤◌}
+use Rattle.std.proofs.lemmas.Bool.{and_parts}
+use Rattle.std.proofs.lemmas.List.Elements.{All-push}
+use Rattle.std.specs.List.{All}
+use Rattle.std.specs.Prelude.{is_some}
+use Rattle.soundness.specs.declared.marker.Marker.TheVariants as markers
 
 -- what holds of each moment holds of the moments
 each_moment : (w : Script) (k : Times) (opening : Content) (es : List Entry) (P : Moment (List ℕ) → Type 0) (n : ℕ) → ((m : ℕ) → m ≤ n

@@ -1,22 +1,34 @@
 -- Once the job's commit has chosen an attempt of each task, and no two of them write one path, its choice does not change.
-use Rattle.std.proofs.Common.{◌≡◌, ◌⊎◌, ℕ, ◌+◌, ◌≤◌, ◌&&◌, ◌||◌, not, true, false, List, [], ◌∷◌, ◌++◌, length, take, Some, refl, sym, ap}
-use Rattle.std.proofs.Common.{subst, ◌∙◌, arith, inl, inr, length-append}
-use Rattle.std.proofs.Math.Bool.{and-false}
-use Rattle.std.proofs.lemmas.List.{take-append-le}
-use Rattle.job_spec.proofs.Common.{cases_lt, false_true, none_some}
-use Rattle.job_facts.specs.Prelude.{Commit, Content, Driver, Entry, Fetching, IsLegal, Operation, Outcome, Request, Retried, Script, Seen}
-use Rattle.job_facts.specs.Prelude.{Setting, Setup, TheCheck, TheClean, TheCommit, TheSetup, TheSparing, Times, Who, asks, commit_asks}
-use Rattle.job_facts.specs.Prelude.{driver_entry, entry, is_begun, is_decided, is_picking, is_reading, known, nothing_seen, see, see_all}
-use Rattle.job_facts.specs.Prelude.{seen, strange_entry, who}
+use Rattle.basics.proofs.Members.{false_true, none_some}
 use Rattle.job_facts.proofs.Owning.{operation_own}
 use Rattle.job_facts.proofs.Sharing.{check_plain}
-use Rattle.job_traces.specs.Runs.{IsOpening, IsTimely, Runs, Stand, attempt_sends, driver_sends, is_set, nothing_learnt, strays}
+use Rattle.job_facts.specs.Told.{driver_entry, entry, known, strange_entry}
+use Rattle.job_model.specs.Attempts.{Who}
+use Rattle.job_model.specs.JobScript.{Script}
+use Rattle.job_model.specs.Legal.{IsLegal}
+use Rattle.job_protocol.specs.JobCommits.{Commit, Fetching, commit_asks}
+use Rattle.job_protocol.specs.Operations.{Operation, Setting, TheCheck, TheClean, TheCommit, TheSetup, TheSparing, asks, who}
+use Rattle.job_protocol.specs.Outputs.{is_decided}
+use Rattle.job_protocol.specs.Seen.{Seen, Times, is_begun, is_picking, is_reading, nothing_seen, see, see_all, seen}
+use Rattle.job_protocol.specs.Setup.{Setup}
 use Rattle.job_traces.proofs.Entries.{late_now, sees, take_all}
 use Rattle.job_traces.proofs.EveryRun.{good}
 use Rattle.job_traces.proofs.Folds.{each_run}
 use Rattle.job_traces.proofs.Keeping.{attempt_quiet}
 use Rattle.job_traces.proofs.Plain.{clean_plain, commit_unread, setup_plain}
 use Rattle.job_traces.proofs.Running.{At, Early, Late}
+use Rattle.job_traces.specs.Runs.{IsOpening, IsTimely, Runs, Stand, attempt_sends, driver_sends, is_set, nothing_learnt, strays}
+use Rattle.retries.specs.Retries.{Retried}
+use Rattle.s3_types.specs.Store.{Content}
+use Rattle.s3_types.specs.declared.journal.Entry.{Entry}
+use Rattle.s3_types.specs.declared.journal.Outcome.{Outcome}
+use Rattle.s3_types.specs.declared.request.Actor.TheVariants.{Driver}
+use Rattle.s3_types.specs.declared.request.Request.{Request}
+use Rattle.std.proofs.Common.{List, Some, ap, arith, false, inl, inr, length, length-append, not, refl, subst, sym, take, true, ℕ, [], ◌&&◌}
+use Rattle.std.proofs.Common.{◌++◌, ◌+◌, ◌||◌, ◌∙◌, ◌∷◌, ◌≡◌, ◌≤◌, ◌⊎◌}
+use Rattle.std.proofs.Math.Bool.{and-false}
+use Rattle.std.proofs.lemmas.Bool.{cases_lt}
+use Rattle.std.proofs.lemmas.List.{take-append-le}
 use Rattle.twin_facts.proofs.OneSide.{picks_still, unread_picks}
 use Rattle.twin_facts.proofs.Progress.{Committing, committing, undecided}
 

@@ -1,20 +1,27 @@
 -- Readers see what `view` shows at visible paths, and a job's files are at such paths.
-use Rattle.std.proofs.Common.{◌≡◌, ℕ, ◌==◌, ◌&&◌, ◌||◌, not, nat_eq, Bool, true, false, cond, List, [], ◌∷◌, ◌++◌, None, refl, sym, ap, ◌∙◌}
-use Rattle.std.proofs.Common.{arith, inl, inr, if◌then◌else◌}
-use Rattle.std.proofs.lemmas.Bool.Decides.{nat_tests}
-use Rattle.std.proofs.lemmas.Bool.{false≢true}
+use Rattle.basics.proofs.Members.{false_true, true_or_false}
+use Rattle.basics.specs.Members.{IsIn}
 use Rattle.basics.specs.Parts.{parts_from, parts_of}
-use Rattle.job_spec.proofs.Common.{and_parts, not-true, or_parts, true_or_false, false_true}
-use Rattle.job_model.specs.Prelude.{list_any, begins_hidden, is_hidden, with_id, with_id_last, path_of, File, Script, IsLegal, IsGiven}
-use Rattle.job_model.specs.Prelude.{Path, Content}
-use Rattle.job_protocol.specs.Outputs.{files}
-use Rattle.job_protocol.specs.View.{is_folder, is_file_path, view}
-use Rattle.job_model.proofs.Unique.{id_bytes, unique_parts}
-use Rattle.job_facts.specs.Prelude.{IsIn, Who}
 use Rattle.job_facts.proofs.FilePaths.{file_path}
 use Rattle.job_facts.proofs.Legal.{from_script, given_of}
-use Rattle.soundness.specs.Paths.{hides, is_visible, is_visible_from}
+use Rattle.job_model.proofs.Unique.{id_bytes, unique_parts}
+use Rattle.job_model.specs.Attempts.{Who}
+use Rattle.job_model.specs.Files.{File}
+use Rattle.job_model.specs.JobScript.{Script}
+use Rattle.job_model.specs.Legal.{IsGiven, IsLegal}
+use Rattle.job_model.specs.Paths.{begins_hidden, is_hidden}
+use Rattle.job_model.specs.Placed.{path_of, with_id, with_id_last}
+use Rattle.job_protocol.specs.Outputs.{files}
+use Rattle.job_protocol.specs.View.{is_file_path, is_folder, view}
 use Rattle.job_soundness.specs.Claim.{shown}
+use Rattle.path_keys.specs.Paths.{Path}
+use Rattle.s3_types.specs.Store.{Content}
+use Rattle.soundness.specs.Paths.{hides, is_visible, is_visible_from}
+use Rattle.std.proofs.Common.{Bool, List, None, ap, arith, cond, false, if◌then◌else◌, inl, inr, nat_eq, not, refl, sym, true, ℕ, [], ◌&&◌}
+use Rattle.std.proofs.Common.{◌++◌, ◌==◌, ◌||◌, ◌∙◌, ◌∷◌, ◌≡◌}
+use Rattle.std.proofs.lemmas.Bool.{and_parts, false≢true, not-true, or_parts}
+use Rattle.std.proofs.lemmas.Bool.Decides.{nat_tests}
+use Rattle.std.specs.List.{list_any}
 
 -- ---- a visible path is a file's
 

@@ -1,24 +1,26 @@
 -- What a script's job claims of its run, and what readers may see of it at a moment, in the words of `soundness`.
-use Rattle.std.specs.Prelude.{ℕ, zero, suc, nat_eq, Bool, true, false, cond, List, [], ◌∷◌, ◌++◌, map, None, is_some}
-use Rattle.s3_types.specs.Prelude.{Content, filter, option_map}
-use Rattle.s3_types.specs.declared.request.Committer.{Committer}
-use Rattle.s3_types.specs.declared.request.Committer.TheVariants.{Directory, Partitioned}
-use Rattle.s3_types.specs.declared.request.Mode.{Mode}
-use Rattle.s3_types.specs.declared.request.Mode.TheVariants.{Replace}
-use Rattle.s3_types.specs.declared.journal.Entry.{Entry}
-use Rattle.path_keys.specs.Paths.{Path, below}
-use Rattle.magic_paths.specs.Layout.{success_key}
 use Rattle.job_model.specs.JobScript.{Script}
 use Rattle.job_model.specs.Placed.{placed}
 use Rattle.job_protocol.specs.Outputs.{Picks, files_picked}
 use Rattle.job_protocol.specs.Seen.{Seen, Times, seen}
 use Rattle.job_protocol.specs.View.{object_at}
-use Rattle.soundness.specs.Paths.{is_visible}
+use Rattle.magic_paths.specs.Layout.{success_key}
+use Rattle.path_keys.specs.Paths.{Path, below}
+use Rattle.s3_types.specs.Store.{Content}
+use Rattle.s3_types.specs.declared.journal.Entry.{Entry}
+use Rattle.s3_types.specs.declared.request.Committer.{Committer}
+use Rattle.s3_types.specs.declared.request.Committer.TheVariants.{Directory, Partitioned}
+use Rattle.s3_types.specs.declared.request.Mode.{Mode}
+use Rattle.s3_types.specs.declared.request.Mode.TheVariants.{Replace}
 use Rattle.soundness.specs.Claims.{Attempts, Claim, Files}
 use Rattle.soundness.specs.Moments.{Moment, Shown}
+use Rattle.soundness.specs.Paths.{is_visible}
 use Rattle.soundness.specs.declared.keeps.Keeps.{Keeps}
-use Rattle.soundness.specs.declared.keeps.Keeps.TheVariants as keeps
 use Rattle.soundness.specs.declared.marker.Marker.{Marker}
+use Rattle.std.specs.List.{filter}
+use Rattle.std.specs.Option.{option_map}
+use Rattle.std.specs.Prelude.{Bool, List, None, cond, false, is_some, map, nat_eq, suc, true, zero, ℕ, [], ◌++◌, ◌∷◌}
+use Rattle.soundness.specs.declared.keeps.Keeps.TheVariants as keeps
 use Rattle.soundness.specs.declared.marker.Marker.TheVariants as markers
 
 -- ---- the claim

@@ -1,21 +1,21 @@
 -- That every run of a job is sound for readers.
-use Rattle.std.specs.Prelude.{◌≡◌, List, length, true, None}
-use Rattle.std.specs.List.{All}
-use Rattle.s3_types.specs.Prelude.{Content}
-use Rattle.s3_types.specs.declared.journal.Entry.{Entry}
 use Rattle.job_model.specs.JobScript.{Script}
 use Rattle.job_model.specs.Legal.{IsLegal}
 use Rattle.job_model.specs.declared.ends.EventEnd.{EventEnd}
 use Rattle.job_protocol.specs.Operations.{Setting}
 use Rattle.job_protocol.specs.Outputs.{Picks, is_decided}
 use Rattle.job_protocol.specs.Seen.{seen}
+use Rattle.job_soundness.specs.Claim.{chosen_below, claim_of, moments_to, shown}
 use Rattle.job_spec.specs.Entries.{AreOwn}
 use Rattle.job_spec.specs.States.{times}
 use Rattle.job_steps.specs.Transitions.{Play, Reachable}
 use Rattle.job_traces.specs.Runs.{IsOpening}
+use Rattle.s3_types.specs.Store.{Content}
+use Rattle.s3_types.specs.declared.journal.Entry.{Entry}
 use Rattle.soundness.specs.Claims.{Chooses}
 use Rattle.soundness.specs.Moments.{Explains, Sound}
-use Rattle.job_soundness.specs.Claim.{chosen_below, claim_of, moments_to, shown}
+use Rattle.std.specs.List.{All}
+use Rattle.std.specs.Prelude.{List, None, length, true, ◌≡◌}
 
 -- The attempts that the job's commit has chosen at the end of a journal.
 abbrev pub picks_at_end : Script → Content → List Entry → List EventEnd → Picks

@@ -1,8 +1,27 @@
 -- where each sending is answered no request wears out
-use Rattle.std.proofs.Common.{◌≡◌, ℕ, zero, suc, ◌+◌, Bool, true, false, cond, List, [], ◌∷◌, slice_get, Some, None, refl, sym, ap, subst, ◌∙◌, arith}
+use Rattle.job_model.specs.JobScript.{Script}
+use Rattle.job_model.specs.declared.ends.EventEnd.{EventEnd}
+use Rattle.job_model.specs.declared.ends.OpEnd.{OpEnd}
+use Rattle.job_spec.specs.Ends.{EndedIn}
+use Rattle.job_spec.specs.Promise.{Sent}
+use Rattle.job_spec.specs.States.{Doing, same_actor}
+use Rattle.job_spec.specs.Turns.{by_actor, until}
+use Rattle.retries.specs.Same.{same_request}
+use Rattle.retries.specs.Worn.{WornFirst, answers, was_answered}
+use Rattle.s3_types.specs.Fates.{FateMap, fate_at, fate_or}
+use Rattle.s3_types.specs.Foretold.{AreForetold, fate_of}
+use Rattle.s3_types.specs.Store.{Content}
+use Rattle.s3_types.specs.declared.fates.Fate.TheVariants.{Answer}
+use Rattle.s3_types.specs.declared.journal.Entry.{Entry}
+use Rattle.s3_types.specs.declared.journal.Outcome.{Outcome}
+use Rattle.s3_types.specs.declared.journal.Outcome.TheVariants.{Answered}
+use Rattle.s3_types.specs.declared.request.Actor.{Actor}
+use Rattle.s3_types.specs.declared.request.Request.{Request}
+use Rattle.std.proofs.Common.{Bool, List, None, Some, ap, arith, cond, false, refl, slice_get, subst, suc, sym, true, zero, ℕ, [], ◌+◌, ◌∙◌}
+use Rattle.std.proofs.Common.{◌∷◌, ◌≡◌}
+use Rattle.std.specs.List.{filter}
+use Rattle.std.specs.Ordering.{nat_cmp}
 use Rattle.std.specs.Prelude.{nat_le}
-use Rattle.job_spec.specs.Prelude.{filter, nat_cmp, Content, FateMap, fate_or, fate_at, fate_of, AreForetold, Answer, Actor, Request, Outcome, Answered, Entry, same_request, was_answered, WornFirst, Script, OpEnd, EventEnd, Doing, same_actor, until, by_actor, EndedIn, Sent}
-use Rattle.retries.specs.Prelude.{answers}
 use Rattle.std.specs.FinMap as fin
 
 abbrev AllAnswered : List Entry → Type 0
@@ -15,7 +34,10 @@ answered _ h = absurd cc
 
 all_answered : (m : FateMap) → m ≡ fin.empty → (n : ℕ) (es : List Entry) → AreForetold (λ i. Some (fate_at m i)) n es → AllAnswered es
 all_answered m none n [] h = tt
-all_answered m none n (e ∷ es) h = (answered e.outcome (h.0 ∙ ap (λ f. fate_at f n) none ∙ ap fate_or (fin.get-empty nat_cmp n)), all_answered m none (n + 1) es h.1)
+all_answered m none n (e ∷ es) h = (
+  answered e.outcome (h.0 ∙ ap (λ f. fate_at f n) none ∙ ap fate_or (fin.get-empty nat_cmp n)),
+  all_answered m none (n + 1) es h.1,
+)
 
 answered_part : (p : Entry → Bool) (es : List Entry) → AllAnswered es → AllAnswered (filter p es)
 answered_part p [] h = tt
@@ -29,7 +51,9 @@ no_miss : (r : Request) (es : List Entry) → AllAnswered es → (k : ℕ) → s
 no_miss r [] h k e = absurd cc
 no_miss r (x ∷ es) h k e = by (same_request r x.request) k h.0 e (no_miss r es h.1)
   where
-    by : (b : Bool) (k : ℕ) → was_answered x.outcome ≡ true → slice_get (cond b (was_answered x.outcome ∷ answers r es) (answers r es)) k ≡ Some false → ((i : ℕ) → slice_get (answers r es) i ≡ Some false → ⊥) → ⊥
+    by : (b : Bool) (k : ℕ) → was_answered x.outcome ≡ true
+        → slice_get (cond b (was_answered x.outcome ∷ answers r es) (answers r es)) k ≡ Some false
+        → ((i : ℕ) → slice_get (answers r es) i ≡ Some false → ⊥) → ⊥
     by true zero a e rest = absurd cc
     by true (suc k) a e rest = rest k e
     by false k a e rest = rest k e

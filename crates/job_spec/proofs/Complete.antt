@@ -1,6 +1,9 @@
 -- a commit that nothing hinders is due to end Committed
-use Rattle.std.proofs.Common.{◌≡◌, refl, Option, Some, None, false, is_some}
-use Rattle.job_spec.specs.Prelude.{Script, CommitEnd, Picks, same_path, is_clash, end_or, commit_due}
+use Rattle.job_model.specs.JobScript.{Script}
+use Rattle.job_model.specs.declared.ends.CommitEnd.{CommitEnd}
+use Rattle.job_protocol.specs.Outputs.{Picks, is_clash, same_path}
+use Rattle.job_spec.specs.Ends.{commit_due, end_or}
+use Rattle.std.proofs.Common.{None, Option, Some, false, is_some, refl, ◌≡◌}
 use Rattle.job_model.specs.declared.ends.CommitEnd.TheVariants as commits
 
 by_path : (o : Option CommitEnd) → is_some o ≡ false → end_or o commits.Committed ≡ commits.Committed

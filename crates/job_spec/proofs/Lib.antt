@@ -2,4 +2,3 @@ pub mod Told
 mod Complete
 mod Restarted
 mod Answered
-pub mod Common

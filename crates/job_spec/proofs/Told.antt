@@ -1,9 +1,19 @@
 -- the folds and the journal in one job's eyes
-use Rattle.std.proofs.Common.{◌≡◌, ℕ, zero, suc, ◌+◌, ◌-◌, ◌≤◌, refl, ap, sym, subst, ◌∙◌, Bool, true, false, cond, arith, nat_eq, ◌&&◌, List, [], ◌∷◌, take, Option, Some}
-use Rattle.job_spec.specs.Prelude.{Content, Scene, opening, effect, after_all, moment, AreHonest, IsHonest, Actor, Driver, Attempt, Shell, Request, Outcome, Answered, Slow, RequestLost, ReplyLost, Entry, Script, Seen, see, see_by, see_all, nothing_seen, seen, Times, is_publishing, AllFrom, IsRising, in_eyes}
-use Rattle.job_spec.specs.Eyes.{number_in, entry_in}
+use Rattle.job_model.specs.JobScript.{Script}
+use Rattle.job_protocol.specs.Seen.{Seen, Times, is_publishing, nothing_seen, see, see_all, see_attempt, see_by, see_driver, seen}
+use Rattle.job_spec.specs.Eyes.{entry_in, in_eyes, number_in}
+use Rattle.job_spec.specs.Turns.{AllFrom, IsRising}
+use Rattle.s3_types.specs.Moment.{AreHonest, IsHonest, after_all, effect, moment}
+use Rattle.s3_types.specs.Store.{Content, Scene, opening}
+use Rattle.s3_types.specs.declared.journal.Entry.{Entry}
+use Rattle.s3_types.specs.declared.journal.Outcome.{Outcome}
+use Rattle.s3_types.specs.declared.journal.Outcome.TheVariants.{Answered, ReplyLost, RequestLost, Slow}
+use Rattle.s3_types.specs.declared.request.Actor.{Actor}
+use Rattle.s3_types.specs.declared.request.Actor.TheVariants.{Attempt, Driver, Shell}
+use Rattle.s3_types.specs.declared.request.Request.{Request}
+use Rattle.std.proofs.Common.{Bool, List, Option, Some, ap, arith, cond, false, nat_eq, refl, subst, suc, sym, take, true, zero, ℕ, []}
+use Rattle.std.proofs.Common.{◌&&◌, ◌+◌, ◌-◌, ◌∙◌, ◌∷◌, ◌≡◌, ◌≤◌}
 use Rattle.std.proofs.Math.Nat.{le_refl, le_trans}
-use Rattle.job_protocol.specs.Seen.{see_driver, see_attempt}
 
 -- ---- what is seen
 
@@ -15,7 +25,8 @@ attempt_scene : (w : Script) (s : Seen) (t a : ℕ) (r : Request) (o : Outcome) 
 attempt_scene w s t a r (Answered x) = refl
 attempt_scene w s t a r _ = refl
 
-by_scene : (w : Script) (k : Times) (s : Seen) (n : ℕ) (r : Request) (o : Outcome) (a : Actor) → (see_by w k s n r o a).scene ≡ effect s.scene r o
+by_scene : (w : Script) (k : Times) (s : Seen) (n : ℕ) (r : Request) (o : Outcome) (a : Actor)
+    → (see_by w k s n r o a).scene ≡ effect s.scene r o
 by_scene w k s n r o Driver = driver_scene w _ _ s r o
 by_scene w k s n r o (Attempt t a) = attempt_scene w s t a r o
 by_scene w k s n r o Shell = refl
@@ -24,11 +35,19 @@ all_scene : (w : Script) (k : Times) (s : Seen) (es : List Entry) → (see_all w
 all_scene w k s [] = refl
 all_scene w k s (e ∷ es) = all_scene w k (see w k s e) es ∙ ap (λ c. after_all c es) (by_scene w k s e.event e.request e.outcome e.actor)
 
-pub scene_is : (w : Script) (k : Times) (content : Content) (journal : List Entry) (m : ℕ) → (seen w k content journal m).scene ≡ moment content journal m
+pub scene_is : (w : Script) (k : Times) (content : Content) (journal : List Entry) (m : ℕ)
+    → (seen w k content journal m).scene ≡ moment content journal m
 scene_is w k content journal m = all_scene w k (nothing_seen content) (take m journal)
 
 pub of_stranger : (w : Script) (k : Times) (s : Seen) (e : Entry) → e.actor ≡ Shell
-    → see w k s e ≡ record { scene = effect s.scene e.request e.outcome; begun = s.begun; last = s.last; picks = s.picks; put_mark = s.put_mark }
+    → see w k s e ≡ record {
+      scene = effect s.scene e.request e.outcome;
+      begun = s.begun;
+      last = s.last;
+      picks = s.picks;
+      put_mark =
+          s.put_mark;
+    }
 of_stranger w k s e h = ap (see_by w k s e.event e.request e.outcome) h
 
 -- ---- one job's eyes
@@ -39,7 +58,8 @@ number_alone (suc n) = let h : number_in (λ m. true) n ≡ n = number_alone n i
 
 pub alone : (es : List Entry) → in_eyes (λ n. true) es ≡ es
 alone [] = refl
-alone (e ∷ es) = ap (λ v. entry_in (λ n. true) e ∷ v) (alone es) ∙ ap (λ n. record { event = n; actor = e.actor; request = e.request; outcome = e.outcome } ∷ es) (number_alone e.event)
+alone (e ∷ es) = ap (λ v. entry_in (λ n. true) e ∷ v) (alone es) ∙ ap (λ n. record
+    { event = n; actor = e.actor; request = e.request; outcome = e.outcome } ∷ es) (number_alone e.event)
 
 eyes_scene : (mine : ℕ → Bool) (s : Scene) (es : List Entry) (m : ℕ) → after_all s (take m (in_eyes mine es)) ≡ after_all s (take m es)
 eyes_scene mine s [] zero = refl
@@ -65,7 +85,8 @@ next_number mine n = by (mine (suc n))
     by false = omega arith
 
 number_grows_by : (mine : ℕ → Bool) (n d : ℕ) → number_in mine n ≤ number_in mine (n + d)
-number_grows_by mine n zero = let e : n + 0 ≡ n = omega arith in subst (λ m. number_in mine n ≤ number_in mine m) (sym e) (le_refl (number_in mine n))
+number_grows_by mine n zero = let e : n + 0 ≡ n = omega arith in subst (λ m. number_in mine n ≤ number_in mine m) (sym e)
+    (le_refl (number_in mine n))
 number_grows_by mine n (suc d) =
     let e : n + suc d ≡ suc (n + d) = omega arith in
     let h : number_in mine n ≤ number_in mine (n + d) = number_grows_by mine n d in
@@ -73,7 +94,8 @@ number_grows_by mine n (suc d) =
     subst (λ m. number_in mine n ≤ number_in mine m) (sym e) (le_trans h k)
 
 number_grows : (mine : ℕ → Bool) (n m : ℕ) → n ≤ m → number_in mine n ≤ number_in mine m
-number_grows mine n m h = let e : n + (m - n) ≡ m = omega arith in subst (λ x. number_in mine n ≤ number_in mine x) e (number_grows_by mine n (m - n))
+number_grows mine n m h = let e : n + (m - n) ≡ m = omega arith in subst (λ x. number_in mine n ≤ number_in mine x) e
+    (number_grows_by mine n (m - n))
 
 eyes_from : (mine : ℕ → Bool) (n : ℕ) (es : List Entry) → AllFrom n es → AllFrom (number_in mine n) (in_eyes mine es)
 eyes_from mine n [] h = tt
@@ -90,7 +112,8 @@ one_more last attempt true h = (attempt, refl)
 one_more last attempt false h = h
 
 -- a task that has one has one ever after
-pub last_still : (w : Script) (k : Times) (s : Seen) (e : Entry) (t : ℕ) → (n : ℕ) × (s.last t ≡ Some n) → (n : ℕ) × ((see w k s e).last t ≡ Some n)
+pub last_still : (w : Script) (k : Times) (s : Seen) (e : Entry) (t : ℕ) → (n : ℕ) × (s.last t ≡ Some n) → (n : ℕ)
+    × ((see w k s e).last t ≡ Some n)
 last_still w k s e t h = by e.actor e.outcome
   where
     by : (a : Actor) (o : Outcome) → (n : ℕ) × ((see_by w k s e.event e.request o a).last t ≡ Some n)

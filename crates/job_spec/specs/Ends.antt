@@ -1,14 +1,29 @@
 -- How operations end, by their entries and by what is seen.
-use Rattle.std.specs.Prelude.{Bool, List, None, Option, Some, false, not, slice_get, take, true, ℕ, ◌&&◌, ◌+◌, ◌≡◌, ◌⊎◌}
-use Rattle.job_protocol.specs.Prelude.{Actor, CommitEnd, Driver, Entry, Event, EventEnd, OpEnd, Picks, Request, Script, Seen, WornFirst, is_begun, is_marking, is_unanswered, list_any, same_path, stage_of}
+use Rattle.job_model.specs.JobScript.{Script}
+use Rattle.job_model.specs.declared.ends.CommitEnd.{CommitEnd}
+use Rattle.job_model.specs.declared.ends.EventEnd.{EventEnd}
+use Rattle.job_model.specs.declared.ends.OpEnd.{OpEnd}
+use Rattle.job_model.specs.declared.events.Event.{Event}
+use Rattle.job_protocol.specs.JobCommits.{stage_of}
+use Rattle.job_protocol.specs.Outputs.{Picks, same_path}
+use Rattle.job_protocol.specs.Seen.{Seen, is_begun, is_marking}
 use Rattle.job_spec.specs.States.{Doing, after_event, past, told}
 use Rattle.job_spec.specs.Turns.{by_actor, since, until}
+use Rattle.retries.specs.Worn.{WornFirst}
+use Rattle.s3_types.specs.Moment.{is_unanswered}
+use Rattle.s3_types.specs.declared.journal.Entry.{Entry}
+use Rattle.s3_types.specs.declared.request.Actor.{Actor}
+use Rattle.s3_types.specs.declared.request.Actor.TheVariants.{Driver}
+use Rattle.s3_types.specs.declared.request.Request.{Request}
+use Rattle.std.specs.List.{list_any}
+use Rattle.std.specs.Prelude.{Bool, List, None, Option, Some, false, not, slice_get, take, true, ℕ, ◌&&◌, ◌+◌, ◌≡◌, ◌⊎◌}
 use Rattle.job_model.specs.declared.ends.CommitEnd.TheVariants as commits
 
 -- ---- an operation that ended
 
 -- In event j this actor's operation ended so: it was begun so, and these are its entries.
-pub record EndedIn (w : Script) (xs : List EventEnd) (journal : List Entry) (j : ℕ) (a : Actor) (d : Doing) (end : OpEnd) (entries : List Entry) : Type 0 where
+pub record EndedIn (w : Script) (xs : List EventEnd) (journal : List Entry) (j : ℕ) (a : Actor) (d : Doing) (end : OpEnd)
+    (entries : List Entry) : Type 0 where
   -- the event in which it ended, and that event's end
   pub event : Event
   pub event_end : EventEnd

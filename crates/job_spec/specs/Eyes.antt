@@ -1,6 +1,8 @@
 -- A run's journal in one job's eyes: its own events under its own numbers, and whatever else was sent told as a stranger's.
-use Rattle.std.specs.Prelude.{ℕ, zero, suc, ◌+◌, Bool, cond, List, map}
-use Rattle.job_protocol.specs.Prelude.{Actor, Shell, Entry}
+use Rattle.s3_types.specs.declared.journal.Entry.{Entry}
+use Rattle.s3_types.specs.declared.request.Actor.{Actor}
+use Rattle.s3_types.specs.declared.request.Actor.TheVariants.{Shell}
+use Rattle.std.specs.Prelude.{Bool, List, cond, map, suc, zero, ℕ, ◌+◌}
 
 -- how many of the events from 1 to n are the job's: the number of the last one of them
 abbrev pub number_in : (ℕ → Bool) → ℕ → ℕ

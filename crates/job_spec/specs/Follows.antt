@@ -1,10 +1,20 @@
 -- That a run does what its events say: each operation sends what is asked next and ends as it should.
-use Rattle.std.specs.Prelude.{◌≡◌, ℕ, ◌+◌, ◌≤◌, ◌⊎◌, true, List, [], length, take, slice_get, Option, Some, None}
-use Rattle.job_protocol.specs.Prelude.{Actor, Entry, Event, OpEnd, ActorEnd, EventEnd, EventFault, Known, knows, Setting, Operation, Running, who, wants, advance, start_of, over}
-use Rattle.retries.specs.Operation as sendings
+use Rattle.job_model.specs.Known.{Known}
+use Rattle.job_model.specs.declared.ends.ActorEnd.{ActorEnd}
+use Rattle.job_model.specs.declared.ends.EventEnd.{EventEnd}
 use Rattle.job_model.specs.declared.ends.EventEnd.TheVariants.{Refused}
-use Rattle.job_spec.specs.States.{Doing, past, refusal, after_event, open_event, told}
-use Rattle.job_spec.specs.Turns.{own, of_event, until, before, since, by_actor, is_busy, is_wanting, Turns, OpenTurns, AllFrom, IsRising, AllUpTo}
+use Rattle.job_model.specs.declared.ends.EventFault.{EventFault}
+use Rattle.job_model.specs.declared.ends.OpEnd.{OpEnd}
+use Rattle.job_model.specs.declared.events.Event.{Event}
+use Rattle.job_protocol.specs.Knowledge.{knows}
+use Rattle.job_protocol.specs.Operations.{Operation, Running, Setting, advance, over, start_of, wants, who}
+use Rattle.job_spec.specs.States.{Doing, after_event, open_event, past, refusal, told}
+use Rattle.job_spec.specs.Turns.{AllFrom, AllUpTo, IsRising, OpenTurns, Turns, before, by_actor, is_busy, is_wanting, of_event, own, since}
+use Rattle.job_spec.specs.Turns.{until}
+use Rattle.s3_types.specs.declared.journal.Entry.{Entry}
+use Rattle.s3_types.specs.declared.request.Actor.{Actor}
+use Rattle.std.specs.Prelude.{List, None, Option, Some, length, slice_get, take, true, ℕ, [], ◌+◌, ◌≡◌, ◌≤◌, ◌⊎◌}
+use Rattle.retries.specs.Operation as sendings
 
 -- ---- an operation and its entries
 
@@ -48,18 +58,23 @@ pub record Obeyed (g : Setting) (before_it : List EventEnd) (journal : List Entr
   -- a refused event sends nothing
   pub silent : (f : EventFault) → end ≡ Refused f → of_event (length before_it + 1) journal ≡ []
   -- its entries are by turns
-  pub turns : refusal (past g.script before_it).state ev ≡ None → Turns g.script (past g.script before_it).state ev end (of_event (length before_it + 1) journal)
+  pub turns : refusal (past g.script before_it).state ev ≡ None
+      → Turns g.script (past g.script before_it).state ev end (of_event (length before_it + 1) journal)
   -- each operation sends what is asked next; who is busy afterwards has more to send
-  pub follow : (a : Actor) (d : Doing) → (after_event g.script (past g.script before_it) ev end).doing a ≡ Some d → OpFollows g a d (by_actor a journal)
+  pub follow : (a : Actor) (d : Doing) → (after_event g.script (past g.script before_it) ev end).doing a ≡ Some d
+      → OpFollows g a d (by_actor a journal)
   -- who is busy afterwards has more to send
-  pub goes_on : (a : Actor) (d : Doing) → (after_event g.script (past g.script before_it) ev end).doing a ≡ Some d → is_busy ((after_event g.script (past g.script before_it) ev end).state a).life ≡ true → op_over g a d (by_actor a journal) ≡ None
+  pub goes_on : (a : Actor) (d : Doing) → (after_event g.script (past g.script before_it) ev end).doing a ≡ Some d
+      → is_busy ((after_event g.script (past g.script before_it) ev end).state a).life ≡ true → op_over g a d (by_actor a journal) ≡ None
   -- each end is that of an operation, or its want of memory
-  pub over : (i : ℕ) (x : ActorEnd) → slice_get (told ev end) i ≡ Some x → (d : Doing) × ((after_event g.script (past g.script before_it) ev end).doing x.actor ≡ Some d)
+  pub over : (i : ℕ) (x : ActorEnd) → slice_get (told ev end) i ≡ Some x → (d : Doing)
+      × ((after_event g.script (past g.script before_it) ev end).doing x.actor ≡ Some d)
       × ((is_wanting x.actor d.op x.end ≡ true) ⊎ (op_over g x.actor d (by_actor x.actor journal) ≡ Some x.end))
 
 -- each event that has an end was obeyed
 abbrev pub AllObeyed : Setting → List EventEnd → List Entry → Type 0
-AllObeyed g xs journal = (k : ℕ) (ev : Event) (end : EventEnd) → slice_get g.script.events k ≡ Some ev → slice_get xs k ≡ Some end → Obeyed g (take k xs) (until (k + 1) journal) ev end
+AllObeyed g xs journal = (k : ℕ) (ev : Event) (end : EventEnd) → slice_get g.script.events k ≡ Some ev → slice_get xs k ≡ Some end
+    → Obeyed g (take k xs) (until (k + 1) journal) ev end
 
 -- Of the event that has begun and has no end yet, by the ends before it.
 pub record Going (g : Setting) (xs : List EventEnd) (journal : List Entry) (ev : Event) : Type 0 where

@@ -1,7 +1,15 @@
 -- What a reader of a job's destination may rely on, at each moment of a run.
+use Rattle.job_model.specs.JobScript.{Script}
+use Rattle.job_protocol.specs.Conflicts.{keeps_of}
+use Rattle.job_protocol.specs.Outputs.{Picks, is_clash, is_decided, is_picked, wanted_at}
+use Rattle.job_protocol.specs.Records.{mark_text}
+use Rattle.job_protocol.specs.Seen.{Seen, Times, is_marked, seen}
+use Rattle.job_protocol.specs.View.{Same, Shown, object_at, view}
+use Rattle.magic_paths.specs.Layout.{success_key}
+use Rattle.s3_types.specs.Store.{Content}
+use Rattle.s3_types.specs.declared.journal.Entry.{Entry}
+use Rattle.s3_types.specs.declared.object.Object.{Object}
 use Rattle.std.specs.Prelude.{List, None, Option, Some, cond, false, length, true, ℕ, ◌≡◌, ◌≤◌, ◌⊎◌}
-use Rattle.job_protocol.specs.Prelude.{Content, Entry, Object, Picks, Script, Seen, Times, is_clash, is_decided, is_marked, is_picked, keeps_of, mark_text, seen, success_key, view, wanted_at}
-use Rattle.job_protocol.specs.View.{Same, Shown, object_at}
 
 -- the bytes, where there are any, and else others
 abbrev pub or_else : Option (List ℕ) → Option (List ℕ) → Option (List ℕ)
@@ -20,7 +28,8 @@ pub record Between (w : Script) (opening : Shown) (picks : Picks) (v : Shown) : 
   -- then only opening files and whole files of the picks
   pub only : is_decided w picks ≡ true → (p b : List ℕ) → v p ≡ Some b → (opening p ≡ Some b) ⊎ (wanted_at w picks p ≡ Some b)
   -- and each opening file that the mode keeps and that no pick writes
-  pub kept : is_decided w picks ≡ true → (p b : List ℕ) → opening p ≡ Some b → keeps_of w picks p ≡ true → wanted_at w picks p ≡ None → v p ≡ Some b
+  pub kept : is_decided w picks ≡ true → (p b : List ℕ) → opening p ≡ Some b → keeps_of w picks p ≡ true → wanted_at w picks p ≡ None
+      → v p ≡ Some b
 
 -- the whole job stands: exactly the kept files and all files of the picks, and the marker says so
 pub record Whole (w : Script) (opening : Shown) (picks : Picks) (c : Content) : Type 0 where

@@ -1,13 +1,27 @@
 -- The laws of this crate.
-use Rattle.std.specs.Prelude.{Bool, List, None, Some, [], false, length, slice_get, suc, true, ℕ, ◌++◌, ◌∷◌, ◌≡◌, ◌⊎◌}
-use Rattle.job_protocol.specs.Prelude.{Actor, Attempt, Content, Done, Driver, Entry, EventEnd, EventFault, Idle, IsHonest, OpEnd, Picks, Restart, Script, Seen, SetupEnd, Shell, Start, Times, WornFirst, effect, is_clash, moment, see, seen}
+use Rattle.job_model.specs.JobScript.{Script}
+use Rattle.job_model.specs.declared.ends.EventEnd.{EventEnd}
+use Rattle.job_model.specs.declared.ends.EventEnd.TheVariants.{Done, Refused}
+use Rattle.job_model.specs.declared.ends.EventFault.{EventFault}
+use Rattle.job_model.specs.declared.ends.OpEnd.{OpEnd}
+use Rattle.job_model.specs.declared.ends.SetupEnd.{SetupEnd}
+use Rattle.job_model.specs.declared.events.Event.TheVariants.{Restart, Start}
 use Rattle.job_model.specs.declared.events.Op.TheVariants.{Commit}
-use Rattle.job_model.specs.declared.ends.EventEnd.TheVariants.{Refused}
+use Rattle.job_model.specs.declared.states.Life.TheVariants.{Idle}
+use Rattle.job_protocol.specs.Outputs.{Picks, is_clash}
+use Rattle.job_protocol.specs.Seen.{Seen, Times, see, seen}
 use Rattle.job_spec.specs.Ends.{EndedIn, commit_due}
+use Rattle.job_spec.specs.Eyes.{in_eyes}
+use Rattle.job_spec.specs.Promise.{Sent}
 use Rattle.job_spec.specs.States.{Doing, EndedSo, NotBegun, Unended, end_verdict, is_committing, missing, past, verdict, verdict_or}
 use Rattle.job_spec.specs.Turns.{IsRising}
-use Rattle.job_spec.specs.Promise.{Sent}
-use Rattle.job_spec.specs.Eyes.{in_eyes}
+use Rattle.retries.specs.Worn.{WornFirst}
+use Rattle.s3_types.specs.Moment.{IsHonest, effect, moment}
+use Rattle.s3_types.specs.Store.{Content}
+use Rattle.s3_types.specs.declared.journal.Entry.{Entry}
+use Rattle.s3_types.specs.declared.request.Actor.{Actor}
+use Rattle.s3_types.specs.declared.request.Actor.TheVariants.{Attempt, Driver, Shell}
+use Rattle.std.specs.Prelude.{Bool, List, None, Some, false, length, slice_get, suc, true, ℕ, [], ◌++◌, ◌∷◌, ◌≡◌, ◌⊎◌}
 use Rattle.std.specs.FinMap as fin
 use Rattle.job_model.specs.declared.ends.CommitEnd.TheVariants as commits
 use Rattle.job_model.specs.declared.ends.OpEnd.TheVariants as ends
@@ -15,11 +29,20 @@ use Rattle.job_model.specs.declared.states.ActorStage.TheVariants as stage
 
 -- what is seen of the store is its moment, and of a stranger nothing else is seen
 pub record SeenIsMoment : Type 0 where
-  pub scene : (w : Script) (k : Times) (opening : Content) (journal : List Entry) (m : ℕ) → (seen w k opening journal m).scene ≡ moment opening journal m
+  pub scene : (w : Script) (k : Times) (opening : Content) (journal : List Entry) (m : ℕ)
+      → (seen w k opening journal m).scene ≡ moment opening journal m
   pub stranger : (w : Script) (k : Times) (s : Seen) (e : Entry) → e.actor ≡ Shell
-      → see w k s e ≡ record { scene = effect s.scene e.request e.outcome; begun = s.begun; last = s.last; picks = s.picks; put_mark = s.put_mark }
+      → see w k s e ≡ record {
+        scene = effect s.scene e.request e.outcome;
+        begun = s.begun;
+        last = s.last;
+        picks = s.picks;
+        put_mark =
+            s.put_mark;
+      }
 
--- a job that is alone reads the journal as it is; what others send is told otherwise, but the store, the answers and the order of events stay
+-- a job that is alone reads the journal as it is; what others send is told otherwise, but the store, the answers and the order of events
+-- stay
 pub record EyesAreTrue : Type 0 where
   pub alone : (es : List Entry) → in_eyes (λ n. true) es ≡ es
   pub scene : (mine : ℕ → Bool) (opening : Content) (es : List Entry) (m : ℕ) → moment opening (in_eyes mine es) m ≡ moment opening es m
@@ -35,28 +58,38 @@ pub record NothingWorn : Type 0 where
   pub none : (w : Script) (opening : Content) (journal : List Entry) (xs : List EventEnd) → w.fates ≡ fin.empty → Sent w opening journal
       → (j : ℕ) (a : Actor) (d : Doing) (end : OpEnd) (es : List Entry) → EndedIn w xs journal j a d end es → WornFirst w.retries es None
 
--- a restart after these events: a new driver, which has failed where the old one was committing and else stands where that stood, and knows no report
+-- a restart after these events: a new driver, which has failed where the old one was committing and else stands where that stood, and knows
+-- no report
 pub record RestartsAnew : Type 0 where
-  pub idle : (w : Script) (xs : List EventEnd) → slice_get w.events (length xs) ≡ Some Restart → ((past w (xs ++ Done ∷ [])).state Driver).life ≡ Idle
-  pub failed : (w : Script) (xs : List EventEnd) → slice_get w.events (length xs) ≡ Some Restart → ((past w xs).state Driver).stage ≡ stage.Committing
+  pub idle : (w : Script) (xs : List EventEnd) → slice_get w.events (length xs) ≡ Some Restart
+      → ((past w (xs ++ Done ∷ [])).state Driver).life ≡ Idle
+  pub failed : (w : Script) (xs : List EventEnd) → slice_get w.events (length xs) ≡ Some Restart
+      → ((past w xs).state Driver).stage ≡ stage.Committing
       → ((past w (xs ++ Done ∷ [])).state Driver).stage ≡ stage.Failed
-  pub stays : (w : Script) (xs : List EventEnd) → slice_get w.events (length xs) ≡ Some Restart → is_committing ((past w xs).state Driver).stage ≡ false
+  pub stays : (w : Script) (xs : List EventEnd) → slice_get w.events (length xs) ≡ Some Restart
+      → is_committing ((past w xs).state Driver).stage ≡ false
       → ((past w (xs ++ Done ∷ [])).state Driver).stage ≡ ((past w xs).state Driver).stage
   -- no report from before it counts, so a commit that begins right after it misses the first task there is
-  pub forgets : (w : Script) (xs : List EventEnd) → slice_get w.events (length xs) ≡ Some Restart → (a : Actor) → (past w (xs ++ Done ∷ [])).reported a ≡ false
-  pub misses : (w : Script) (xs : List EventEnd) (n : ℕ) → slice_get w.events (length xs) ≡ Some Restart → w.tasks ≡ suc n → missing w (past w (xs ++ Done ∷ [])).reported ≡ Some 0
+  pub forgets : (w : Script) (xs : List EventEnd) → slice_get w.events (length xs) ≡ Some Restart → (a : Actor)
+      → (past w (xs ++ Done ∷ [])).reported a ≡ false
+  pub misses : (w : Script) (xs : List EventEnd) (n : ℕ) → slice_get w.events (length xs) ≡ Some Restart → w.tasks ≡ suc n
+      → missing w (past w (xs ++ Done ∷ [])).reported ≡ Some 0
   -- attempts stay as they are
-  pub attempts : (w : Script) (xs : List EventEnd) → slice_get w.events (length xs) ≡ Some Restart → (t a : ℕ) → (past w (xs ++ Done ∷ [])).state (Attempt t a) ≡ (past w xs).state (Attempt t a)
+  pub attempts : (w : Script) (xs : List EventEnd) → slice_get w.events (length xs) ≡ Some Restart → (t a : ℕ)
+      → (past w (xs ++ Done ∷ [])).state (Attempt t a) ≡ (past w xs).state (Attempt t a)
 
 -- the driver's commit decides the status of a run where one was begun, and else its last set-up
 pub record CommitDecides : Type 0 where
   -- of a commit that was begun 0 comes only where it ended Committed, and of a set-up it never comes
-  pub zero : (w : Script) (xs : List EventEnd) → verdict w xs ≡ 0 → ((past w xs).commit ≡ EndedSo (ends.Commit commits.Committed)) ⊎ ((past w xs).commit ≡ NotBegun)
-  pub setup : (w : Script) (xs : List EventEnd) (e : SetupEnd) → (past w xs).commit ≡ NotBegun → (past w xs).setup ≡ EndedSo (ends.Setup e) → verdict w xs ≡ 0 → ⊥
+  pub zero : (w : Script) (xs : List EventEnd) → verdict w xs ≡ 0 → ((past w xs).commit ≡ EndedSo (ends.Commit commits.Committed))
+      ⊎ ((past w xs).commit ≡ NotBegun)
+  pub setup : (w : Script) (xs : List EventEnd) (e : SetupEnd) → (past w xs).commit ≡ NotBegun → (past w xs).setup ≡ EndedSo (ends.Setup e)
+      → verdict w xs ≡ 0 → ⊥
   -- a commit that was begun decides alone, whatever set-ups did
   pub ended : (w : Script) (xs : List EventEnd) (e : OpEnd) → (past w xs).commit ≡ EndedSo e → verdict w xs ≡ end_verdict e
   pub unended : (w : Script) (xs : List EventEnd) → (past w xs).commit ≡ Unended → verdict w xs ≡ 1
-  pub begun : (w : Script) (xs : List EventEnd) → slice_get w.events (length xs) ≡ Some (Start Driver Commit) → verdict w (xs ++ Done ∷ []) ≡ 1
+  pub begun : (w : Script) (xs : List EventEnd) → slice_get w.events (length xs) ≡ Some (Start Driver Commit)
+      → verdict w (xs ++ Done ∷ []) ≡ 1
   -- one that was not leaves it to the last set-up
   pub not_begun : (w : Script) (xs : List EventEnd) → (past w xs).commit ≡ NotBegun → verdict w xs ≡ verdict_or 1 (past w xs).setup
   -- a refused event, and so a refused commit, decides nothing

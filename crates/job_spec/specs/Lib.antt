@@ -9,4 +9,3 @@ pub mod Promise
 pub mod ReportText
 pub mod Eyes
 pub mod Laws
-pub mod Prelude

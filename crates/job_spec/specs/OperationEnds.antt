@@ -1,7 +1,36 @@
 -- The causes of the ends of operations, and what holds at them.
-use Rattle.std.specs.Prelude.{Bool, IsSome, List, None, Option, Some, [], false, slice_get, true, ℕ, ◌&&◌, ◌++◌, ◌∷◌, ◌≡◌, ◌≤◌}
-use Rattle.job_protocol.specs.Prelude.{All, Answered, Attempt, CleanEnd, Contains, Content, DeleteObject, Entry, IsWorn, ListPage, NoSuchUpload, NothingLeft, Op, Outcome, Page, PageEntry, Refusal, Refused, Reply, ReplyLost, Request, RequestLost, Same, Scene, Script, SetupEnd, TaskEnd, Who, checks_all, checks_partitions, files, is_effective, is_lt, is_publishing, list_any, moment, partition_prefix, partitions, paths_of, same_request, set_read, set_request, stage_of, text_cmp, view}
-use Rattle.job_protocol.specs.View.{object_at}
+use Rattle.basics.specs.Order.{text_cmp}
+use Rattle.job_model.specs.Attempts.{Who}
+use Rattle.job_model.specs.JobScript.{Script}
+use Rattle.job_model.specs.declared.ends.CleanEnd.{CleanEnd}
+use Rattle.job_model.specs.declared.ends.SetupEnd.{SetupEnd}
+use Rattle.job_model.specs.declared.ends.TaskEnd.{TaskEnd}
+use Rattle.job_model.specs.declared.events.Op.{Op}
+use Rattle.job_protocol.specs.Conflicts.{checks_all, checks_partitions, partitions}
+use Rattle.job_protocol.specs.JobCommits.{set_read, set_request, stage_of}
+use Rattle.job_protocol.specs.Outputs.{files, paths_of}
+use Rattle.job_protocol.specs.Scope.{NothingLeft}
+use Rattle.job_protocol.specs.Seen.{is_publishing}
+use Rattle.job_protocol.specs.TaskCommits.{partition_prefix}
+use Rattle.job_protocol.specs.View.{Same, object_at, view}
+use Rattle.retries.specs.Same.{same_request}
+use Rattle.retries.specs.Worn.{IsWorn}
+use Rattle.s3_types.specs.Moment.{is_effective, moment}
+use Rattle.s3_types.specs.Store.{Content, Scene}
+use Rattle.s3_types.specs.declared.journal.Entry.{Entry}
+use Rattle.s3_types.specs.declared.journal.Outcome.{Outcome}
+use Rattle.s3_types.specs.declared.journal.Outcome.TheVariants.{Answered, ReplyLost, RequestLost}
+use Rattle.s3_types.specs.declared.reply.PageEntry.{PageEntry}
+use Rattle.s3_types.specs.declared.reply.Refusal.{Refusal}
+use Rattle.s3_types.specs.declared.reply.Refusal.TheVariants.{NoSuchUpload}
+use Rattle.s3_types.specs.declared.reply.Reply.{Reply}
+use Rattle.s3_types.specs.declared.reply.Reply.TheVariants.{Page, Refused}
+use Rattle.s3_types.specs.declared.request.Actor.TheVariants.{Attempt}
+use Rattle.s3_types.specs.declared.request.Request.{Request}
+use Rattle.s3_types.specs.declared.request.Request.TheVariants.{DeleteObject, ListPage}
+use Rattle.std.specs.List.{All, Contains, list_any}
+use Rattle.std.specs.Ordering.{is_lt}
+use Rattle.std.specs.Prelude.{Bool, IsSome, List, None, Option, Some, false, slice_get, true, ℕ, [], ◌&&◌, ◌++◌, ◌∷◌, ◌≡◌, ◌≤◌}
 use Rattle.std.specs.FinMap as fin
 use Rattle.job_model.specs.declared.events.Op.TheVariants as ops
 use Rattle.job_model.specs.declared.ends.SetupEnd.TheVariants as setups
@@ -117,4 +146,5 @@ pub record CommitServed (w : Script) (es : List Entry) : Type 0 where
       → e.request ≡ set_request w.committer w t → e.outcome ≡ Answered r → IsSome (set_read r)
   -- a refused completion found no upload, and an earlier sending of it was lost
   pub completions : (before : List Entry) (e : Entry) (later : List Entry) (why : Refusal) → es ≡ before ++ e ∷ later
-      → stage_of e.request ≡ stages.Complete → e.outcome ≡ Answered (Refused why) → (why ≡ NoSuchUpload) × (was_lost e.request before ≡ true)
+      → stage_of e.request ≡ stages.Complete → e.outcome ≡ Answered (Refused why) → (why ≡ NoSuchUpload)
+      × (was_lost e.request before ≡ true)

@@ -1,13 +1,32 @@
 -- What a run promises of its job.
-use Rattle.std.specs.Prelude.{Bool, List, None, Option, Some, [], false, length, suc, true, zero, ℕ, ◌++◌, ◌+◌, ◌∷◌, ◌≡◌, ◌≤◌, ◌⊎◌}
-use Rattle.job_protocol.specs.Prelude.{AreForetold, Attempt, CleanEnd, CommitEnd, Content, Driver, Entry, EventEnd, IsHonest, Pick, Picks, Request, Same, Script, Seen, Setting, SetupEnd, TaskEnd, WornFirst, fate_at, is_marked, is_untouched, moment, seen, view}
-use Rattle.job_spec.specs.Headline.{Always}
-use Rattle.job_spec.specs.States.{Decided, Doing, EndedSo, clean_event, past, times}
-use Rattle.job_spec.specs.Turns.{AllBy, before, by_actor, is_memory, since, until, until_last}
-use Rattle.job_spec.specs.Follows.{Plays, known_then}
+use Rattle.job_model.specs.JobScript.{Script}
+use Rattle.job_model.specs.declared.ends.CleanEnd.{CleanEnd}
+use Rattle.job_model.specs.declared.ends.CommitEnd.{CommitEnd}
+use Rattle.job_model.specs.declared.ends.EventEnd.{EventEnd}
+use Rattle.job_model.specs.declared.ends.Pick.{Pick}
+use Rattle.job_model.specs.declared.ends.SetupEnd.{SetupEnd}
+use Rattle.job_model.specs.declared.ends.TaskEnd.{TaskEnd}
+use Rattle.job_protocol.specs.JobCommits.{is_untouched}
+use Rattle.job_protocol.specs.Operations.{Setting}
+use Rattle.job_protocol.specs.Outputs.{Picks}
+use Rattle.job_protocol.specs.Seen.{Seen, is_marked, seen}
+use Rattle.job_protocol.specs.View.{Same, view}
 use Rattle.job_spec.specs.Ends.{CommitEnded, EndedIn, has_cleaned}
 use Rattle.job_spec.specs.Entries.{AreOwn, OutsideStays, ZeroRename}
+use Rattle.job_spec.specs.Follows.{Plays, known_then}
+use Rattle.job_spec.specs.Headline.{Always}
 use Rattle.job_spec.specs.OperationEnds.{CleanIs, Cleaned, CommitServed, NoDeletionWorn, OnlyOpening, SetupIs, TaskIs, WasPublished}
+use Rattle.job_spec.specs.States.{Decided, Doing, EndedSo, clean_event, past, times}
+use Rattle.job_spec.specs.Turns.{AllBy, before, by_actor, is_memory, since, until, until_last}
+use Rattle.retries.specs.Worn.{WornFirst}
+use Rattle.s3_types.specs.Fates.{fate_at}
+use Rattle.s3_types.specs.Foretold.{AreForetold}
+use Rattle.s3_types.specs.Moment.{IsHonest, moment}
+use Rattle.s3_types.specs.Store.{Content}
+use Rattle.s3_types.specs.declared.journal.Entry.{Entry}
+use Rattle.s3_types.specs.declared.request.Actor.TheVariants.{Attempt, Driver}
+use Rattle.s3_types.specs.declared.request.Request.{Request}
+use Rattle.std.specs.Prelude.{Bool, List, None, Option, Some, false, length, suc, true, zero, ℕ, [], ◌++◌, ◌+◌, ◌∷◌, ◌≡◌, ◌≤◌, ◌⊎◌}
 use Rattle.job_model.specs.declared.events.Op.TheVariants as ops
 use Rattle.job_model.specs.declared.ends.SetupEnd.TheVariants as setups
 use Rattle.job_model.specs.declared.ends.TaskEnd.TheVariants as tasks
@@ -48,18 +67,25 @@ setting w opening = record { script = w; minimum = opening.minimum; shared = fal
 
 -- the driver's set-up, where no stranger sends
 abbrev pub SetupsEnd : Script → Content → List Entry → List EventEnd → Type 0
-SetupsEnd w opening journal xs = AreOwn journal → (j : ℕ) (d : Doing) (e : SetupEnd) (es : List Entry) → EndedIn w xs journal j Driver d (ends.Setup e) es
-    → (e ≡ setups.NoMemory) ⊎ ((worn : Option Request) × WornFirst w.retries es worn × SetupIs w (moment opening journal (length (before d.since journal))).content worn e)
+SetupsEnd w opening journal xs = AreOwn journal → (j : ℕ) (d : Doing) (e : SetupEnd) (es : List Entry)
+    → EndedIn w xs journal j Driver d (ends.Setup e) es
+    → (e ≡ setups.NoMemory) ⊎ ((worn : Option Request) × WornFirst w.retries es worn
+    × SetupIs w (moment opening journal (length (before d.since journal))).content worn e)
 
 -- an attempt's operations, where no stranger sends; whether the driver's abort or clean has begun is seen at the attempt's last entry
 abbrev pub TasksEnd : Script → Content → List Entry → List EventEnd → Type 0
-TasksEnd w opening journal xs = AreOwn journal → (j t a : ℕ) (d : Doing) (e : TaskEnd) (es : List Entry) → EndedIn w xs journal j (Attempt t a) d (ends.Task e) es
+TasksEnd w opening journal xs = AreOwn journal → (j t a : ℕ) (d : Doing) (e : TaskEnd) (es : List Entry)
+    → EndedIn w xs journal j (Attempt t a) d (ends.Task e) es
     → (e ≡ tasks.NoMemory) ⊎ ((worn : Option Request) × WornFirst w.retries es worn
-    × TaskIs d.op w (record { task = t; attempt = a }) es (known_then (setting w opening) (Attempt t a) d (by_actor (Attempt t a) journal)).publish_sent (has_cleaned (clean_event w xs) (until_last (Attempt t a) (until (j + 1) journal))) worn e)
+    × TaskIs d.op w (record { task = t; attempt = a }) es (known_then (setting w opening) (Attempt t a) d
+    (by_actor (Attempt t a) journal)).publish_sent (has_cleaned (clean_event w xs) (until_last (Attempt t a) (until (j + 1) journal)))
+    worn e)
 
--- an attempt's commit that ended Done has published, where the driver's abort or clean has not begun before its last entry and no stranger sends
+-- an attempt's commit that ended Done has published, where the driver's abort or clean has not begun before its last entry and no stranger
+-- sends
 abbrev pub Publishes : Script → Content → List Entry → List EventEnd → Type 0
-Publishes w opening journal xs = AreOwn journal → (j t a : ℕ) (d : Doing) (es : List Entry) → EndedIn w xs journal j (Attempt t a) d (ends.Task tasks.Done) es → d.op ≡ ops.Commit
+Publishes w opening journal xs = AreOwn journal → (j t a : ℕ) (d : Doing) (es : List Entry)
+    → EndedIn w xs journal j (Attempt t a) d (ends.Task tasks.Done) es → d.op ≡ ops.Commit
     → has_cleaned (clean_event w xs) (until_last (Attempt t a) (until (j + 1) journal)) ≡ false → WasPublished w opening journal t a (j + 1)
 
 -- the driver's abort or clean; where it is Done and nobody else has sent from the beginning of its event to its own last entry, nothing
@@ -72,20 +98,24 @@ CleansEnd w opening journal xs = (j : ℕ) (d : Doing) (e : CleanEnd) (es : List
     → Cleaned w (moment opening journal (length (before d.since journal))) (moment opening journal (length last)))
 
 -- the driver's commit, where no stranger sends: the end that is due, and what it leaves
-pub record CommitEnds (w : Script) (opening : Content) (journal : List Entry) (xs : List EventEnd) (j : ℕ) (d : Doing) (e : CommitEnd) (es : List Entry) : Type 0 where
+pub record CommitEnds (w : Script) (opening : Content) (journal : List Entry) (xs : List EventEnd) (j : ℕ) (d : Doing) (e : CommitEnd)
+    (es : List Entry) : Type 0 where
   pub due : AreOwn journal → CommitEnded w (seen_until w opening journal xs (j + 1)) d.reports.missing es e
   -- where it ended Committed its marker stands
   pub marked : e ≡ commits.Committed → AreOwn journal → is_marked w (seen_until w opening journal xs (j + 1)) ≡ true
   -- before anything was deleted or completed the destination shows its opening files, at each moment of the run
-  pub untouched : is_untouched e ≡ true → AreOwn journal → (m : ℕ) → m ≤ length journal → Same (view w.dest (moment opening journal m).content) (view w.dest opening)
+  pub untouched : is_untouched e ≡ true → AreOwn journal → (m : ℕ) → m ≤ length journal
+      → Same (view w.dest (moment opening journal m).content) (view w.dest opening)
   -- a revert leaves no file of the job
-  pub reverted : e ≡ commits.StoreFault stages.Complete → NoDeletionWorn w.retries es → AreOwn journal → OnlyOpening w opening (moment opening journal (length (until (j + 1) journal))).content
+  pub reverted : e ≡ commits.StoreFault stages.Complete → NoDeletionWorn w.retries es → AreOwn journal
+      → OnlyOpening w opening (moment opening journal (length (until (j + 1) journal))).content
   -- a set that it read was there, and a completion was refused only where an earlier sending of it was lost
   pub served : AreOwn journal → CommitServed w es
 
 -- each commit of the job that ended did so as is due, and left what it should
 abbrev pub CommitsEnd : Script → Content → List Entry → List EventEnd → Type 0
-CommitsEnd w opening journal xs = (j : ℕ) (d : Doing) (e : CommitEnd) (es : List Entry) → EndedIn w xs journal j Driver d (ends.Commit e) es → CommitEnds w opening journal xs j d e es
+CommitsEnd w opening journal xs = (j : ℕ) (d : Doing) (e : CommitEnd) (es : List Entry) → EndedIn w xs journal j Driver d (ends.Commit e) es
+    → CommitEnds w opening journal xs j d e es
 
 -- ---- the promise
 

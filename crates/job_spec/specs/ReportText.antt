@@ -1,10 +1,20 @@
 -- The text of a report: a line per event with its end, per pick and per actor, the number of sendings and the status.
-use Rattle.std.specs.Prelude.{ℕ, nat_lt, cond, List, [], ◌∷◌, ◌++◌, codes}
-use Rattle.job_model.specs.Prelude.{zip, enumerate_from, join_by, actor_text}
-use Rattle.job_protocol.specs.Prelude.{flat_map, decimal, Actor, Driver, Who, actor_of, Script, Event, ActorEnd, EventEnd, Done, Ended, Mixed, Pick, ActorState}
-use Rattle.job_model.specs.Words.{spaced, event_text, outcome_text, fault_word, life_word, stage_word}
-use Rattle.job_model.specs.declared.ends.EventEnd.TheVariants.{Refused}
+use Rattle.job_model.specs.Attempts.{Who, actor_of}
+use Rattle.job_model.specs.JobScript.{Script}
+use Rattle.job_model.specs.Words.{event_text, fault_word, life_word, outcome_text, spaced, stage_word}
+use Rattle.job_model.specs.declared.ends.ActorEnd.{ActorEnd}
+use Rattle.job_model.specs.declared.ends.EventEnd.{EventEnd}
+use Rattle.job_model.specs.declared.ends.EventEnd.TheVariants.{Done, Ended, Mixed, Refused}
+use Rattle.job_model.specs.declared.ends.Pick.{Pick}
+use Rattle.job_model.specs.declared.events.Event.{Event}
+use Rattle.job_model.specs.declared.states.ActorState.{ActorState}
 use Rattle.job_spec.specs.States.{Past, past}
+use Rattle.s3_types.specs.Spelling.{actor_text}
+use Rattle.s3_types.specs.declared.request.Actor.{Actor}
+use Rattle.s3_types.specs.declared.request.Actor.TheVariants.{Driver}
+use Rattle.std.specs.Fmt.{decimal}
+use Rattle.std.specs.List.{enumerate_from, flat_map, join_by, zip}
+use Rattle.std.specs.Prelude.{List, codes, cond, nat_lt, ℕ, [], ◌++◌, ◌∷◌}
 
 -- a line of words, ended by LF
 abbrev pub line : List (List ℕ) → List ℕ

@@ -1,9 +1,31 @@
 -- Lives and stages of a job's actors, what each began last, and what its driver knows: one fold over its events and their ends.
-use Rattle.std.specs.Prelude.{Bool, List, None, Option, Some, [], cond, false, map, nat_eq, not, suc, true, zero, ℕ, ◌&&◌, ◌+◌, ◌||◌, ◌∷◌, if◌then◌else◌}
-use Rattle.job_protocol.specs.Prelude.{Abort, Actor, ActorEnd, ActorStage, ActorState, Attempt, Busy, CleanEnd, CommitEnd, Dead, Do, Done, Driver, Ended, Event, EventEnd, EventFault, Idle, Kill, Life, Mix, Mixed, Op, OpEnd, Recover, Reports, Restart, Run, Script, SetupEnd, Shell, Start, Step, TaskEnd, Times, actor_of, filter, list_any}
-use Rattle.job_model.specs.declared.events.Op.TheVariants.{Clean, Commit, Setup, Write}
+use Rattle.job_model.specs.Attempts.{actor_of}
+use Rattle.job_model.specs.JobScript.{Script}
+use Rattle.job_model.specs.declared.ends.ActorEnd.{ActorEnd}
 use Rattle.job_model.specs.declared.ends.CheckEnd.{CheckEnd}
-use Rattle.job_model.specs.declared.ends.EventEnd.TheVariants.{Refused}
+use Rattle.job_model.specs.declared.ends.CleanEnd.{CleanEnd}
+use Rattle.job_model.specs.declared.ends.CommitEnd.{CommitEnd}
+use Rattle.job_model.specs.declared.ends.EventEnd.{EventEnd}
+use Rattle.job_model.specs.declared.ends.EventEnd.TheVariants.{Done, Ended, Mixed, Refused}
+use Rattle.job_model.specs.declared.ends.EventFault.{EventFault}
+use Rattle.job_model.specs.declared.ends.OpEnd.{OpEnd}
+use Rattle.job_model.specs.declared.ends.SetupEnd.{SetupEnd}
+use Rattle.job_model.specs.declared.ends.TaskEnd.{TaskEnd}
+use Rattle.job_model.specs.declared.events.Event.{Event}
+use Rattle.job_model.specs.declared.events.Event.TheVariants.{Do, Kill, Mix, Recover, Restart, Run, Start, Step}
+use Rattle.job_model.specs.declared.events.Op.{Op}
+use Rattle.job_model.specs.declared.events.Op.TheVariants.{Abort, Clean, Commit, Setup, Write}
+use Rattle.job_model.specs.declared.states.ActorStage.{ActorStage}
+use Rattle.job_model.specs.declared.states.ActorState.{ActorState}
+use Rattle.job_model.specs.declared.states.Life.{Life}
+use Rattle.job_model.specs.declared.states.Life.TheVariants.{Busy, Dead, Idle}
+use Rattle.job_protocol.specs.Operations.{Reports}
+use Rattle.job_protocol.specs.Seen.{Times}
+use Rattle.s3_types.specs.declared.request.Actor.{Actor}
+use Rattle.s3_types.specs.declared.request.Actor.TheVariants.{Attempt, Driver, Shell}
+use Rattle.std.specs.List.{filter, list_any}
+use Rattle.std.specs.Prelude.{Bool, List, None, Option, Some, cond, false, if◌then◌else◌, map, nat_eq, not, suc, true, zero, ℕ, [], ◌&&◌}
+use Rattle.std.specs.Prelude.{◌+◌, ◌||◌, ◌∷◌}
 use Rattle.job_model.specs.declared.ends.SetupEnd.TheVariants as setups
 use Rattle.job_model.specs.declared.ends.TaskEnd.TheVariants as tasks
 use Rattle.job_model.specs.declared.ends.CheckEnd.TheVariants as checks
@@ -173,7 +195,11 @@ kill p a = record p { state = put p.state a (dead (p.state a).stage) }
 
 -- a new driver, which knows no report of the earlier ones
 abbrev pub restart : Past → Past
-restart p = record p { state = put p.state Driver (idle (restarted (p.state Driver).stage)); attempt = p.attempt + 1; reported = λ a. false }
+restart p = record p {
+  state = put p.state Driver (idle (restarted (p.state Driver).stage));
+  attempt = p.attempt + 1;
+  reported = λ a. false;
+}
 
 -- what an event that is not refused does before its requests
 abbrev pub open_event : Script → Past → Event → Past
@@ -265,7 +291,15 @@ after_event w p ev end = count (end_ops (open_event w p ev) (told ev end))
 
 -- all begin idle and new
 abbrev pub nothing_past : Past
-nothing_past = record { events = 0; state = λ a. idle stage.New; doing = λ a. None; attempt = 1; reported = λ a. false; setup = NotBegun; commit = NotBegun }
+nothing_past = record {
+  events = 0;
+  state = λ a. idle stage.New;
+  doing = λ a. None;
+  attempt = 1;
+  reported = λ actor. false;
+  setup = NotBegun;
+  commit = NotBegun;
+}
 
 -- what is past after these events with these ends
 abbrev pub past_from : Script → Past → List Event → List EventEnd → Past
@@ -337,7 +371,8 @@ needs_set _ _ = true
 
 -- why an operation is refused to an actor who is idle, if it is
 abbrev pub refuse_op : ActorStage → Actor → Op → ActorStage → Option EventFault
-refuse_op driver a op s = if needs_set a op && is_new driver then Some faults.NotSet else (if may a op s then None else Some faults.WrongState)
+refuse_op driver a op s = if needs_set a op && is_new driver then Some faults.NotSet else
+    (if may a op s then None else Some faults.WrongState)
 
 -- who is dead or busy begins nothing
 abbrev pub refuse_begin : Life → Option EventFault → Option EventFault

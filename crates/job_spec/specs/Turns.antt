@@ -1,7 +1,22 @@
 -- Whose turn it is: which entries an event has.
-use Rattle.std.specs.Prelude.{◌≡◌, ℕ, zero, suc, ◌+◌, ◌*◌, ◌/◌, ◌%◌, ◌^◌, ◌<◌, ◌≤◌, ◌&&◌, nat_eq, nat_le, nat_lt, Some, Bool, true, false, cond, List, [], ◌∷◌, ◌++◌, length, slice_get}
-use Rattle.job_protocol.specs.Prelude.{filter, list_any, Actor, Driver, Attempt, Shell, Entry, Script, Op, Event, Do, Start, Step, Run, Kill, Mix, Restart, OpEnd, EventEnd, Done, Ended, Mixed, ActorEnd, Life, Busy, ActorState}
-use Rattle.job_model.specs.Prelude.{remove}
+use Rattle.job_model.specs.JobScript.{Script}
+use Rattle.job_model.specs.declared.ends.ActorEnd.{ActorEnd}
+use Rattle.job_model.specs.declared.ends.EventEnd.{EventEnd}
+use Rattle.job_model.specs.declared.ends.EventEnd.TheVariants.{Done, Ended, Mixed}
+use Rattle.job_model.specs.declared.ends.OpEnd.{OpEnd}
+use Rattle.job_model.specs.declared.events.Event.{Event}
+use Rattle.job_model.specs.declared.events.Event.TheVariants.{Do, Kill, Mix, Restart, Run, Start, Step}
+use Rattle.job_model.specs.declared.events.Op.{Op}
+use Rattle.job_model.specs.declared.states.ActorState.{ActorState}
+use Rattle.job_model.specs.declared.states.Life.{Life}
+use Rattle.job_model.specs.declared.states.Life.TheVariants.{Busy}
+use Rattle.job_spec.specs.States.{actors, same_actor}
+use Rattle.s3_types.specs.declared.journal.Entry.{Entry}
+use Rattle.s3_types.specs.declared.request.Actor.{Actor}
+use Rattle.s3_types.specs.declared.request.Actor.TheVariants.{Attempt, Driver, Shell}
+use Rattle.std.specs.List.{filter, list_any, remove}
+use Rattle.std.specs.Prelude.{Bool, List, Some, cond, false, length, nat_eq, nat_le, nat_lt, slice_get, suc, true, zero, ℕ, [], ◌%◌, ◌&&◌}
+use Rattle.std.specs.Prelude.{◌*◌, ◌++◌, ◌+◌, ◌/◌, ◌<◌, ◌^◌, ◌∷◌, ◌≡◌, ◌≤◌}
 use Rattle.job_model.specs.declared.events.Op.TheVariants as ops
 use Rattle.job_model.specs.declared.ends.OpEnd.TheVariants as ends
 use Rattle.job_model.specs.declared.ends.TaskEnd.TheVariants as tasks
@@ -9,7 +24,6 @@ use Rattle.job_model.specs.declared.ends.SetupEnd.TheVariants as setups
 use Rattle.job_model.specs.declared.ends.CheckEnd.TheVariants as checks
 use Rattle.job_model.specs.declared.ends.CommitEnd.TheVariants as commits
 use Rattle.job_model.specs.declared.ends.CleanEnd.TheVariants as cleans
-use Rattle.job_spec.specs.States.{same_actor, actors}
 
 -- ---- parts of a journal
 
@@ -102,7 +116,8 @@ pub data Mixing (seed : ℕ) (first : List Actor) : List Entry → List ActorEnd
   -- it sends the last request of its operation
   mix_ends : (es : List Entry) (xs : List ActorEnd) (busy : List Actor) (e : Entry) (end : OpEnd) → Mixing seed first es xs busy
       → slice_get busy (place seed (length es + 1) (length busy)) ≡ Some e.actor
-      → Mixing seed first (es ++ e ∷ []) (xs ++ record { actor = e.actor; end = end } ∷ []) (remove busy (place seed (length es + 1) (length busy)))
+      → Mixing seed first (es ++ e ∷ []) (xs ++ record { actor = e.actor; end = end } ∷ [])
+      (remove busy (place seed (length es + 1) (length busy)))
   -- an actor finds no memory
   mix_dies : (es : List Entry) (xs : List ActorEnd) (busy : List Actor) (i : ℕ) (a : Actor) (end : OpEnd) → Mixing seed first es xs busy
       → slice_get busy i ≡ Some a → is_memory end ≡ true → Mixing seed first es (xs ++ record { actor = a; end = end } ∷ []) (remove busy i)

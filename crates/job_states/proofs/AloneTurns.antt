@@ -1,5 +1,11 @@
 -- Turns of one actor, one after another.
-use Rattle.job_states.proofs.Common.{Actor, AllBy, Beside, Bool, Died, Ended, Ending, Entry, GoesOn, Going, List, Ran, StepEnds, Table, Turned, [], ap, append-nil, append_assoc, arith, false, length, length-append, refl, sym, true, ℕ, ◌++◌, ◌+◌, ◌<◌, ◌∙◌, ◌∷◌, ◌≡◌, ◌≤◌}
+use Rattle.job_spec.specs.Turns.{AllBy, StepEnds}
+use Rattle.job_states.specs.Turning.{Beside, Ending, Going, Ran, Table, Turned}
+use Rattle.job_states.specs.declared.actors.Turn.TheVariants.{Died, Ended, GoesOn}
+use Rattle.s3_types.specs.declared.journal.Entry.{Entry}
+use Rattle.s3_types.specs.declared.request.Actor.{Actor}
+use Rattle.std.proofs.Common.{Bool, List, ap, append-nil, append_assoc, arith, false, length, length-append, refl, sym, true, ℕ, [], ◌++◌}
+use Rattle.std.proofs.Common.{◌+◌, ◌<◌, ◌∙◌, ◌∷◌, ◌≡◌, ◌≤◌}
 
 pub all_by_more : (a : Actor) (es : List Entry) (e : Entry) → AllBy a es → e.actor ≡ a → AllBy a (es ++ e ∷ [])
 all_by_more a [] e h is = (is, tt)
@@ -34,7 +40,8 @@ goes_on {place = place} {s = s} {t = t} {u = u} g turn =
     }
 
 -- it has ended, and has sent so far
-abbrev ran_on : {place : ℕ} {s t u : Table} → Going place s t → Beside place t u → Ending place t u → (part : List Entry) → AllBy (s.actor place) part → u.entries ≡ s.entries ++ part → Ran place s u
+abbrev ran_on : {place : ℕ} {s t u : Table} → Going place s t → Beside place t u → Ending place t u → (part : List Entry)
+    → AllBy (s.actor place) part → u.entries ≡ s.entries ++ part → Ran place s u
 ran_on {place = place} {s = s} {t = t} {u = u} g b e part by appended =
     let before = g.room in
     let after = e.room in
@@ -44,7 +51,8 @@ ran_on {place = place} {s = s} {t = t} {u = u} g b e part by appended =
       appended = appended;
       ending = record {
         end = e.end;
-        told = e.told ∙ ap (λ xs. xs ++ record { actor = t.actor place; end = e.end } ∷ []) g.ended ∙ ap (λ a. s.ended ++ record { actor = a; end = e.end } ∷ []) (g.actors place);
+        told = e.told ∙ ap (λ xs. xs ++ record { actor = t.actor place; end = e.end } ∷ []) g.ended ∙ ap
+            (λ a. s.ended ++ record { actor = a; end = e.end } ∷ []) (g.actors place);
         idle = e.idle;
         room = omega (arith, before, after);
       };
@@ -55,7 +63,8 @@ ran_on {place = place} {s = s} {t = t} {u = u} g b e part by appended =
 abbrev pub has_ended : {place : ℕ} {s t u : Table} → Going place s t → Turned place t u Ended → Ran place s u
 has_ended {place = place} {s = s} g turn =
     let x = turn.1.entry in
-    ran_on g turn.0 turn.2 (g.part ++ x ∷ []) (all_by_more (s.actor place) g.part x g.by (turn.1.by ∙ g.actors place)) (turn.1.appended ∙ ap (λ es. es ++ x ∷ []) g.appended ∙ append_assoc s.entries g.part (x ∷ []))
+    ran_on g turn.0 turn.2 (g.part ++ x ∷ []) (all_by_more (s.actor place) g.part x g.by (turn.1.by ∙ g.actors place))
+    (turn.1.appended ∙ ap (λ es. es ++ x ∷ []) g.appended ∙ append_assoc s.entries g.part (x ∷ []))
 
 abbrev pub has_died : {place : ℕ} {s t u : Table} → Going place s t → Turned place t u Died → Ran place s u
 has_died g turn = ran_on g turn.0 turn.2.0 g.part g.by (turn.1 ∙ g.appended)

@@ -1,5 +1,9 @@
 -- The choice of who sends next in a mix.
-use Rattle.job_states.proofs.Common.{List, Some, ap, arith, draw, false, get_or, length, mod_below, nat_tests, place, slice_get, slice_get-get_or, true, ℕ, ◌%◌, ◌*◌, ◌+◌, ◌/◌, ◌<◌, ◌==◌, ◌^◌, ◌≡◌}
+use Rattle.job_spec.specs.Turns.{draw, place}
+use Rattle.std.proofs.Common.{List, Some, ap, arith, false, get_or, length, slice_get, true, ℕ, ◌%◌, ◌*◌, ◌+◌, ◌/◌, ◌<◌, ◌==◌, ◌^◌, ◌≡◌}
+use Rattle.std.proofs.lemmas.Bool.Decides.{nat_tests}
+use Rattle.std.proofs.lemmas.Nat.{mod_below}
+use Rattle.std.proofs.lemmas.Option.{slice_get-get_or}
 
 pub next_drawn : (seed n drawn : ℕ) → drawn ≡ draw seed n → (1103515245 * drawn + 12345) % 2147483648 ≡ draw seed (n + 1)
 next_drawn seed n drawn h = grind arith
@@ -17,5 +21,6 @@ not_zero : (n : ℕ) → false ≡ (n == 0) → 0 < n
 not_zero n h = grind (arith, nat_tests)
 
 -- the element at a place that is taken modulo the length stands there
-pub picked : (busy : List ℕ) (l n x a : ℕ) → l ≡ length busy → false ≡ (l == 0) → n ≡ l → a ≡ get_or busy (x % n) a → slice_get busy (x % n) ≡ Some a
+pub picked : (busy : List ℕ) (l n x a : ℕ) → l ≡ length busy → false ≡ (l == 0) → n ≡ l → a ≡ get_or busy (x % n) a
+    → slice_get busy (x % n) ≡ Some a
 picked busy l n x a h g e f = grind (arith, not_zero, mod_below, slice_get-get_or)

@@ -7,4 +7,3 @@ pub mod AloneTurns
 pub mod MixPlaces
 pub mod Choices
 pub mod MixTurns
-mod Common

@@ -1,5 +1,10 @@
 -- Lists of places that are apart, and their actors.
-use Rattle.job_states.proofs.Common.{AreApart, IsNotIn, List, Some, [], ap, map, none_some, option_map, refl, remove, slice_get, slice_get-map, some_is, suc, sym, zero, ℕ, ◌∙◌, ◌∷◌, ◌≡◌}
+use Rattle.basics.proofs.Members.{none_some, some_is}
+use Rattle.job_states.specs.Mixes.{AreApart, IsNotIn}
+use Rattle.std.proofs.Common.{List, Some, ap, map, refl, slice_get, suc, sym, zero, ℕ, [], ◌∙◌, ◌∷◌, ◌≡◌}
+use Rattle.std.proofs.lemmas.Option.{slice_get-map}
+use Rattle.std.specs.List.{remove}
+use Rattle.std.specs.Prelude.{option_map}
 
 not_in_get : (a : ℕ) (xs : List ℕ) (i b : ℕ) → IsNotIn a xs → slice_get xs i ≡ Some b → b ≡ a → ⊥
 not_in_get a [] i b n e h = none_some refl e
@@ -19,14 +24,16 @@ remove_apart (x ∷ xs) zero h = h.1
 remove_apart (x ∷ xs) (suc p) h = (not_in_remove x xs p h.0, remove_apart xs p h.1)
 
 -- what is left behind a removal is another one that was there
-pub remove_get : (xs : List ℕ) (p a : ℕ) → AreApart xs → slice_get xs p ≡ Some a → (i b : ℕ) → slice_get (remove xs p) i ≡ Some b → (j : ℕ) × (slice_get xs j ≡ Some b) × (b ≡ a → ⊥)
+pub remove_get : (xs : List ℕ) (p a : ℕ) → AreApart xs → slice_get xs p ≡ Some a → (i b : ℕ) → slice_get (remove xs p) i ≡ Some b → (j : ℕ)
+    × (slice_get xs j ≡ Some b) × (b ≡ a → ⊥)
 remove_get [] p a h e i b g = absurd (none_some refl e)
 remove_get (x ∷ xs) zero a h e i b g = (suc i, g, λ s. not_in_get x xs i b h.0 g (s ∙ sym (some_is e)))
 remove_get (x ∷ xs) (suc p) a h e zero b g = (0, g, λ s. not_in_get x xs p a h.0 e (sym s ∙ sym (some_is g)))
 remove_get (x ∷ xs) (suc p) a h e (suc i) b g = let r = remove_get xs p a h.1 e i b g in (suc r.0, r.1, r.2)
 
 -- and another one that was there is left
-pub get_remove : (xs : List ℕ) (p a : ℕ) → slice_get xs p ≡ Some a → (j b : ℕ) → slice_get xs j ≡ Some b → (b ≡ a → ⊥) → (i : ℕ) × (slice_get (remove xs p) i ≡ Some b)
+pub get_remove : (xs : List ℕ) (p a : ℕ) → slice_get xs p ≡ Some a → (j b : ℕ) → slice_get xs j ≡ Some b → (b ≡ a → ⊥) → (i : ℕ)
+    × (slice_get (remove xs p) i ≡ Some b)
 get_remove [] p a e j b g ne = absurd (none_some refl e)
 get_remove (x ∷ xs) zero a e zero b g ne = absurd (ne (sym (some_is g) ∙ some_is e))
 get_remove (x ∷ xs) zero a e (suc j) b g ne = (j, g)

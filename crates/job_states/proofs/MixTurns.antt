@@ -1,12 +1,24 @@
 -- Turns of actors that are mixed.
-use Rattle.job_states.proofs.Common.{Actor, ActorEnd, AreApart, AreGoing, Beside, Died, Ended, Ending, Entry, GoesOn, List, Mixed, Mixes, Mixing, OpEnd, Some, Table, Turned, [], ap, append-nil, append_assoc, arith, draw, inl, inr, length, length-append, length-map, map, mix_begins, none_some, place, refl, remove, same_or_not, slice_get, slice_get_within, subst, sym, true≢false, ℕ, ◌%◌, ◌*◌, ◌++◌, ◌+◌, ◌/◌, ◌<◌, ◌^◌, ◌∙◌, ◌∷◌, ◌≡◌, ◌≤◌}
-use Rattle.std.proofs.lemmas.List.{nil_from_length}
+use Rattle.basics.proofs.Members.{none_some, same_or_not}
+use Rattle.job_model.specs.declared.ends.ActorEnd.{ActorEnd}
+use Rattle.job_model.specs.declared.ends.OpEnd.{OpEnd}
+use Rattle.job_spec.specs.Turns.{Mixing, draw, mix_begins, mix_dies, mix_ends, mix_sends, place}
+use Rattle.job_states.proofs.Choices.{next_drawn, place_is}
+use Rattle.job_states.proofs.MixPlaces.{get_map, get_remove, remove_apart, remove_get, remove_map}
+use Rattle.job_states.specs.Mixes.{AreApart, AreGoing, Mixed, Mixes}
+use Rattle.job_states.specs.Turning.{Beside, Ending, Table, Turned}
+use Rattle.job_states.specs.declared.actors.Turn.TheVariants.{Died, Ended, GoesOn}
+use Rattle.s3_types.specs.declared.journal.Entry.{Entry}
+use Rattle.s3_types.specs.declared.request.Actor.{Actor}
+use Rattle.std.proofs.Common.{List, Some, ap, append-nil, append_assoc, arith, inl, inr, length, length-append, map, refl, slice_get, subst}
+use Rattle.std.proofs.Common.{sym, true≢false, ℕ, [], ◌%◌, ◌*◌, ◌++◌, ◌+◌, ◌/◌, ◌<◌, ◌^◌, ◌∙◌, ◌∷◌, ◌≡◌, ◌≤◌}
+use Rattle.std.proofs.lemmas.List.{length-map, nil_from_length}
 use Rattle.std.proofs.lemmas.List.Edits.{length-remove}
-use Rattle.job_spec.specs.Turns.{mix_sends, mix_ends, mix_dies}
-use Rattle.job_states.proofs.MixPlaces.{remove_apart, remove_get, get_remove, get_map, remove_map}
-use Rattle.job_states.proofs.Choices.{place_is, next_drawn}
+use Rattle.std.proofs.lemmas.Option.{slice_get_within}
+use Rattle.std.specs.List.{remove}
 
-pub mixes_begin : (seed : ℕ) (places : List ℕ) (drawn : ℕ) (s : Table) → AreApart places → AreGoing s places → length places ≤ s.room → drawn ≡ seed % 2 ^ 31 → drawn < 2 ^ 31 → Mixes seed places places drawn s s
+pub mixes_begin : (seed : ℕ) (places : List ℕ) (drawn : ℕ) (s : Table) → AreApart places → AreGoing s places → length places ≤ s.room
+    → drawn ≡ seed % 2 ^ 31 → drawn < 2 ^ 31 → Mixes seed places places drawn s s
 mixes_begin seed places drawn s apart going room is small = record {
   part = [];
   ends = [];
@@ -24,11 +36,14 @@ mixes_begin seed places drawn s apart going room is small = record {
   actors = λ q. refl;
 }
 
-module _ {seed : ℕ} {places busy : List ℕ} {drawn : ℕ} {s t : Table} (u : Table) (m : Mixes seed places busy drawn s t) (a p : ℕ) (at : slice_get busy p ≡ Some a) where
+module _ {seed : ℕ} {places busy : List ℕ} {drawn : ℕ} {s t : Table} (u : Table) (m : Mixes seed places busy drawn s t) (a p : ℕ)
+    (at : slice_get busy p ≡ Some a) where
   -- the place where the chosen actor stands
-  chosen : (n next : ℕ) → next ≡ (1103515245 * drawn + 12345) % 2147483648 → p ≡ next / 65536 % n → n ≡ length busy → p ≡ place seed (length m.part + 1) (length (map s.actor busy))
+  chosen : (n next : ℕ) → next ≡ (1103515245 * drawn + 12345) % 2147483648 → p ≡ next / 65536 % n → n ≡ length busy
+      → p ≡ place seed (length m.part + 1) (length (map s.actor busy))
   chosen n next next_is p_is n_is =
-      p_is ∙ ap (λ v. next / 65536 % v) (n_is ∙ sym (length-map busy s.actor)) ∙ ap (λ v. v / 65536 % length (map s.actor busy)) next_is ∙ place_is seed (length m.part) drawn (length (map s.actor busy)) m.drawn
+      p_is ∙ ap (λ v. next / 65536 % v) (n_is ∙ sym (length-map busy s.actor)) ∙ ap (λ v. v / 65536 % length (map s.actor busy)) next_is ∙
+      place_is seed (length m.part) drawn (length (map s.actor busy)) m.drawn
 
   stands : (x : Actor) → x ≡ t.actor a → slice_get (map s.actor busy) p ≡ Some x
   stands x is = get_map s.actor busy p a at ∙ ap (λ v. Some v) (sym (is ∙ m.actors a))
@@ -36,7 +51,8 @@ module _ {seed : ℕ} {places busy : List ℕ} {drawn : ℕ} {s t : Table} (u : 
   longer : (e : Entry) → length m.part + 1 ≡ length (m.part ++ e ∷ [])
   longer e = sym (length-append m.part (e ∷ []))
 
-  pub mixes_on : (n next : ℕ) → next ≡ (1103515245 * drawn + 12345) % 2147483648 → next < 2 ^ 31 → p ≡ next / 65536 % n → n ≡ length busy → Turned a t u GoesOn → Mixes seed places busy next s u
+  pub mixes_on : (n next : ℕ) → next ≡ (1103515245 * drawn + 12345) % 2147483648 → next < 2 ^ 31 → p ≡ next / 65536 % n → n ≡ length busy
+      → Turned a t u GoesOn → Mixes seed places busy next s u
   mixes_on n next next_is small p_is n_is turn =
       let e = turn.1.entry in
       let room = m.room in
@@ -47,7 +63,8 @@ module _ {seed : ℕ} {places busy : List ℕ} {drawn : ℕ} {s t : Table} (u : 
         ends = m.ends;
         appended = turn.1.appended ∙ ap (λ es. es ++ e ∷ []) m.appended ∙ append_assoc s.entries m.part (e ∷ []);
         told = turn.3 ∙ m.told;
-        mixing = mix_sends m.part m.ends (map s.actor busy) e m.mixing (ap (slice_get (map s.actor busy)) (sym where_is) ∙ stands e.actor turn.1.by);
+        mixing = mix_sends m.part m.ends (map s.actor busy) e m.mixing (ap (slice_get (map s.actor busy)) (sym where_is) ∙ stands e.actor
+            turn.1.by);
         drawn = next_is ∙ next_drawn seed (length m.part) drawn m.drawn ∙ ap (draw seed) (longer e);
         small = small;
         apart = m.apart;
@@ -66,21 +83,25 @@ module _ {seed : ℕ} {places busy : List ℕ} {drawn : ℕ} {s t : Table} (u : 
       }
 
   -- without the actor at a place
-  mixes_less : (rest : List ℕ) (next : ℕ) → rest ≡ remove busy p → Beside a t u → Ending a t u → (part : List Entry) (end : OpEnd) → u.entries ≡ s.entries ++ part → next ≡ draw seed (length part) → next < 2 ^ 31
-      → Mixing seed (map s.actor places) part (m.ends ++ record { actor = t.actor a; end = end } ∷ []) (remove (map s.actor busy) p) → u.ended ≡ t.ended ++ record { actor = t.actor a; end = end } ∷ [] → Mixes seed places rest next s u
+  mixes_less : (rest : List ℕ) (next : ℕ) → rest ≡ remove busy p → Beside a t u → Ending a t u → (part : List Entry) (end : OpEnd)
+      → u.entries ≡ s.entries ++ part → next ≡ draw seed (length part) → next < 2 ^ 31
+      → Mixing seed (map s.actor places) part (m.ends ++ record { actor = t.actor a; end = end } ∷ []) (remove (map s.actor busy) p)
+      → u.ended ≡ t.ended ++ record { actor = t.actor a; end = end } ∷ [] → Mixes seed places rest next s u
   mixes_less rest next is b ending part end appended drawn small mixing told =
       let x : ActorEnd = record { actor = t.actor a; end = end } in
       let shorter : length (remove busy p) + 1 ≡ length busy = length-remove busy p (slice_get_within busy p a at) in
       let before = m.room in
       let same : length rest ≡ length (remove busy p) = ap length is in
       let room = ending.room in
-      let left : (i q : ℕ) → slice_get rest i ≡ Some q → (j : ℕ) × (slice_get busy j ≡ Some q) × (q ≡ a → ⊥) = λ i q g. remove_get busy p a m.apart at i q (ap (λ v. slice_get v i) (sym is) ∙ g) in
+      let left : (i q : ℕ) → slice_get rest i ≡ Some q → (j : ℕ) × (slice_get busy j ≡ Some q)
+      × (q ≡ a → ⊥) = λ i q g. remove_get busy p a m.apart at i q (ap (λ v. slice_get v i) (sym is) ∙ g) in
       record {
         part = part;
         ends = m.ends ++ x ∷ [];
         appended = appended;
         told = told ∙ ap (λ xs. xs ++ x ∷ []) m.told ∙ append_assoc s.ended m.ends (x ∷ []);
-        mixing = subst (Mixing seed (map s.actor places) part (m.ends ++ x ∷ [])) (sym (ap (map s.actor) is ∙ remove_map s.actor busy p)) mixing;
+        mixing = subst (Mixing seed (map s.actor places) part (m.ends ++ x ∷ [])) (sym (ap (map s.actor) is ∙ remove_map s.actor busy p))
+            mixing;
         drawn = drawn;
         small = small;
         apart = subst AreApart (sym is) (remove_apart busy p m.apart);
@@ -98,23 +119,29 @@ module _ {seed : ℕ} {places busy : List ℕ} {drawn : ℕ} {s t : Table} (u : 
         actors = λ q. b.actors q ∙ m.actors q;
       }
 
-  pub mixes_end : (n next : ℕ) (rest : List ℕ) → rest ≡ remove busy p → next ≡ (1103515245 * drawn + 12345) % 2147483648 → next < 2 ^ 31 → p ≡ next / 65536 % n → n ≡ length busy → Turned a t u Ended → Mixes seed places rest next s u
+  pub mixes_end : (n next : ℕ) (rest : List ℕ) → rest ≡ remove busy p → next ≡ (1103515245 * drawn + 12345) % 2147483648 → next < 2 ^ 31
+      → p ≡ next / 65536 % n → n ≡ length busy → Turned a t u Ended → Mixes seed places rest next s u
   mixes_end n next rest is next_is small p_is n_is turn =
       let e = turn.1.entry in
       let end = turn.2.end in
       let where_is = chosen n next next_is p_is n_is in
-      let P : ℕ → Actor → Type 0 = λ v x. Mixing seed (map s.actor places) (m.part ++ e ∷ []) (m.ends ++ record { actor = x; end = end } ∷ []) (remove (map s.actor busy) v) in
-      mixes_less rest next is turn.0 turn.2 (m.part ++ e ∷ []) end (turn.1.appended ∙ ap (λ es. es ++ e ∷ []) m.appended ∙ append_assoc s.entries m.part (e ∷ []))
+      let P : ℕ → Actor → Type 0 = λ v x. Mixing seed (map s.actor places) (m.part ++ e ∷ [])
+      (m.ends ++ record { actor = x; end = end } ∷ []) (remove (map s.actor busy) v) in
+      mixes_less rest next is turn.0 turn.2 (m.part ++ e ∷ []) end (turn.1.appended ∙ ap (λ es. es ++ e ∷ []) m.appended ∙ append_assoc
+      s.entries m.part (e ∷ []))
       (next_is ∙ next_drawn seed (length m.part) drawn m.drawn ∙ ap (draw seed) (longer e)) small
-      (subst (P p) turn.1.by (subst (λ v. P v e.actor) (sym where_is) (mix_ends m.part m.ends (map s.actor busy) e end m.mixing (ap (slice_get (map s.actor busy)) (sym where_is) ∙ stands e.actor turn.1.by))))
+      (subst (P p) turn.1.by (subst (λ v. P v e.actor) (sym where_is) (mix_ends m.part m.ends (map s.actor busy) e end m.mixing
+      (ap (slice_get (map s.actor busy)) (sym where_is) ∙ stands e.actor turn.1.by))))
       turn.2.told
 
   pub mixes_die : (rest : List ℕ) → rest ≡ remove busy p → Turned a t u Died → Mixes seed places rest drawn s u
   mixes_die rest is turn =
       let y = turn.2.0 in
-      mixes_less rest drawn is turn.0 y m.part y.end (turn.1 ∙ m.appended) m.drawn m.small (mix_dies m.part m.ends (map s.actor busy) p (t.actor a) y.end m.mixing (stands (t.actor a) refl) turn.2.1) y.told
+      mixes_less rest drawn is turn.0 y m.part y.end (turn.1 ∙ m.appended) m.drawn m.small
+      (mix_dies m.part m.ends (map s.actor busy) p (t.actor a) y.end m.mixing (stands (t.actor a) refl) turn.2.1) y.told
 
-pub mixes_over : {seed : ℕ} {places busy : List ℕ} {drawn : ℕ} {s t : Table} → Mixes seed places busy drawn s t → length busy ≡ 0 → Mixed seed places s t
+pub mixes_over : {seed : ℕ} {places busy : List ℕ} {drawn : ℕ} {s t : Table} → Mixes seed places busy drawn s t → length busy ≡ 0
+    → Mixed seed places s t
 mixes_over {seed = seed} {places = places} {busy = busy} {s = s} {t = t} m none =
     let empty = nil_from_length busy none in
     let P : List ℕ → Type 0 = λ v. Mixing seed (map s.actor places) m.part m.ends (map s.actor v) in

@@ -1,7 +1,23 @@
 -- What is kept goes with the fold over events and ends.
-use Rattle.job_states.proofs.Common.{Actor, ActorEnd, ActorStage, ActorState, Bool, ChangesAt, Commit, Decided, Doing, Driver, Op, OpEnd, Option, Past, Script, Setup, Standing, arith, began, begin, begun_in, decide, decision, end_op, ended, ended_in, false, fresh, idle, is_commit, is_committing, is_done, is_known, is_reported, is_setup, kill, killed_in, option_map, put, renewed_in, report, restarted, standing, tested, told_by, true, ◌&&◌, ◌≡◌}
+use Rattle.job_model.specs.Attempts.{is_known}
+use Rattle.job_model.specs.JobScript.{Script}
+use Rattle.job_model.specs.declared.ends.ActorEnd.{ActorEnd}
+use Rattle.job_model.specs.declared.ends.OpEnd.{OpEnd}
+use Rattle.job_model.specs.declared.events.Op.{Op}
+use Rattle.job_model.specs.declared.events.Op.TheVariants.{Commit, Setup}
+use Rattle.job_model.specs.declared.states.ActorStage.{ActorStage}
+use Rattle.job_model.specs.declared.states.ActorState.{ActorState}
+use Rattle.job_spec.specs.States.{Decided, Doing, Past, begin, decide, end_op, ended, idle, is_commit, is_committing, is_done, is_reported}
+use Rattle.job_spec.specs.States.{is_setup, kill, put, report, restarted}
 use Rattle.job_states.proofs.ReportLemmas.{same_tests}
 use Rattle.job_states.proofs.ToldLemmas.{told_more}
+use Rattle.job_states.specs.Standing.{began, begun_in, decision, ended_in, fresh, killed_in, renewed_in, standing}
+use Rattle.job_states.specs.Stands.{ChangesAt, tested, told_by}
+use Rattle.job_states.specs.declared.standing.Standing.{Standing}
+use Rattle.s3_types.specs.declared.request.Actor.{Actor}
+use Rattle.s3_types.specs.declared.request.Actor.TheVariants.{Driver}
+use Rattle.std.proofs.Common.{Bool, Option, arith, false, true, ◌&&◌, ◌≡◌}
+use Rattle.std.specs.Prelude.{option_map}
 
 -- ---- how one actor stands afterwards
 
@@ -9,17 +25,20 @@ pub changes_end : (w : Script) (p : Past) (x : ActorEnd) (s : Standing) → (is_
     → ChangesAt w x.actor (ended_in x.end s) (standing p) (standing (end_op p x))
 changes_end w p x s h = grind arith
 
-pub changes_kill : (w : Script) (p : Past) (a : Actor) (s : Standing) → (is_known w.attempts a ≡ true → s ≡ standing p a) → ChangesAt w a (killed_in s) (standing p) (standing (kill p a))
+pub changes_kill : (w : Script) (p : Past) (a : Actor) (s : Standing) → (is_known w.attempts a ≡ true → s ≡ standing p a)
+    → ChangesAt w a (killed_in s) (standing p) (standing (kill p a))
 changes_kill w p a s h = grind arith
 
 -- a new driver that still knows the reports
 abbrev pub renew : Past → Past
 renew p = record p { state = put p.state Driver (idle (restarted (p.state Driver).stage)) }
 
-pub changes_restart : (w : Script) (p : Past) (s : Standing) → (is_known w.attempts Driver ≡ true → s ≡ standing p Driver) → ChangesAt w Driver (renewed_in s) (standing p) (standing (renew p))
+pub changes_restart : (w : Script) (p : Past) (s : Standing) → (is_known w.attempts Driver ≡ true → s ≡ standing p Driver)
+    → ChangesAt w Driver (renewed_in s) (standing p) (standing (renew p))
 changes_restart w p s h = grind arith
 
-pub changes_begin : (w : Script) (p : Past) (a : Actor) (op : Op) (s : Standing) → (is_known w.attempts a ≡ true → s ≡ standing p a) → ChangesAt w a (begun_in a op s) (standing p) (standing (begin w p a op))
+pub changes_begin : (w : Script) (p : Past) (a : Actor) (op : Op) (s : Standing) → (is_known w.attempts a ≡ true → s ≡ standing p a)
+    → ChangesAt w a (begun_in a op s) (standing p) (standing (begin w p a op))
 changes_begin w p a op s h = grind arith
 
 -- ---- who is not of the job never commits
@@ -27,19 +46,24 @@ changes_begin w p a op s h = grind arith
 pub never : (e : OpEnd) (s : ActorStage) → is_committing s ≡ false → is_committing (ended e s).stage ≡ false
 never e s h = grind arith
 
-pub others_put : (w : Script) (p : Past) (a : Actor) (x : ActorState) → ((b : Actor) → is_known w.attempts b ≡ false → is_committing (p.state b).stage ≡ false) → (is_known w.attempts a ≡ false → is_committing x.stage ≡ false)
+pub others_put : (w : Script) (p : Past) (a : Actor) (x : ActorState)
+    → ((b : Actor) → is_known w.attempts b ≡ false → is_committing (p.state b).stage ≡ false)
+    → (is_known w.attempts a ≡ false → is_committing x.stage ≡ false)
     → (b : Actor) → is_known w.attempts b ≡ false → is_committing (put p.state a x b).stage ≡ false
 others_put w p a x h g b e = grind arith
 
 -- ---- what an end reports and decides
 
 -- what ends at a stage that is committing as much reports as much, by an attempt of the job alone
-pub same_report : (w : Script) (a : Actor) (s t : ActorStage) (e : OpEnd) (f : Actor → Bool) → is_committing s ≡ is_committing t → (is_known w.attempts a ≡ false → is_committing t ≡ false)
+pub same_report : (w : Script) (a : Actor) (s t : ActorStage) (e : OpEnd) (f : Actor → Bool) → is_committing s ≡ is_committing t
+    → (is_known w.attempts a ≡ false → is_committing t ≡ false)
     → tested w.tasks (told_by a (is_committing s && is_done e) (is_reported w f)) ≡ tested w.tasks (is_reported w (report a t e f))
 same_report w a s t e f h g = grind (arith, same_tests, told_more)
 
 -- the stage of a declared actor as it is kept, and of another one that has begun nothing
-pub same_stage : (w : Script) (p : Past) (a : Actor) (s : Standing) → ((b : Actor) → is_known w.attempts b ≡ false → is_committing (p.state b).stage ≡ false) → (is_known w.attempts a ≡ true → s ≡ standing p a) → (is_known w.attempts a ≡ false → s ≡ fresh)
+pub same_stage : (w : Script) (p : Past) (a : Actor) (s : Standing)
+    → ((b : Actor) → is_known w.attempts b ≡ false → is_committing (p.state b).stage ≡ false)
+    → (is_known w.attempts a ≡ true → s ≡ standing p a) → (is_known w.attempts a ≡ false → s ≡ fresh)
     → is_committing s.state.stage ≡ is_committing (p.state a).stage
 same_stage w p a s h g e = grind arith
 
@@ -49,6 +73,8 @@ setup_was d = grind arith
 pub commit_was : (d : Option Doing) → began Commit (option_map (λ q. q.op) d) ≡ is_commit d
 commit_was d = grind arith
 
-pub decides : (w : Script) (p : Past) (a : Actor) (e : OpEnd) (s : Standing) (op : Op) (is_it : Option Doing → Bool) (x : Decided) (b : Bool) → ((d : Option Doing) → began op (option_map (λ q. q.op) d) ≡ is_it d) → b ≡ began op s.begun → (is_known w.attempts a ≡ true → s ≡ standing p a)
+pub decides : (w : Script) (p : Past) (a : Actor) (e : OpEnd) (s : Standing) (op : Op) (is_it : Option Doing → Bool) (x : Decided)
+    (b : Bool) → ((d : Option Doing) → began op (option_map (λ q. q.op) d) ≡ is_it d) → b ≡ began op s.begun
+    → (is_known w.attempts a ≡ true → s ≡ standing p a)
     → decision (decide a b e x) ≡ decision (decide a (is_it (p.doing a)) e x)
 decides w p a e s op is_it x b h g f = grind arith

@@ -1,7 +1,17 @@
 -- One more attempt that has reported is one more task.
-use Rattle.job_states.proofs.Common.{Actor, Attempt, Bool, Declared, Driver, List, Script, Shell, Who, [], actor_of, ap, arith, drop, false, get_or, is_known, is_reported, is_some, length, lookup, map, nat_eq, nat_tests, put, refl, same_name, set, suc, take, tested, told_by, zero, ℕ, ◌&&◌, ◌++◌, ◌<◌, ◌||◌, ◌∷◌, ◌≡◌}
-use Rattle.std.specs.List.{list_any}
+use Rattle.job_model.specs.Attempts.{Declared, Who, actor_of, is_known, same_name}
+use Rattle.job_model.specs.JobScript.{Script}
+use Rattle.job_spec.specs.States.{is_reported, put}
 use Rattle.job_states.proofs.ReportLemmas.{same_tests}
+use Rattle.job_states.specs.Stands.{tested, told_by}
+use Rattle.s3_types.specs.declared.request.Actor.{Actor}
+use Rattle.s3_types.specs.declared.request.Actor.TheVariants.{Attempt, Driver, Shell}
+use Rattle.std.proofs.Common.{Bool, List, ap, arith, drop, false, get_or, length, map, nat_eq, refl, set, suc, take, zero, ℕ, [], ◌&&◌}
+use Rattle.std.proofs.Common.{◌++◌, ◌<◌, ◌||◌, ◌∷◌, ◌≡◌}
+use Rattle.std.proofs.lemmas.Bool.Decides.{nat_tests}
+use Rattle.std.specs.List.{list_any}
+use Rattle.std.specs.Map.{lookup}
+use Rattle.std.specs.Prelude.{is_some}
 
 of_declared : (ds : List Declared) (q : Who) (b : Bool) (f : Actor → Bool) (t : ℕ)
     → list_any (λ d. nat_eq d.0.task t && put f (actor_of q) (f (actor_of q) || b) (actor_of d.0)) ds

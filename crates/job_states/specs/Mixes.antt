@@ -1,7 +1,9 @@
 -- A mix of actors.
-use Rattle.std.specs.Prelude.{◌≡◌, ℕ, ◌^◌, ◌<◌, ◌≤◌, ◌⊎◌, true, false, List, [], ◌∷◌, ◌++◌, map, length, slice_get, Some}
-use Rattle.job_spec.specs.Prelude.{Entry, ActorEnd, Mixing, draw}
+use Rattle.job_model.specs.declared.ends.ActorEnd.{ActorEnd}
+use Rattle.job_spec.specs.Turns.{Mixing, draw}
 use Rattle.job_states.specs.Turning.{Table}
+use Rattle.s3_types.specs.declared.journal.Entry.{Entry}
+use Rattle.std.specs.Prelude.{List, Some, false, length, map, slice_get, true, ℕ, [], ◌++◌, ◌<◌, ◌^◌, ◌∷◌, ◌≡◌, ◌≤◌, ◌⊎◌}
 
 -- a number is none of these
 abbrev pub IsNotIn : ℕ → List ℕ → Type 0

@@ -1,11 +1,15 @@
 -- How an actor stands, and what became of the driver's operations, as they are kept.
-use Rattle.std.specs.Prelude.{Bool, true, false, ◌&&◌, ◌||◌, Option, Some, None, option_map}
-use Rattle.job_spec.specs.Prelude.{Actor, Op, OpEnd, Past, Decided, NotBegun, Unended, EndedSo, idle, dead, stage_begun, ended, restarted, end_verdict, is_committing, is_done}
+use Rattle.job_model.specs.declared.ends.OpEnd.{OpEnd}
+use Rattle.job_model.specs.declared.events.Op.{Op}
+use Rattle.job_spec.specs.States.{Decided, EndedSo, NotBegun, Past, Unended, dead, end_verdict, ended, idle, is_committing, is_done}
+use Rattle.job_spec.specs.States.{restarted, stage_begun}
+use Rattle.job_states.specs.declared.standing.Decision.{Decision}
+use Rattle.job_states.specs.declared.standing.Standing.{Standing}
+use Rattle.s3_types.specs.declared.request.Actor.{Actor}
+use Rattle.std.specs.Prelude.{Bool, None, Option, Some, false, option_map, true, ◌&&◌, ◌||◌}
 use Rattle.job_model.specs.declared.events.Op.TheVariants as ops
 use Rattle.job_model.specs.declared.states.Life.TheVariants as lives
 use Rattle.job_model.specs.declared.states.ActorStage.TheVariants as stages
-use Rattle.job_states.specs.declared.standing.Standing.{Standing}
-use Rattle.job_states.specs.declared.standing.Decision.{Decision}
 use Rattle.job_states.specs.declared.standing.Decision.TheVariants as kept
 
 -- an actor's state, the operation that it began last, and whether it has reported
@@ -18,11 +22,21 @@ fresh = record { state = idle stages.New; begun = None; reported = false }
 
 -- how one stands that begins an operation
 abbrev pub begun_in : Actor → Op → Standing → Standing
-begun_in a op s = record { state = record { life = lives.Busy; stage = stage_begun a op s.state.stage }; begun = Some op; reported = s.reported }
+begun_in a op s = record {
+  state = record { life = lives.Busy; stage = stage_begun a op s.state.stage };
+  begun = Some op;
+  reported =
+      s.reported;
+}
 
 -- how one stands whose operation ended
 abbrev pub ended_in : OpEnd → Standing → Standing
-ended_in end s = record { state = ended end s.state.stage; begun = s.begun; reported = s.reported || (is_committing s.state.stage && is_done end) }
+ended_in end s = record {
+  state = ended end s.state.stage;
+  begun = s.begun;
+  reported = s.reported ||
+      (is_committing s.state.stage && is_done end);
+}
 
 -- how one stands that was killed
 abbrev pub killed_in : Standing → Standing

@@ -1,11 +1,19 @@
 -- What is kept of a script's past.
-use Rattle.std.specs.Prelude.{◌≡◌, ℕ, ◌<◌, nat_eq, ◌+◌, ◌&&◌, ◌||◌, Bool, true, false, List, [], ◌∷◌, map, length, slice_get, Option, Some, None, is_some, IfSome, cond}
-use Rattle.job_spec.specs.Prelude.{range_with_len, Actor, Attempt, is_known, Script, Past, same_actor, actors, is_committing, is_reported, is_busy}
-use Rattle.job_states.specs.declared.standing.Standing.{Standing}
+use Rattle.job_model.specs.Attempts.{is_known}
+use Rattle.job_model.specs.JobScript.{Script}
+use Rattle.job_spec.specs.States.{Past, actors, is_committing, is_reported, same_actor}
+use Rattle.job_spec.specs.Turns.{is_busy}
+use Rattle.job_states.specs.Standing.{decision, standing}
 use Rattle.job_states.specs.declared.standing.Decision.{Decision}
-use Rattle.job_states.specs.Standing.{standing, decision}
+use Rattle.job_states.specs.declared.standing.Standing.{Standing}
+use Rattle.s3_types.specs.declared.request.Actor.{Actor}
+use Rattle.s3_types.specs.declared.request.Actor.TheVariants.{Attempt}
+use Rattle.std.specs.List.{range_with_len}
+use Rattle.std.specs.Prelude.{Bool, IfSome, List, None, Option, Some, cond, false, is_some, length, map, nat_eq, slice_get, true, ℕ, []}
+use Rattle.std.specs.Prelude.{◌&&◌, ◌+◌, ◌<◌, ◌||◌, ◌∷◌, ◌≡◌}
 
--- what is kept: the number of events, how each actor stands, the job attempt's number, for each task whether it is reported, and what became of the last set-up and of the commit
+-- what is kept: the number of events, how each actor stands, the job attempt's number, for each task whether it is reported, and what
+-- became of the last set-up and of the commit
 pub record Kept : Type 0 where
   pub events : ℕ
   pub actors : List Standing

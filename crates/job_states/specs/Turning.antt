@@ -1,8 +1,12 @@
 -- What turns of actors come to.
-use Rattle.std.specs.Prelude.{◌≡◌, ℕ, ◌+◌, ◌<◌, ◌≤◌, Bool, true, false, List, [], ◌∷◌, ◌++◌, length}
-use Rattle.job_spec.specs.Prelude.{Actor, Entry, ActorEnd, OpEnd, AllBy, StepEnds, is_memory}
+use Rattle.job_model.specs.declared.ends.ActorEnd.{ActorEnd}
+use Rattle.job_model.specs.declared.ends.OpEnd.{OpEnd}
+use Rattle.job_spec.specs.Turns.{AllBy, StepEnds, is_memory}
 use Rattle.job_states.specs.declared.actors.Turn.{Turn}
-use Rattle.job_states.specs.declared.actors.Turn.TheVariants.{GoesOn, Ended, Died}
+use Rattle.job_states.specs.declared.actors.Turn.TheVariants.{Died, Ended, GoesOn}
+use Rattle.s3_types.specs.declared.journal.Entry.{Entry}
+use Rattle.s3_types.specs.declared.request.Actor.{Actor}
+use Rattle.std.specs.Prelude.{Bool, List, false, length, true, ℕ, [], ◌++◌, ◌+◌, ◌<◌, ◌∷◌, ◌≡◌, ◌≤◌}
 
 -- what of actors matters to turns
 pub record Table : Type 0 where

@@ -1,5 +1,8 @@
 -- Actors that are the same or not, and what is put at one of them.
-use Rattle.job_steps.proofs.Common.{Actor, ap, arith, cond, false, false_true, inl, inr, put, same_actor, subst, sym, true, true_or_false, ◌∙◌, ◌≡◌, ◌⊎◌}
+use Rattle.basics.proofs.Members.{false_true, true_or_false}
+use Rattle.job_spec.specs.States.{put, same_actor}
+use Rattle.s3_types.specs.declared.request.Actor.{Actor}
+use Rattle.std.proofs.Common.{ap, arith, cond, false, inl, inr, subst, sym, true, ◌∙◌, ◌≡◌, ◌⊎◌}
 
 same_itself : (a : Actor) → same_actor a a ≡ true
 same_itself a = grind arith
@@ -23,9 +26,15 @@ pub put_other : {X : Type 0} (f : Actor → X) (k : Actor) (v : X) (q : Actor) �
 put_other f k v q ne = ap (λ b. cond b v (f q)) (same_false q k ne)
 
 -- what is put at an actor holds there, and what held elsewhere holds still
-pub one_put : {X : Type 0} (P : X → Type 0) (f : Actor → X) (c : Actor) (v : X) (q : Actor) → (q ≡ c → P v) → ((q ≡ c → ⊥) → P (f q)) → P (put f c v q)
-one_put P f c v q here old = elim (same_or_not q c) [ inl s ↦ subst P (sym (put_here f c v q s)) (here s) | inr ne ↦ subst P (sym (put_other f c v q ne)) (old ne) ]
+pub one_put : {X : Type 0} (P : X → Type 0) (f : Actor → X) (c : Actor) (v : X) (q : Actor) → (q ≡ c → P v) → ((q ≡ c → ⊥) → P (f q))
+    → P (put f c v q)
+one_put P f c v q here old = elim (same_or_not q c) [
+  | inl s ↦ subst P (sym (put_here f c v q s)) (here s)
+  | inr ne ↦ subst P
+      (sym (put_other f c v q ne)) (old ne)
+]
 
-pub both_put : {X Y : Type 0} (P : X → Y → Type 0) (f : Actor → X) (h : Actor → Y) (c : Actor) (v : X) (u : Y) (q : Actor) → (q ≡ c → P v u) → ((q ≡ c → ⊥) → P (f q) (h q))
+pub both_put : {X Y : Type 0} (P : X → Y → Type 0) (f : Actor → X) (h : Actor → Y) (c : Actor) (v : X) (u : Y) (q : Actor) → (q ≡ c → P v u)
+    → ((q ≡ c → ⊥) → P (f q) (h q))
     → P (put f c v q) (put h c u q)
 both_put P f h c v u q g e = grind arith

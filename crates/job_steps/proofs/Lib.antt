@@ -11,4 +11,3 @@ pub mod RunningSteps
 pub mod Running
 pub mod RunningCommits
 pub mod Reported
-mod Common

@@ -1,10 +1,28 @@
 -- Parts of a journal to which one entry is added.
-use Rattle.job_steps.proofs.Common.{Actor, AllFrom, AllUpTo, AreHonest, Bool, Entry, IsHonestOutcome, IsRising, List, Outcome, Request, Scene, Shell, Some, [], above_so, after_all, and-false, answer, ap, append-nil, arith, at_most_so, before, below_so, by_actor, cond, effect, false, false_true, filter, filter-append, inl, inr, is_own, length, nat_eq, nat_false, nat_le, nat_lt, none_some, of_event, own, refl, same_actor, since, slice_get, some_is, strange_entry, suc, take, take_all, true, true_or_false, until, zero, ℕ, ◌&&◌, ◌++◌, ◌+◌, ◌<◌, ◌∙◌, ◌∷◌, ◌≡◌, ◌≤◌, ◌⊎◌}
-use Rattle.basics.proofs.Naturals.{not_below}
+use Rattle.basics.proofs.Members.{false_true, nat_false, none_some, some_is, true_or_false}
+use Rattle.basics.proofs.Naturals.{above_so, at_most_so, below_so, not_below}
+use Rattle.job_facts.specs.Told.{strange_entry}
+use Rattle.job_spec.specs.States.{same_actor}
+use Rattle.job_spec.specs.Turns.{AllFrom, AllUpTo, IsRising, before, by_actor, is_own, of_event, own, since, until}
+use Rattle.s3_types.specs.Answer.{answer}
+use Rattle.s3_types.specs.Moment.{AreHonest, IsHonestOutcome, after_all, effect}
+use Rattle.s3_types.specs.Store.{Scene}
+use Rattle.s3_types.specs.declared.journal.Entry.{Entry}
+use Rattle.s3_types.specs.declared.journal.Outcome.{Outcome}
+use Rattle.s3_types.specs.declared.request.Actor.{Actor}
+use Rattle.s3_types.specs.declared.request.Actor.TheVariants.{Shell}
+use Rattle.s3_types.specs.declared.request.Request.{Request}
+use Rattle.std.proofs.Common.{Bool, List, Some, ap, append-nil, arith, cond, false, inl, inr, length, nat_eq, nat_le, nat_lt, refl}
+use Rattle.std.proofs.Common.{slice_get, suc, take, true, zero, ℕ, [], ◌&&◌, ◌++◌, ◌+◌, ◌<◌, ◌∙◌, ◌∷◌, ◌≡◌, ◌≤◌, ◌⊎◌}
+use Rattle.std.proofs.Math.Bool.{and-false}
+use Rattle.std.proofs.lemmas.List.{take_all}
+use Rattle.std.proofs.lemmas.List.Elements.{filter-append}
+use Rattle.std.specs.List.{filter}
 
 -- ---- any lists
 
-pub get_last : {X : Type 0} (xs : List X) (x : X) (i : ℕ) (y : X) → slice_get (xs ++ x ∷ []) i ≡ Some y → (slice_get xs i ≡ Some y) ⊎ ((i ≡ length xs) × (x ≡ y))
+pub get_last : {X : Type 0} (xs : List X) (x : X) (i : ℕ) (y : X) → slice_get (xs ++ x ∷ []) i ≡ Some y → (slice_get xs i ≡ Some y)
+    ⊎ ((i ≡ length xs) × (x ≡ y))
 get_last [] x zero y h = inr (refl, some_is h)
 get_last [] x (suc i) y h = absurd (none_some refl h)
 get_last (z ∷ xs) x zero y h = inl h
@@ -31,7 +49,8 @@ up_to_last n (x ∷ es) e all one = (all.0, up_to_last n es e all.1 one)
 
 pub up_to_part : (n : ℕ) (p : Entry → Bool) (es : List Entry) → AllUpTo n es → AllUpTo n (filter p es)
 up_to_part n p [] all = tt
-up_to_part n p (e ∷ es) all = elim (p e) as (λ b. AllUpTo n (cond b (e ∷ filter p es) (filter p es))) [ true ↦ (all.0, up_to_part n p es all.1) | false ↦ up_to_part n p es all.1 ]
+up_to_part n p (e ∷ es) all = elim (p e) as (λ b. AllUpTo n (cond b (e ∷ filter p es) (filter p es)))
+    [ true ↦ (all.0, up_to_part n p es all.1) | false ↦ up_to_part n p es all.1 ]
 
 pub from_last : (n : ℕ) (es : List Entry) (e : Entry) → AllFrom n es → n ≤ e.event → AllFrom n (es ++ e ∷ [])
 from_last n [] e h one = (one, tt)
@@ -39,7 +58,8 @@ from_last n (x ∷ es) e h one = (h.0, from_last n es e h.1 one)
 
 pub from_part : (n : ℕ) (p : Entry → Bool) (es : List Entry) → AllFrom n es → AllFrom n (filter p es)
 from_part n p [] all = tt
-from_part n p (e ∷ es) all = elim (p e) as (λ b. AllFrom n (cond b (e ∷ filter p es) (filter p es))) [ true ↦ (all.0, from_part n p es all.1) | false ↦ from_part n p es all.1 ]
+from_part n p (e ∷ es) all = elim (p e) as (λ b. AllFrom n (cond b (e ∷ filter p es) (filter p es)))
+    [ true ↦ (all.0, from_part n p es all.1) | false ↦ from_part n p es all.1 ]
 
 -- one more of the job's own
 pub from_own : (n : ℕ) (es : List Entry) (e : Entry) → AllFrom n (own es) → n ≤ e.event → AllFrom n (own (es ++ e ∷ []))
@@ -47,7 +67,11 @@ from_own n es e h g = grind (arith, kept, from_last, left_out)
 
 pub rising_last : (n : ℕ) (es : List Entry) (e : Entry) → AllUpTo n es → n ≤ e.event → IsRising es → IsRising (es ++ e ∷ [])
 rising_last n [] e all late h = (tt, tt)
-rising_last n (x ∷ es) e all late h = let one : x.event ≤ n = all.0 in (from_last x.event es e h.0 (omega arith), rising_last n es e all.1 late h.1)
+rising_last n (x ∷ es) e all late h = let one : x.event ≤ n = all.0 in (
+  from_last x.event es e h.0 (omega arith),
+  rising_last n es e all.1
+      late h.1,
+)
 
 -- ---- parts by events
 
@@ -74,7 +98,8 @@ since_none n es = none_taken (λ e. nat_le (n + 1) e.event) n es (λ e l. above_
 
 pub event_none : (n : ℕ) (es : List Entry) → AllUpTo n es → of_event (n + 1) es ≡ []
 event_none n es =
-    none_taken (λ e. is_own e.actor && nat_eq e.event (n + 1)) n es (λ e l. ap (λ b. is_own e.actor && b) (nat_false e.event (n + 1) (λ is. absurd (omega (arith, is, l)))) ∙ and-false (is_own e.actor))
+    none_taken (λ e. is_own e.actor && nat_eq e.event (n + 1)) n es (λ e l. ap (λ b. is_own e.actor && b)
+    (nat_false e.event (n + 1) (λ is. absurd (omega (arith, is, l)))) ∙ and-false (is_own e.actor))
 
 pub before_late : (k : ℕ) (es : List Entry) (e : Entry) → k ≤ e.event → before k (es ++ e ∷ []) ≡ before k es
 before_late k es e h = left_out (λ x. nat_lt x.event k) es e (not_below e.event k h)
@@ -86,19 +111,26 @@ pub until_late : (k : ℕ) (es : List Entry) (e : Entry) → k < e.event → unt
 until_late k es e h = left_out (λ x. nat_le x.event k) es e (above_so e.event k h)
 
 -- one more is of them or not
-pub until_either : (k : ℕ) (es : List Entry) (e : Entry) → (until k (es ++ e ∷ []) ≡ until k es) ⊎ (until k (es ++ e ∷ []) ≡ until k es ++ e ∷ [])
-until_either k es e = elim (true_or_false (nat_le e.event k)) [ inl is ↦ inr (kept (λ x. nat_le x.event k) es e is) | inr is ↦ inl (left_out (λ x. nat_le x.event k) es e is) ]
+pub until_either : (k : ℕ) (es : List Entry) (e : Entry) → (until k (es ++ e ∷ []) ≡ until k es)
+    ⊎ (until k (es ++ e ∷ []) ≡ until k es ++ e ∷ [])
+until_either k es e = elim (true_or_false (nat_le e.event k)) [
+  | inl is ↦ inr (kept (λ x. nat_le x.event k) es e is)
+  | inr is ↦ inl
+      (left_out (λ x. nat_le x.event k) es e is)
+]
 
 -- ---- parts by actors
 
-pub by_itself : (a : Actor) (es : List Entry) (e : Entry) → same_actor e.actor a ≡ true → by_actor a (es ++ e ∷ []) ≡ by_actor a es ++ e ∷ []
+pub by_itself : (a : Actor) (es : List Entry) (e : Entry) → same_actor e.actor a ≡ true
+    → by_actor a (es ++ e ∷ []) ≡ by_actor a es ++ e ∷ []
 by_itself a es e h = kept (λ x. same_actor x.actor a) es e h
 
 pub by_another : (a : Actor) (es : List Entry) (e : Entry) → same_actor e.actor a ≡ false → by_actor a (es ++ e ∷ []) ≡ by_actor a es
 by_another a es e h = left_out (λ x. same_actor x.actor a) es e h
 
 -- an actor of the job, and a stranger's entry
-pub by_own : (a : Actor) → is_own a ≡ true → (es : List Entry) (n : ℕ) (r : Request) (o : Outcome) → by_actor a (es ++ strange_entry n r o ∷ []) ≡ by_actor a es
+pub by_own : (a : Actor) → is_own a ≡ true → (es : List Entry) (n : ℕ) (r : Request) (o : Outcome)
+    → by_actor a (es ++ strange_entry n r o ∷ []) ≡ by_actor a es
 by_own Shell own es n r o = absurd (false_true refl own)
 by_own a own es n r o = by_another a es (strange_entry n r o) refl
 
@@ -110,6 +142,7 @@ own_own es n r o = left_out (λ e. is_own e.actor) es (strange_entry n r o) refl
 
 -- ---- answers
 
-pub honest_last : (s : Scene) (es : List Entry) (e : Entry) → AreHonest s es → IsHonestOutcome e.outcome (answer (after_all s es) e.request) → AreHonest s (es ++ e ∷ [])
+pub honest_last : (s : Scene) (es : List Entry) (e : Entry) → AreHonest s es → IsHonestOutcome e.outcome (answer (after_all s es) e.request)
+    → AreHonest s (es ++ e ∷ [])
 honest_last s [] e h one = (one, tt)
 honest_last s (x ∷ es) e h one = (h.0, honest_last (effect s x.request x.outcome) es e h.1 one)

@@ -1,6 +1,21 @@
 -- A task's commit never ends Kept; and a run may go on.
-use Rattle.job_steps.proofs.Common.{Ahead, Bool, Done, File, List, Magic, Option, Outcome, Play, Reply, Retried, Script, Some, TaskCommit, TaskCommitOver, TaskEnd, Uploaded, Who, [], arith, false, refl, step, step_so, task_commit_over, task_commit_start, true, ℕ, ◌++◌, ◌∷◌, ◌≡◌}
-use Rattle.job_facts.specs.Prelude.{reading, looked, storing, checking, to_check, uploaded, task_commit_start_by, task_commit_hears, task_commit_after, Walked}
+use Rattle.job_facts.proofs.Going.{step_so}
+use Rattle.job_model.specs.Attempts.{Who}
+use Rattle.job_model.specs.Files.{File}
+use Rattle.job_model.specs.JobScript.{Script}
+use Rattle.job_model.specs.declared.ends.EventEnd.TheVariants.{Done}
+use Rattle.job_model.specs.declared.ends.TaskEnd.{TaskEnd}
+use Rattle.job_protocol.specs.TaskCommits.{TaskCommit, TaskCommitOver, checking, looked, reading, storing, task_commit_after}
+use Rattle.job_protocol.specs.TaskCommits.{task_commit_hears, task_commit_over, task_commit_start, task_commit_start_by, to_check, uploaded}
+use Rattle.job_protocol.specs.Uploading.{Uploaded}
+use Rattle.job_steps.specs.Running.{Ahead}
+use Rattle.job_steps.specs.Transitions.{Play}
+use Rattle.list_walk.specs.Walks.{Walked}
+use Rattle.retries.specs.Retries.{Retried, step}
+use Rattle.s3_types.specs.declared.journal.Outcome.{Outcome}
+use Rattle.s3_types.specs.declared.reply.Reply.{Reply}
+use Rattle.s3_types.specs.declared.request.Committer.TheVariants.{Magic}
+use Rattle.std.proofs.Common.{Bool, List, Option, Some, arith, false, refl, true, ℕ, [], ◌++◌, ◌∷◌, ◌≡◌}
 use Rattle.job_model.specs.declared.ends.TaskEnd.TheVariants as tasks
 
 -- ---- a task's commit never ends Kept
@@ -28,11 +43,14 @@ module _ (w : Script) (a : Who) where
   free_uploaded : (f : File) (fs : List File) (u : Uploaded) → FreeCommit (uploaded w f fs u)
   free_uploaded f fs u = grind arith
 
-  free_heard : (minimum : ℕ) (t : TaskCommit) (x : Reply) (repeated : Bool) → FreeCommit t → FreeCommit (task_commit_hears w minimum a t x repeated)
+  free_heard : (minimum : ℕ) (t : TaskCommit) (x : Reply) (repeated : Bool) → FreeCommit t
+      → FreeCommit (task_commit_hears w minimum a t x repeated)
   free_heard minimum t x repeated h = grind (arith, free_looked, free_reading, free_checking, free_uploaded)
 
-  pub commit_goes : (minimum retries : ℕ) (t : Retried TaskCommit) (o : Outcome) → FreeCommit t.operation → FreeCommit (step retries (task_commit_after w minimum a) t o).operation
-  commit_goes minimum retries t o h = step_so retries (task_commit_after w minimum a) t o FreeCommit (λ x is. free_heard minimum t.operation x t.repeated h) (λ none. h) (λ none. refl)
+  pub commit_goes : (minimum retries : ℕ) (t : Retried TaskCommit) (o : Outcome) → FreeCommit t.operation
+      → FreeCommit (step retries (task_commit_after w minimum a) t o).operation
+  commit_goes minimum retries t o h = step_so retries (task_commit_after w minimum a) t o FreeCommit
+      (λ x is. free_heard minimum t.operation x t.repeated h) (λ none. h) (λ none. refl)
 
   pub commit_begins : FreeCommit (task_commit_start w a)
   commit_begins = elim w.committer as (λ c. FreeCommit (task_commit_start_by c w a)) [ Magic ↦ refl | _ ↦ free_checking (to_check w a) ]

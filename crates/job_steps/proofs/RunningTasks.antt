@@ -1,17 +1,42 @@
 -- What an attempt is at, by its life and stage.
-use Rattle.job_steps.proofs.Common.{Abort, ActorStage, Bool, Busy, Commit, Committer, Dead, Drawn, File, Got, Idle, Item, Known, Life, List, Magic, None, Op, OpEnd, Operation, Option, Outcome, Retried, Script, Setting, Some, TaskAbort, TaskEnd, TheTaskAbort, TheTaskCommit, TheWrite, Who, WornOut, Write, ap, arith, as_made, attempt_may, ended, false, false_true, files, is_committing, over, refl, step, step_so, subst, sym, task_abort_after, task_abort_by, task_abort_over, task_abort_start, task_commit_over, task_ended, tells, true, write_after, write_over, write_start, ℕ, ◌≡◌}
+use Rattle.basics.proofs.Members.{false_true}
+use Rattle.job_facts.proofs.Going.{step_so}
+use Rattle.job_model.specs.Attempts.{Who}
+use Rattle.job_model.specs.Files.{File}
+use Rattle.job_model.specs.JobScript.{Script}
+use Rattle.job_model.specs.Known.{Drawn, Known}
+use Rattle.job_model.specs.declared.ends.OpEnd.{OpEnd}
+use Rattle.job_model.specs.declared.ends.TaskEnd.{TaskEnd}
+use Rattle.job_model.specs.declared.events.Op.{Op}
+use Rattle.job_model.specs.declared.events.Op.TheVariants.{Abort, Commit, Write}
+use Rattle.job_model.specs.declared.states.ActorStage.{ActorStage}
+use Rattle.job_model.specs.declared.states.Life.{Life}
+use Rattle.job_model.specs.declared.states.Life.TheVariants.{Busy, Dead, Idle}
+use Rattle.job_protocol.specs.Knowledge.{as_made}
+use Rattle.job_protocol.specs.Operations.{Operation, Setting, TheTaskAbort, TheTaskCommit, TheWrite, over, tells}
+use Rattle.job_protocol.specs.Outputs.{files}
+use Rattle.job_protocol.specs.TaskAborts.{TaskAbort, task_abort_after, task_abort_by, task_abort_over, task_abort_start}
+use Rattle.job_protocol.specs.TaskCommits.{task_commit_over}
+use Rattle.job_protocol.specs.Writes.{write_after, write_over, write_start}
+use Rattle.job_spec.specs.States.{attempt_may, ended, is_committing, task_ended}
+use Rattle.job_steps.proofs.RunningCommits.{FreeCommit, commit_goes, is_kept}
+use Rattle.job_steps.proofs.RunningStages.{of_sort}
+use Rattle.retries.specs.Retries.{Got, Item, Retried, WornOut, step}
+use Rattle.s3_types.specs.declared.journal.Outcome.{Outcome}
+use Rattle.s3_types.specs.declared.request.Committer.{Committer}
+use Rattle.s3_types.specs.declared.request.Committer.TheVariants.{Magic}
+use Rattle.std.proofs.Common.{Bool, List, None, Option, Some, ap, arith, false, refl, subst, sym, true, ℕ, ◌≡◌}
 use Rattle.job_model.specs.declared.ends.TaskEnd.TheVariants as tasks
 use Rattle.job_model.specs.declared.ends.OpEnd.TheVariants as ends
 use Rattle.job_model.specs.declared.states.ActorStage.TheVariants as stage
 use Rattle.job_protocol.specs.Writes as writes
 use Rattle.job_protocol.specs.TaskAborts as aborts
-use Rattle.job_steps.proofs.RunningCommits.{is_kept, FreeCommit, commit_goes}
-use Rattle.job_steps.proofs.RunningStages.{of_sort}
 
 -- ---- ends that are never Kept
 
 -- an operation under retries stays so
-step_keeps : {M : Type 0} (P : M → Type 0) (retries : ℕ) (after : M → Item → M) (t : Retried M) (o : Outcome) → P t.operation → ((i : Item) → P (after t.operation i)) → P (step retries after t o).operation
+step_keeps : {M : Type 0} (P : M → Type 0) (retries : ℕ) (after : M → Item → M) (t : Retried M) (o : Outcome) → P t.operation
+    → ((i : Item) → P (after t.operation i)) → P (step retries after t o).operation
 step_keeps P retries after t o h next = step_so retries after t o P (λ x e. next (Got x t.repeated)) (λ none. h) (λ none. next WornOut)
 
 -- a write
@@ -98,17 +123,25 @@ attempt_dies s l d h = grind arith
 pub may_write : (s : ActorStage) (d : Option Operation) → AttemptAt s Idle d → attempt_may Write s ≡ true → d ≡ None
 may_write s d h g = grind arith
 
-pub written_is : (d : Option Operation) → HasWritten d → (spare : ℕ) × (repeated : Bool) × (d ≡ Some (TheWrite (record { operation = writes.WriteOver tasks.Done; spare = spare; repeated = repeated })))
-written_is (Some (TheWrite t)) h = (t.spare, t.repeated, ap (λ x. Some (TheWrite (record { operation = x; spare = t.spare; repeated = t.repeated }))) h)
+pub written_is : (d : Option Operation) → HasWritten d → (spare : ℕ) × (repeated : Bool)
+    × (d ≡ Some (TheWrite (record { operation = writes.WriteOver tasks.Done; spare = spare; repeated = repeated })))
+written_is (Some (TheWrite t)) h = (
+  t.spare,
+  t.repeated,
+  ap (λ x. Some
+      (TheWrite (record { operation = x; spare = t.spare; repeated = t.repeated }))) h,
+)
 written_is _ h = absurd h
 
 -- a commit where its write is done
-pub may_publish : (s : ActorStage) (d : Option Operation) → AttemptAt s Idle d → attempt_may Commit s ≡ true → (spare : ℕ) × (repeated : Bool) × (d ≡ Some (TheWrite (record { operation = writes.WriteOver tasks.Done; spare = spare; repeated = repeated })))
+pub may_publish : (s : ActorStage) (d : Option Operation) → AttemptAt s Idle d → attempt_may Commit s ≡ true → (spare : ℕ)
+    × (repeated : Bool) × (d ≡ Some (TheWrite (record { operation = writes.WriteOver tasks.Done; spare = spare; repeated = repeated })))
 may_publish stage.Written d h m = written_is d h
 may_publish _ d h m = absurd (false_true refl m)
 
 -- an abort: where the attempt is at nothing or its write is done, it is not to begin Kept
-pub may_abort : (s : ActorStage) (d : Option Operation) (t : Retried TaskAbort) → AttemptAt s Idle d → (d ≡ None → FreeAbort t.operation) → (HasWritten d → FreeAbort t.operation) → AttemptAt s Busy (Some (TheTaskAbort t))
+pub may_abort : (s : ActorStage) (d : Option Operation) (t : Retried TaskAbort) → AttemptAt s Idle d → (d ≡ None → FreeAbort t.operation)
+    → (HasWritten d → FreeAbort t.operation) → AttemptAt s Busy (Some (TheTaskAbort t))
 may_abort s d t h g e = grind arith
 
 -- ---- its operation ends
@@ -140,9 +173,12 @@ abbrev EndsWith : ActorStage → Operation → OpEnd → Type 0
 EndsWith s op e = AttemptAt (ended e s).stage (ended e s).life (Some op)
 
 pub attempt_ends : (s : ActorStage) (op : Operation) (e : OpEnd) → AttemptAt s Busy (Some op) → over op ≡ Some e → EndsWith s op e
-attempt_ends s (TheWrite t) e h o = of_sort ends.Task (EndsWith s (TheWrite t)) (write_over t.operation) e o (λ x is. task_ends s (TheWrite t) x h is)
-attempt_ends s (TheTaskCommit t) e h o = of_sort ends.Task (EndsWith s (TheTaskCommit t)) (task_commit_over t.operation) e o (λ x is. task_ends s (TheTaskCommit t) x h is)
-attempt_ends s (TheTaskAbort t) e h o = of_sort ends.Task (EndsWith s (TheTaskAbort t)) (task_abort_over t.operation) e o (λ x is. task_ends s (TheTaskAbort t) x h is)
+attempt_ends s (TheWrite t) e h o = of_sort ends.Task (EndsWith s (TheWrite t)) (write_over t.operation) e o
+    (λ x is. task_ends s (TheWrite t) x h is)
+attempt_ends s (TheTaskCommit t) e h o = of_sort ends.Task (EndsWith s (TheTaskCommit t)) (task_commit_over t.operation) e o
+    (λ x is. task_ends s (TheTaskCommit t) x h is)
+attempt_ends s (TheTaskAbort t) e h o = of_sort ends.Task (EndsWith s (TheTaskAbort t)) (task_abort_over t.operation) e o
+    (λ x is. task_ends s (TheTaskAbort t) x h is)
 attempt_ends s op e h o = absurd (busy_task s (Some op) h)
 
 -- ---- it goes on
@@ -153,7 +189,8 @@ held_hears g a k op o h = grind (arith, step_keeps, free_after, commit_goes, abo
 task_hears : (g : Setting) (a : Who) (op : Operation) (o : Outcome) → IsTask (Some op) → IsTask (Some (tells g a op o))
 task_hears g a op o h = grind arith
 
-pub attempt_hears : (g : Setting) (a : Who) (s : ActorStage) (op : Operation) (o : Outcome) → AttemptAt s Busy (Some op) → AttemptAt s Busy (Some (tells g a op o))
+pub attempt_hears : (g : Setting) (a : Who) (s : ActorStage) (op : Operation) (o : Outcome) → AttemptAt s Busy (Some op)
+    → AttemptAt s Busy (Some (tells g a op o))
 attempt_hears g a stage.New op o h = held_hears g a Abort op o h
 attempt_hears g a stage.Writing op o h = held_hears g a Write op o h
 attempt_hears g a stage.Written op o h = held_hears g a Abort op o h

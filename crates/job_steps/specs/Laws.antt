@@ -1,7 +1,12 @@
 -- The laws of this crate.
-use Rattle.std.specs.Prelude.{None, ◌≡◌}
-use Rattle.job_spec.specs.Prelude.{Content, IsHonest, IsLegal, Plays, Setting, past}
+use Rattle.job_model.specs.Legal.{IsLegal}
+use Rattle.job_protocol.specs.Operations.{Setting}
+use Rattle.job_spec.specs.Follows.{Plays}
+use Rattle.job_spec.specs.States.{past}
 use Rattle.job_steps.specs.Transitions.{Play, Reachable}
+use Rattle.s3_types.specs.Moment.{IsHonest}
+use Rattle.s3_types.specs.Store.{Content}
+use Rattle.std.specs.Prelude.{None, ◌≡◌}
 
 -- between events a run has done what its events say, by its journal and its ends alone
 pub record IsPlayed (g : Setting) (opening : Content) (x : Play) : Type 0 where
@@ -12,4 +17,5 @@ pub record IsPlayed (g : Setting) (opening : Content) (x : Play) : Type 0 where
 
 -- a run of allowed happenings does what its script's events say
 abbrev pub HappeningsPlay : Type 0
-HappeningsPlay = (g : Setting) (opening : Content) (x : Play) → IsLegal g.script → Reachable g opening x → x.now ≡ None → IsPlayed g opening x
+HappeningsPlay = (g : Setting) (opening : Content) (x : Play) → IsLegal g.script → Reachable g opening x → x.now ≡ None
+    → IsPlayed g opening x

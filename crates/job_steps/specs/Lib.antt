@@ -1,4 +1,3 @@
 pub mod Transitions
 pub mod Laws
 pub mod Running
-pub mod Prelude

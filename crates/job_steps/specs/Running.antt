@@ -1,10 +1,17 @@
 -- That what happens in a run is one of the job's runs, whose every moment is known.
-use Rattle.std.specs.Prelude.{◌≡◌, true, false, List, ◌∷◌, ◌++◌, Option, Some, None}
-use Rattle.job_facts.specs.Prelude.{Content, Driver, Who, actor_of, IsLegal, Event, EventEnd, Setting, Operation, Running, Times, known}
-use Rattle.job_traces.specs.Runs.{Stand, Runs, IsOpening, is_set}
+use Rattle.job_facts.specs.Told.{known}
+use Rattle.job_model.specs.Attempts.{Who, actor_of}
+use Rattle.job_model.specs.Legal.{IsLegal}
+use Rattle.job_model.specs.declared.ends.EventEnd.{EventEnd}
+use Rattle.job_model.specs.declared.events.Event.{Event}
+use Rattle.job_protocol.specs.Operations.{Operation, Running, Setting}
+use Rattle.job_protocol.specs.Seen.{Times}
+use Rattle.job_spec.specs.States.{is_new, is_refused, times}
 use Rattle.job_steps.specs.Transitions.{Play, Reachable, knows_now}
-use Rattle.job_spec.specs.Prelude.{times}
-use Rattle.job_spec.specs.States.{is_new, is_refused}
+use Rattle.job_traces.specs.Runs.{IsOpening, Runs, Stand, is_set}
+use Rattle.s3_types.specs.Store.{Content}
+use Rattle.s3_types.specs.declared.request.Actor.TheVariants.{Driver}
+use Rattle.std.specs.Prelude.{List, None, Option, Some, false, true, ◌++◌, ◌∷◌, ◌≡◌}
 
 -- the ends go on so, and the event that goes on is not to be refused
 pub record Ahead (x : Play) (ends : List EventEnd) : Type 0 where
@@ -32,4 +39,5 @@ pub record IsRun (g : Setting) (opening : Content) (x : Play) (k : Times) : Type
 
 -- a run of allowed happenings is one of the job's runs, request by request
 abbrev pub HappeningsRun : Type 0
-HappeningsRun = (g : Setting) (opening : Content) (x : Play) → IsLegal g.script → IsOpening g opening → Reachable g opening x → (ends : List EventEnd) → Ahead x ends → IsRun g opening x (times g.script ends)
+HappeningsRun = (g : Setting) (opening : Content) (x : Play) → IsLegal g.script → IsOpening g opening → Reachable g opening x
+    → (ends : List EventEnd) → Ahead x ends → IsRun g opening x (times g.script ends)

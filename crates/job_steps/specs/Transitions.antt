@@ -1,9 +1,29 @@
--- What happens in a run of a job, one thing after another, and where it leads. Between events strangers may send what leaves the job's own alone.
-use Rattle.std.specs.Prelude.{◌≡◌, ◌+◌, ◌≤◌, ◌^◌, ◌⊎◌, true, List, [], ◌∷◌, ◌++◌, length, slice_get, Option, Some, None}
-use Rattle.job_facts.specs.Prelude.{Content, Scene, answer, moment, IsHonestOutcome, Actor, Request, Outcome, Entry, actor_of, Known, Op, Event, Do, Start, ActorEnd, EventEnd, EventFault, Busy, knows, Setting, Operation, Running, who, wants, advance, start_of, over, strange_entry, IsForeign}
+-- What happens in a run of a job, one thing after another, and where it leads. Between events strangers may send what leaves the job's own
+-- alone.
+use Rattle.job_facts.specs.Foreign.{IsForeign}
+use Rattle.job_facts.specs.Told.{strange_entry}
+use Rattle.job_model.specs.Attempts.{actor_of}
+use Rattle.job_model.specs.Known.{Known}
+use Rattle.job_model.specs.declared.ends.ActorEnd.{ActorEnd}
+use Rattle.job_model.specs.declared.ends.EventEnd.{EventEnd}
 use Rattle.job_model.specs.declared.ends.EventEnd.TheVariants.{Refused}
-use Rattle.job_spec.specs.States.{count, reports}
-use Rattle.job_spec.specs.Prelude.{Past, Doing, put, refusal, open_event, end_op, told, nothing_past, of_event, by_actor, is_wanting, Turns}
+use Rattle.job_model.specs.declared.ends.EventFault.{EventFault}
+use Rattle.job_model.specs.declared.events.Event.{Event}
+use Rattle.job_model.specs.declared.events.Event.TheVariants.{Do, Start}
+use Rattle.job_model.specs.declared.events.Op.{Op}
+use Rattle.job_model.specs.declared.states.Life.TheVariants.{Busy}
+use Rattle.job_protocol.specs.Knowledge.{knows}
+use Rattle.job_protocol.specs.Operations.{Operation, Running, Setting, advance, over, start_of, wants, who}
+use Rattle.job_spec.specs.States.{Doing, Past, count, end_op, nothing_past, open_event, put, refusal, reports, told}
+use Rattle.job_spec.specs.Turns.{Turns, by_actor, is_wanting, of_event}
+use Rattle.s3_types.specs.Answer.{answer}
+use Rattle.s3_types.specs.Moment.{IsHonestOutcome, moment}
+use Rattle.s3_types.specs.Store.{Content, Scene}
+use Rattle.s3_types.specs.declared.journal.Entry.{Entry}
+use Rattle.s3_types.specs.declared.journal.Outcome.{Outcome}
+use Rattle.s3_types.specs.declared.request.Actor.{Actor}
+use Rattle.s3_types.specs.declared.request.Request.{Request}
+use Rattle.std.specs.Prelude.{List, None, Option, Some, length, slice_get, true, [], ◌++◌, ◌+◌, ◌^◌, ◌∷◌, ◌≡◌, ◌≤◌, ◌⊎◌}
 
 -- ---- how far a run has come
 
@@ -23,7 +43,15 @@ pub record Play : Type 0 where
 
 -- a run before its first event
 abbrev pub nothing_played : Play
-nothing_played = record { journal = []; ends = []; now = None; past = nothing_past; live = nothing_past; finished = []; running = λ a. None }
+nothing_played = record {
+  journal = [];
+  ends = [];
+  now = None;
+  past = nothing_past;
+  live = nothing_past;
+  finished = [];
+  running = λ a. None;
+}
 
 -- the store and the cluster then
 abbrev pub scene_of : Content → Play → Scene
@@ -74,12 +102,63 @@ hear g a (Some m) e = Some (advance g a m e.outcome)
 
 -- where a happening leads a run
 abbrev pub happen : Setting → Play → Transition → Play
-happen g x (Refuses f) = record { journal = x.journal; ends = x.ends ++ Refused f ∷ []; now = None; past = count x.past; live = count x.past; finished = []; running = x.running }
-happen g x (Opens ev) = record { journal = x.journal; ends = x.ends; now = Some ev; past = x.past; live = open_event g.script x.past ev; finished = []; running = open_running g x ev }
-happen g x (Sends e) = record { journal = x.journal ++ e ∷ []; ends = x.ends; now = x.now; past = x.past; live = x.live; finished = x.finished; running = put x.running e.actor (hear g e.actor (x.running e.actor) e) }
-happen g x (Finishes y) = record { journal = x.journal; ends = x.ends; now = x.now; past = x.past; live = end_op x.live y; finished = x.finished ++ y ∷ []; running = x.running }
-happen g x (Closes end) = record { journal = x.journal; ends = x.ends ++ end ∷ []; now = None; past = count x.live; live = count x.live; finished = []; running = x.running }
-happen g x (Strays r o) = record { journal = x.journal ++ strange_entry (length x.ends) r o ∷ []; ends = x.ends; now = x.now; past = x.past; live = x.live; finished = x.finished; running = x.running }
+happen g x (Refuses f) = record {
+  journal = x.journal;
+  ends = x.ends ++ Refused f ∷ [];
+  now = None;
+  past = count x.past;
+  live = count
+      x.past;
+  finished = [];
+  running = x.running;
+}
+happen g x (Opens ev) = record {
+  journal = x.journal;
+  ends = x.ends;
+  now = Some ev;
+  past = x.past;
+  live = open_event g.script x.past ev;
+  finished = [];
+  running = open_running g x ev;
+}
+happen g x (Sends e) = record {
+  journal = x.journal ++ e ∷ [];
+  ends = x.ends;
+  now = x.now;
+  past = x.past;
+  live = x.live;
+  finished =
+      x.finished;
+  running = put x.running e.actor (hear g e.actor (x.running e.actor) e);
+}
+happen g x (Finishes y) = record {
+  journal = x.journal;
+  ends = x.ends;
+  now = x.now;
+  past = x.past;
+  live = end_op x.live y;
+  finished =
+      x.finished ++ y ∷ [];
+  running = x.running;
+}
+happen g x (Closes end) = record {
+  journal = x.journal;
+  ends = x.ends ++ end ∷ [];
+  now = None;
+  past = count x.live;
+  live = count x.live;
+  finished = [];
+  running = x.running;
+}
+happen g x (Strays r o) = record {
+  journal = x.journal ++ strange_entry (length x.ends) r o ∷ [];
+  ends = x.ends;
+  now = x.now;
+  past = x.past;
+  live = x.live;
+  finished = x.finished;
+  running = x.running;
+}
 
 -- ---- when it may happen
 

@@ -11,4 +11,3 @@ pub mod Replacing
 pub mod Entries
 pub mod Changes
 pub mod Published
-mod Common

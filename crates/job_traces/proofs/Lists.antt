@@ -1,5 +1,5 @@
 -- Elements of a list that has more behind it.
-use Rattle.job_traces.proofs.Common.{List, [], arith, length, refl, slice_get, suc, zero, ℕ, ◌++◌, ◌<◌, ◌∷◌, ◌≡◌}
+use Rattle.std.proofs.Common.{List, arith, length, refl, slice_get, suc, zero, ℕ, [], ◌++◌, ◌<◌, ◌∷◌, ◌≡◌}
 
 pub slice_front : {X : Type 0} (xs ys : List X) (n : ℕ) → n < length xs → slice_get (xs ++ ys) n ≡ slice_get xs n
 slice_front [] ys n l = absurd (omega arith)

@@ -1,5 +1,22 @@
--- What is seen of one more entry: its scene, and that one which reads no set leaves the picks and one which puts no marker leaves the marker.
-use Rattle.job_traces.proofs.Common.{Bool, Clean, Commit, CommitOver, Decides, Driver, Entry, Fetching, List, Outcome, Plain, Replacing, Request, Reverting, Script, Seen, Setup, Some, Sweep, Times, Told, and-false, ap, arith, clean_asks, commit_asks, driver_entry, effect, false, false_true, inl, inr, is_begun, is_marking, is_picking, is_reading, refl, see, setup_asks, some_is, sweep_asks, sym, true, ℕ, ◌||◌, ◌∙◌, ◌≡◌}
+-- What is seen of one more entry: its scene, and that one which reads no set leaves the picks and one which puts no marker leaves the
+-- marker.
+use Rattle.basics.proofs.Members.{false_true, some_is}
+use Rattle.job_facts.proofs.Sharing.{Plain}
+use Rattle.job_facts.specs.Filed.{Decides}
+use Rattle.job_facts.specs.Told.{Told, driver_entry}
+use Rattle.job_model.specs.JobScript.{Script}
+use Rattle.job_protocol.specs.Cleanups.{Clean, clean_asks}
+use Rattle.job_protocol.specs.JobCommits.{Commit, CommitOver, Fetching, Replacing, Reverting, commit_asks}
+use Rattle.job_protocol.specs.Seen.{Seen, Times, is_begun, is_marking, is_picking, is_reading, see}
+use Rattle.job_protocol.specs.Setup.{Setup, setup_asks}
+use Rattle.list_walk.specs.Walks.{Sweep, sweep_asks}
+use Rattle.s3_types.specs.Moment.{effect}
+use Rattle.s3_types.specs.declared.journal.Entry.{Entry}
+use Rattle.s3_types.specs.declared.journal.Outcome.{Outcome}
+use Rattle.s3_types.specs.declared.request.Actor.TheVariants.{Driver}
+use Rattle.s3_types.specs.declared.request.Request.{Request}
+use Rattle.std.proofs.Common.{Bool, List, Some, ap, arith, false, inl, inr, refl, sym, true, ℕ, ◌||◌, ◌∙◌, ◌≡◌}
+use Rattle.std.proofs.Math.Bool.{and-false}
 
 pub one_scene : (w : Script) (k : Times) (s : Seen) (e : Entry) → (see w k s e).scene ≡ effect s.scene e.request e.outcome
 one_scene w k s e = grind arith
@@ -22,14 +39,16 @@ module _ (w : Script) (k : Times) (s : Seen) (n : ℕ) (r : Request) where
   driver_begun o = grind arith
 
 -- so does each entry but one of the driver that reads a set
-pub entry_picks : (w : Script) (k : Times) (s : Seen) (e : Entry) → (e.actor ≡ Driver → (t : ℕ) → is_reading w t e.request ≡ false) → (t : ℕ) → (see w k s e).picks t ≡ s.picks t
+pub entry_picks : (w : Script) (k : Times) (s : Seen) (e : Entry) → (e.actor ≡ Driver → (t : ℕ) → is_reading w t e.request ≡ false)
+    → (t : ℕ) → (see w k s e).picks t ≡ s.picks t
 entry_picks w k s e h t = grind (arith, plain_picks)
 
 -- a set-up's and an abort's or clean's are such
 pub setup_plain : (w : Script) (op : Setup) (r : Request) → setup_asks w op ≡ Some r → Plain w r
 setup_plain w op r h = grind arith
 
-pub clean_plain : (w : Script) (op : Clean) (r : Request) → clean_asks w op ≡ Some r → (is_marking w r ≡ false) × ((t : ℕ) → is_reading w t r ≡ false)
+pub clean_plain : (w : Script) (op : Clean) (r : Request) → clean_asks w op ≡ Some r → (is_marking w r ≡ false)
+    × ((t : ℕ) → is_reading w t r ≡ false)
 clean_plain w op r h = grind arith
 
 -- but in the first stage no request of a commit reads a set
@@ -37,10 +56,12 @@ abbrev pub is_read_stage : Commit → Bool
 is_read_stage (Fetching sets x) = true
 is_read_stage _ = false
 
-pub sweep_plain : (w : Script) (p : List ℕ) (x : Sweep) → (is_marking w (sweep_asks w.dest.bucket p x) ≡ false) × ((t : ℕ) → is_reading w t (sweep_asks w.dest.bucket p x) ≡ false)
+pub sweep_plain : (w : Script) (p : List ℕ) (x : Sweep) → (is_marking w (sweep_asks w.dest.bucket p x) ≡ false)
+    × ((t : ℕ) → is_reading w t (sweep_asks w.dest.bucket p x) ≡ false)
 sweep_plain w p x = grind arith
 
-pub commit_unread : (w : Script) (minimum : ℕ) (m : Told) (d : Commit) → is_read_stage d ≡ false → Decides w minimum m.publish_sent m.drawn d → (r : Request)
+pub commit_unread : (w : Script) (minimum : ℕ) (m : Told) (d : Commit) → is_read_stage d ≡ false
+    → Decides w minimum m.publish_sent m.drawn d → (r : Request)
     → commit_asks w d ≡ Some r → (t : ℕ) → is_reading w t r ≡ false
 commit_unread w minimum m (Fetching sets x) z d r e t = absurd (false_true z refl)
 commit_unread w minimum m (Replacing sets p ps x y) z d r e t = ap (is_reading w t) (sym (some_is e)) ∙ (sweep_plain w p x).1 t

@@ -1,11 +1,52 @@
--- What holds of a run's stand: before its set-up is done, while its commit goes on, and while it cleans up. How far the job has come no stranger can change; what a reader is shown is told of a run among no strangers.
-use Rattle.job_traces.proofs.Common.{Agrees, Bool, Commit, CommitEnd, CommitOver, Completing, Content, Decides, EmptiesBy, Entry, Fetching, FileStands, Filed, Fits, FitsClean, FitsJobCommit, FitsSparing, Gone, Hold, IsAttempt, IsBefore, IsIn, IsLegal, Kept, List, Marking, NoClusterFile, NoDeletionWorn, None, NoneEnded, Object, OnlyOpening, OnlyThose, Operation, Option, Picks, Replacing, Retried, Reverting, Same, Script, Seen, Sets, SetsUp, Setting, Setup, SetupOver, Some, Stand, Sweep, SweepsUnder, Tabled, TheCheck, TheClean, TheCommit, TheSetup, TheSparing, Told, Turns, Upload, Wants, Who, Whole, [], and_parts, ap, arith, at_id, at_key, below, cond, decided_so, done, false, false_true, inl, inr, is_decided, is_file_path, is_marked, is_no_magic, is_untouched, keeps_of, known, mark_text, none_or_some, none_some, not-true, nothing_told, option_map, or_else, picks_of, refl, replaced, same_wanted, success_key, sym, true, true_or_false, view, wanted_at, wanted_of, whole_of, ℕ, ◌++◌, ◌<◌, ◌∙◌, ◌∷◌, ◌≡◌, ◌⊎◌}
+-- What holds of a run's stand: before its set-up is done, while its commit goes on, and while it cleans up. How far the job has come no
+-- stranger can change; what a reader is shown is told of a run among no strangers.
+use Rattle.basics.proofs.Members.{false_true, none_or_some, none_some, true_or_false}
+use Rattle.basics.specs.Members.{IsIn}
+use Rattle.job_facts.proofs.Agreeing.{Agrees, decided_so}
+use Rattle.job_facts.proofs.FilePaths.{file_path}
+use Rattle.job_facts.proofs.Filing.{wanted_upload}
+use Rattle.job_facts.proofs.Wanted.{same_wanted, wanted_of}
+use Rattle.job_facts.specs.Driver.{FitsClean, FitsJobCommit, SweepsUnder}
+use Rattle.job_facts.specs.Emptying.{EmptiesBy, OnlyThose, SetsUp}
+use Rattle.job_facts.specs.Facts.{Hold, IsAttempt}
+use Rattle.job_facts.specs.Filed.{Decides, FileLeft, FileStands, Gone, IsBefore, Wants, whole_of}
+use Rattle.job_facts.specs.Fits.{Fits}
+use Rattle.job_facts.specs.Spares.{Filed, FitsSparing}
+use Rattle.job_facts.specs.Stores.{at_id, at_key}
+use Rattle.job_facts.specs.Told.{Told, known, nothing_told}
+use Rattle.job_facts.specs.Turning.{NoneEnded, Turns}
+use Rattle.job_model.specs.Attempts.{Who}
+use Rattle.job_model.specs.JobScript.{Script}
+use Rattle.job_model.specs.Legal.{IsLegal}
+use Rattle.job_model.specs.declared.ends.CommitEnd.{CommitEnd}
+use Rattle.job_protocol.specs.Conflicts.{keeps_of}
+use Rattle.job_protocol.specs.JobCommits.{Commit, CommitOver, Completing, Fetching, Marking, Replacing, Reverting, Sets, is_no_magic}
+use Rattle.job_protocol.specs.JobCommits.{is_untouched, picks_of, replaced}
+use Rattle.job_protocol.specs.LaneTable.{Tabled}
+use Rattle.job_protocol.specs.Operations.{Operation, Setting, TheCheck, TheClean, TheCommit, TheSetup, TheSparing}
+use Rattle.job_protocol.specs.Outputs.{Picks, is_decided, wanted_at}
+use Rattle.job_protocol.specs.Records.{mark_text}
+use Rattle.job_protocol.specs.Scope.{NoClusterFile}
+use Rattle.job_protocol.specs.Seen.{Seen, is_marked}
+use Rattle.job_protocol.specs.Setup.{Setup, SetupOver}
+use Rattle.job_protocol.specs.View.{Same, is_file_path, view}
+use Rattle.job_spec.specs.Headline.{Kept, Whole, done, or_else}
+use Rattle.job_spec.specs.OperationEnds.{NoDeletionWorn, OnlyOpening}
+use Rattle.job_traces.specs.Runs.{Stand}
+use Rattle.list_walk.specs.Walks.{Sweep}
+use Rattle.magic_paths.specs.Layout.{success_key}
+use Rattle.path_keys.specs.Paths.{below}
+use Rattle.retries.specs.Retries.{Retried}
+use Rattle.s3_types.specs.Store.{Content, Upload}
+use Rattle.s3_types.specs.declared.journal.Entry.{Entry}
+use Rattle.s3_types.specs.declared.object.Object.{Object}
+use Rattle.std.proofs.Common.{Bool, List, None, Option, Some, ap, arith, cond, false, inl, inr, refl, sym, true, ℕ, [], ◌++◌, ◌<◌, ◌∙◌, ◌∷◌}
+use Rattle.std.proofs.Common.{◌≡◌, ◌⊎◌}
+use Rattle.std.proofs.lemmas.Bool.{and_parts, not-true}
+use Rattle.std.specs.Option.{option_map}
 use Rattle.job_model.specs.declared.ends.CommitEnd.TheVariants as commits
 use Rattle.job_model.specs.declared.ends.Stage.TheVariants as stages
 use Rattle.job_model.specs.declared.ends.SetupEnd.TheVariants as setups
-use Rattle.job_facts.specs.Filed.{FileLeft}
-use Rattle.job_facts.proofs.FilePaths.{file_path}
-use Rattle.job_facts.proofs.Filing.{wanted_upload}
 
 module _ (g : Setting) (opening : Content) where
   abbrev pub w : Script
@@ -59,7 +100,8 @@ module _ (g : Setting) (opening : Content) where
 
   -- what is wanted stands as the commit says, and so does what is not
   pub record Files (c : Content) (picks : Picks) (ended : ℕ → Bool) (es : List Entry) (op : Commit) : Type 0 where
-    pub wanted : (q : List ℕ) → is_file_path q ≡ true → (b : List ℕ) → wanted_at w picks q ≡ Some b → FileStands w q b (first_at q) es (now_at c q) ended op
+    pub wanted : (q : List ℕ) → is_file_path q ≡ true → (b : List ℕ) → wanted_at w picks q ≡ Some b
+        → FileStands w q b (first_at q) es (now_at c q) ended op
     pub others : (q : List ℕ) → is_file_path q ≡ true → wanted_at w picks q ≡ None → OtherStands picks q (now_at c q) op
 
   -- how far a replace mode has come: below the prefixes behind it nothing is left that is to go
@@ -125,7 +167,8 @@ module _ (g : Setting) (opening : Content) where
     -- until the driver cleans up
     pub gone : x.told.cleaned ≡ false → Gone w x.seen.scene.content x.told
     pub fine : (a : Who) (op : Operation) → x.attempts a ≡ Some op → IsAttempt w a × Fits w g.minimum a x.told op
-    pub new : (a : Who) → x.attempts a ≡ None → (known x.told a ≡ record { drawn = []; put_sent = false; publish_sent = false }) × (x.told.undone a ≡ false)
+    pub new : (a : Who) → x.attempts a ≡ None → (known x.told a ≡ record { drawn = []; put_sent = false; publish_sent = false })
+        × (x.told.undone a ≡ false)
     pub filed : Filed w x.seen.scene
     pub driver : At x.driver x.seen x.told
 
@@ -167,7 +210,16 @@ module _ (g : Setting) (opening : Content) where
   unmarked_not s e h = false_true e (and_parts s.put_mark _ h).0
 
   pub kept_untouched : (s : Seen) → Untouched s.scene.content → s.put_mark ≡ false → Kept w opening s
-  kept_untouched s u e = let same = untouched_shows s.scene.content u in record { before = λ b. same; between = λ b. record { untouched = λ e. same; only = λ e p b q. inl (sym (same p) ∙ q); kept = λ e p b q k n. same p ∙ q }; whole = λ h. absurd (unmarked_not s e h) }
+  kept_untouched s u e = let same = untouched_shows s.scene.content u in record {
+    before = λ b. same;
+    between = λ b. record {
+      untouched = λ e. same;
+      only = λ e p b q. inl (sym (same p) ∙ q);
+      kept = λ e p b q k n.
+          same p ∙ q;
+    };
+    whole = λ h. absurd (unmarked_not s e h);
+  }
 
   -- ---- the commit
 
@@ -185,7 +237,8 @@ module _ (g : Setting) (opening : Content) where
     mixed_left q b end h = grind arith
 
     -- each wanted path shows what it showed, nothing, or the whole file
-    pub mixed : (q b : List ℕ) → wanted_at w picks q ≡ Some b → (d : Commit) → FitsJobCommit w g.minimum m.publish_sent m.drawn d → Agrees w picks d → FileStands w q b (first_at q) es (now_at c q) m.ended d → Mixed q b
+    pub mixed : (q b : List ℕ) → wanted_at w picks q ≡ Some b → (d : Commit) → FitsJobCommit w g.minimum m.publish_sent m.drawn d
+        → Agrees w picks d → FileStands w q b (first_at q) es (now_at c q) m.ended d → Mixed q b
     mixed q b e (Fetching sets n) fits a f = inl (inl f)
     mixed q b e (Replacing sets p ps x n) fits a f = inl f
     mixed q b e (Completing sets x xs finished) fits a f =
@@ -197,7 +250,8 @@ module _ (g : Setting) (opening : Content) where
     mixed q b e (Reverting r rs n) fits a (few, inr f) = inr f.0
     mixed q b e (CommitOver end) fits a f = mixed_left q b end f
 
-    first_by : (q : List ℕ) → ((b : List ℕ) → wanted_at w picks q ≡ Some b → now_at c q ≡ first_at q) → (wanted_at w picks q ≡ None → now_at c q ≡ first_at q)
+    first_by : (q : List ℕ) → ((b : List ℕ) → wanted_at w picks q ≡ Some b → now_at c q ≡ first_at q)
+        → (wanted_at w picks q ≡ None → now_at c q ≡ first_at q)
         → now_at c q ≡ first_at q
     first_by q wanted other = elim (none_or_some (wanted_at w picks q)) [ inl none ↦ other none | inr b ↦ wanted b.0 b.1 ]
 
@@ -215,7 +269,8 @@ module _ (g : Setting) (opening : Content) where
     still e (Completing sets x xs finished) i v q p = absurd (false_true e (decided_so w picks sets i.decides i.agrees))
     still e (Marking sets n) i v q p = absurd (false_true e (decided_so w picks sets i.decides i.agrees))
     still e (Reverting r rs n) i v q p = absurd (false_true e i.agrees.0)
-    still e (CommitOver end) i v q p = elim (true_or_false (is_untouched end)) [ inl y ↦ left_still end v y q p | inr y ↦ absurd (false_true e (i.agrees y)) ]
+    still e (CommitOver end) i v q p = elim (true_or_false (is_untouched end))
+        [ inl y ↦ left_still end v y q p | inr y ↦ absurd (false_true e (i.agrees y)) ]
 
     -- ---- and so the headline holds
 
@@ -241,7 +296,8 @@ module _ (g : Setting) (opening : Content) where
         | inr no_path ↦ absurd (none_some (hidden_is c q no_path) y)
         | inl p ↦
             let now : option_map (λ (o : Object). o.bytes) (now_at c q) ≡ Some b = sym (shown_is c q p) ∙ y in
-            let was : now_at c q ≡ first_at q → view w.dest opening q ≡ Some b = λ same. shown_is opening q p ∙ ap (option_map (λ (o : Object). o.bytes)) (sym same) ∙ now in
+            let was : now_at c q ≡ first_at q → view w.dest opening q ≡ Some b = λ same. shown_is opening q p ∙ ap
+            (option_map (λ (o : Object). o.bytes)) (sym same) ∙ now in
             let gone : now_at c q ≡ None → ⊥ = λ none. none_some (ap (option_map (λ (o : Object). o.bytes)) none) now in
             elim (none_or_some (wanted_at w picks q)) [
               | inl e ↦ elim (clearing q p e) [ inl same ↦ inl (was same) | inr none ↦ absurd (gone none.0) ]
@@ -261,9 +317,11 @@ module _ (g : Setting) (opening : Content) where
 
     all_shown : AllCleared → AllWhole → Same (view w.dest c) (done w picks (view w.dest opening))
     all_shown clear whole q = elim (none_or_some (wanted_at w picks q)) [
-      | inr b ↦ shown_is c q (shown_path q b.0 b.1) ∙ ap (option_map (λ (o : Object). o.bytes)) (whole q b.0 b.1) ∙ ap (λ o. or_else o (cond (keeps_of w picks q) (view w.dest opening q) None)) (sym b.1)
+      | inr b ↦ shown_is c q (shown_path q b.0 b.1) ∙ ap (option_map (λ (o : Object). o.bytes)) (whole q b.0 b.1) ∙ ap
+          (λ o. or_else o (cond (keeps_of w picks q) (view w.dest opening q) None)) (sym b.1)
       | inl e ↦ elim (true_or_false (keeps_of w picks q)) [
-        | inl keep ↦ view_same c opening q (λ p. clear q p e ∙ ap (λ t. cond t (first_at q) None) keep) ∙ ap (λ t. cond t (view w.dest opening q) None) (sym keep)
+        | inl keep ↦ view_same c opening q (λ p. clear q p e ∙ ap (λ t. cond t (first_at q) None) keep) ∙ ap
+            (λ t. cond t (view w.dest opening q) None) (sym keep)
         | inr drop ↦ elim (true_or_false (is_file_path q)) [
           | inl p ↦ shown_is c q p ∙ ap (option_map (λ (o : Object). o.bytes)) (clear q p e ∙ ap (λ t. cond t (first_at q) None) drop)
           | inr no_path ↦ hidden_is c q no_path
@@ -271,13 +329,17 @@ module _ (g : Setting) (opening : Content) where
       ] ∙ ap (λ o. or_else o (cond (keeps_of w picks q) (view w.dest opening q) None)) (sym e)
     ]
 
-    whole_now : is_decided w picks ≡ true → MarkSays c picks s.put_mark → AllCleared → AllWhole → is_marked w s ≡ true → Whole w (view w.dest opening) picks c
+    whole_now : is_decided w picks ≡ true → MarkSays c picks s.put_mark → AllCleared → AllWhole → is_marked w s ≡ true
+        → Whole w (view w.dest opening) picks c
     whole_now h g e f p = grind (arith, and_parts, not-true, all_shown)
 
     whole_by : (d : Commit) → InCommit picks m d → CommitShows s m.ended es d → is_marked w s ≡ true → Whole w (view w.dest opening) picks c
-    whole_by (Marking sets n) i v e = whole_now (decided_so w picks sets i.decides i.agrees) v.marks v.files.others (λ q b y. v.files.wanted q (shown_path q b y) b y) e
-    whole_by (CommitOver commits.Committed) i v e = whole_now (i.agrees refl) v.marks v.files.others (λ q b y. v.files.wanted q (shown_path q b y) b y) e
-    whole_by (CommitOver (commits.StoreFault stages.Success)) i v e = whole_now (i.agrees refl) v.marks v.files.others (λ q b y. v.files.wanted q (shown_path q b y) b y) e
+    whole_by (Marking sets n) i v e = whole_now (decided_so w picks sets i.decides i.agrees) v.marks v.files.others
+        (λ q b y. v.files.wanted q (shown_path q b y) b y) e
+    whole_by (CommitOver commits.Committed) i v e = whole_now (i.agrees refl) v.marks v.files.others
+        (λ q b y. v.files.wanted q (shown_path q b y) b y) e
+    whole_by (CommitOver (commits.StoreFault stages.Success)) i v e = whole_now (i.agrees refl) v.marks v.files.others
+        (λ q b y. v.files.wanted q (shown_path q b y) b y) e
     whole_by (CommitOver _) i v e = absurd (unmarked_not s v.marks e)
     whole_by _ i v e = absurd (unmarked_not s v.marks e)
 
@@ -287,13 +349,15 @@ module _ (g : Setting) (opening : Content) where
       between = λ e. record {
         untouched = λ e. untouched_shows c (still e op i v);
         only = λ e q b y. only_shown op i v q b y;
-        kept = λ e q b y keep none. view_same c opening q (λ p. elim (clearing op i v q p none) [ inl same ↦ same | inr gone ↦ absurd (false_true gone.1 keep) ]) ∙ y;
+        kept = λ e q b y keep none. view_same c opening q (λ p. elim (clearing op i v q p none)
+            [ inl same ↦ same | inr gone ↦ absurd (false_true gone.1 keep) ]) ∙ y;
       };
       whole = whole_by op i v;
     }
 
     -- a revert that is over, of which no deletion wore out
-    pub reverted_shows : let end = CommitOver (commits.StoreFault stages.Complete) in InCommit picks m end → CommitShows s m.ended es end → NoDeletionWorn w.retries es
+    pub reverted_shows : let end = CommitOver (commits.StoreFault stages.Complete) in InCommit picks m end → CommitShows s m.ended es end
+        → NoDeletionWorn w.retries es
         → OnlyOpening w opening c
     reverted_shows i v none q b y = elim (true_or_false (is_file_path q)) [
       | inr no_path ↦ absurd (none_some (hidden_is c q no_path) y)
@@ -302,7 +366,8 @@ module _ (g : Setting) (opening : Content) where
           λ same. shown_is opening q p ∙ ap (option_map (λ (o : Object). o.bytes)) (sym same) ∙ sym (shown_is c q p) ∙ y in
           let not_gone : now_at c q ≡ None → ⊥ = λ gone. none_some (shown_is c q p ∙ ap (option_map (λ (o : Object). o.bytes)) gone) y in
           elim (none_or_some (wanted_at w picks q)) [
-            | inl e ↦ elim (clearing (CommitOver (commits.StoreFault stages.Complete)) i v q p e) [ inl same ↦ was same | inr gone ↦ absurd (not_gone gone.0) ]
+            | inl e ↦ elim (clearing (CommitOver (commits.StoreFault stages.Complete)) i v q p e)
+                [ inl same ↦ was same | inr gone ↦ absurd (not_gone gone.0) ]
             | inr e ↦ elim (v.files.wanted q p e.0 e.1) [
               | inr worn ↦ absurd (none w.dest.bucket (below w.dest.key q) worn.1)
               | inl before ↦ elim before [ inl same ↦ was same | inr gone ↦ absurd (not_gone gone) ]

@@ -1,20 +1,39 @@
 -- The laws of whole runs: what a reader of the destination may rely on, at each of their moments.
-use Rattle.std.specs.Prelude.{Bool, List, Option, Some, false, length, true, ℕ, ◌≡◌, ◌≤◌}
-use Rattle.job_facts.specs.Prelude.{CommitEnd, CommitOver, Content, Entry, Hold, IsLegal, Same, SameOutside, Setting, TaskCommitOver, TheCommit, TheTaskCommit, Times, Who, actor_of, known, knows, moment, nothing_seen, nothing_told, see_all, tell_all, view}
-use Rattle.job_spec.specs.Prelude.{Always, AreOwn, NoDeletionWorn, Script, WasPublished, ZeroRename, by_actor, has_cleaned}
+use Rattle.job_facts.specs.Facts.{Hold}
+use Rattle.job_facts.specs.Told.{known, nothing_told, tell_all}
+use Rattle.job_model.specs.Attempts.{Who, actor_of}
+use Rattle.job_model.specs.JobScript.{Script}
+use Rattle.job_model.specs.Legal.{IsLegal}
+use Rattle.job_model.specs.declared.ends.CommitEnd.{CommitEnd}
+use Rattle.job_protocol.specs.JobCommits.{CommitOver, is_untouched}
+use Rattle.job_protocol.specs.Knowledge.{knows}
+use Rattle.job_protocol.specs.Operations.{Setting, TheCommit, TheTaskCommit}
+use Rattle.job_protocol.specs.Scope.{SameOutside}
+use Rattle.job_protocol.specs.Seen.{Times, nothing_seen, see_all}
+use Rattle.job_protocol.specs.TaskCommits.{TaskCommitOver}
+use Rattle.job_protocol.specs.View.{Same, view}
+use Rattle.job_spec.specs.Ends.{has_cleaned}
+use Rattle.job_spec.specs.Entries.{AreOwn, ZeroRename}
+use Rattle.job_spec.specs.Headline.{Always}
+use Rattle.job_spec.specs.OperationEnds.{NoDeletionWorn, OnlyOpening, WasPublished}
+use Rattle.job_spec.specs.Turns.{by_actor}
 use Rattle.job_traces.specs.Runs.{IsOpening, Runs, Stand, is_set}
-use Rattle.job_spec.specs.OperationEnds.{OnlyOpening}
-use Rattle.job_protocol.specs.JobCommits.{is_untouched}
+use Rattle.s3_types.specs.Moment.{moment}
+use Rattle.s3_types.specs.Store.{Content}
+use Rattle.s3_types.specs.declared.journal.Entry.{Entry}
+use Rattle.std.specs.Prelude.{Bool, List, Option, Some, false, length, true, ℕ, ◌≡◌, ◌≤◌}
 use Rattle.job_model.specs.declared.ends.CommitEnd.TheVariants as commits
 use Rattle.job_model.specs.declared.ends.Stage.TheVariants as stages
 use Rattle.job_model.specs.declared.ends.TaskEnd.TheVariants as tasks
 
 -- what is told of an attempt is what the attempt knows by its own entries, and of a clean that its event has begun
 pub record ToldIsSaid : Type 0 where
-  pub known : (w : Script) (c : Option ℕ) (a : Who) (es : List Entry) → known (tell_all w (nothing_told c) es) a ≡ knows w a (by_actor (actor_of a) es)
+  pub known : (w : Script) (c : Option ℕ) (a : Who) (es : List Entry)
+      → known (tell_all w (nothing_told c) es) a ≡ knows w a (by_actor (actor_of a) es)
   pub cleaned : (w : Script) (c : Option ℕ) (es : List Entry) → (tell_all w (nothing_told c) es).cleaned ≡ has_cleaned c es
 
--- a run of a job, of every committer and mode, whose operations send what they ask and hear what is answered, in any order of its actors, among strangers that leave its own alone; what a reader is shown is told where none of them sends
+-- a run of a job, of every committer and mode, whose operations send what they ask and hear what is answered, in any order of its actors,
+-- among strangers that leave its own alone; what a reader is shown is told where none of them sends
 pub record RunsKeep (g : Setting) (k : Times) (opening : Content) (es : List Entry) (x : Stand) : Type 0 where
   -- what it says of its stand is what its entries say
   pub seen : x.seen ≡ see_all g.script k (nothing_seen opening) es
@@ -23,17 +42,22 @@ pub record RunsKeep (g : Setting) (k : Times) (opening : Content) (es : List Ent
   pub hold : is_set x.driver ≡ true → Hold g.script g.minimum x.seen x.told
   -- at each moment a reader of the destination is shown what the headline says
   pub always : AreOwn es → Always g.script k opening es
-  -- no entry of its own copies a file or changes anything outside the destination, the driver sends no data, and only its completions and deletions change what is shown
+  -- no entry of its own copies a file or changes anything outside the destination, the driver sends no data, and only its completions and
+  -- deletions change what is shown
   pub entries : ZeroRename g.script opening es
   pub outside : AreOwn es → (m : ℕ) → m ≤ length es → SameOutside g.script opening (moment opening es m).content
   -- until the driver cleans up, an attempt's commit that is done has published its own set
-  pub published : x.told.cleaned ≡ false → (a : Who) (spare : ℕ) (repeated : Bool) → x.attempts a ≡ Some (TheTaskCommit (record { operation = TaskCommitOver tasks.Done; spare = spare; repeated = repeated }))
+  pub published : x.told.cleaned ≡ false → (a : Who) (spare : ℕ) (repeated : Bool)
+      → x.attempts a ≡ Some (TheTaskCommit (record { operation = TaskCommitOver tasks.Done; spare = spare; repeated = repeated }))
       → (n : ℕ) × WasPublished g.script opening es a.task a.attempt n
   -- where the commit ended before its first completion the opening files are shown
-  pub untouched : AreOwn es → (end : CommitEnd) → x.driver ≡ Some (TheCommit (CommitOver end)) → is_untouched end ≡ true → Same (view g.script.dest x.seen.scene.content) (view g.script.dest opening)
+  pub untouched : AreOwn es → (end : CommitEnd) → x.driver ≡ Some (TheCommit (CommitOver end)) → is_untouched end ≡ true
+      → Same (view g.script.dest x.seen.scene.content) (view g.script.dest opening)
   -- and a revert of which no deletion wore out leaves no file of the job
-  pub reverted : AreOwn es → x.driver ≡ Some (TheCommit (CommitOver (commits.StoreFault stages.Complete))) → NoDeletionWorn g.script.retries x.commit → OnlyOpening g.script opening x.seen.scene.content
+  pub reverted : AreOwn es → x.driver ≡ Some (TheCommit (CommitOver (commits.StoreFault stages.Complete)))
+      → NoDeletionWorn g.script.retries x.commit → OnlyOpening g.script opening x.seen.scene.content
 
 -- every run of a job keeps what is owed of runs
 abbrev pub AllRunsKeep : Type 0
-AllRunsKeep = (g : Setting) → IsLegal g.script → (k : Times) (opening : Content) → IsOpening g opening → (es : List Entry) (x : Stand) → Runs g k opening es x → RunsKeep g k opening es x
+AllRunsKeep = (g : Setting) → IsLegal g.script → (k : Times) (opening : Content) → IsOpening g opening → (es : List Entry) (x : Stand)
+    → Runs g k opening es x → RunsKeep g k opening es x

@@ -1,10 +1,32 @@
--- Runs of a job among strangers that leave its own alone, request by request, in any order of its actors. An operation may also stop at any time.
-use Rattle.std.specs.Prelude.{◌≡◌, ℕ, ◌≤◌, ◌<◌, ◌^◌, ◌⊎◌, Bool, true, false, List, [], ◌∷◌, ◌++◌, Option, Some, None}
-use Rattle.job_facts.specs.Prelude.{Content, Upload, answer, IsHonestOutcome, Driver, Request, Outcome, Entry, fresh, Who, Known, Setup, SetupOver, setup_start, WriteOver, write_start, task_commit_start, task_abort_start, Setting, Operation, TheSetup, TheWrite, TheTaskCommit, TheTaskAbort, TheCommit, TheClean, TheCheck, TheSparing, Reports, commit_of, clean_of, who, asks, tells, Seen, Times, see, is_begun, nothing_seen, Told, known, put_who, nothing_told, tell, entry, driver_entry, strange_entry, at_id, IsAttempt, IsForeign}
+-- Runs of a job among strangers that leave its own alone, request by request, in any order of its actors. An operation may also stop at any
+-- time.
+use Rattle.job_facts.specs.Facts.{IsAttempt}
+use Rattle.job_facts.specs.Foreign.{IsForeign}
+use Rattle.job_facts.specs.Stores.{at_id}
+use Rattle.job_facts.specs.Told.{Told, driver_entry, entry, known, nothing_told, put_who, strange_entry, tell}
+use Rattle.job_model.specs.Attempts.{Who}
+use Rattle.job_model.specs.Known.{Known}
+use Rattle.job_protocol.specs.Operations.{Operation, Reports, Setting, TheCheck, TheClean, TheCommit, TheSetup, TheSparing, TheTaskAbort}
+use Rattle.job_protocol.specs.Operations.{TheTaskCommit, TheWrite, asks, clean_of, commit_of, tells, who}
+use Rattle.job_protocol.specs.Seen.{Seen, Times, is_begun, nothing_seen, see}
+use Rattle.job_protocol.specs.Setup.{Setup, SetupOver, setup_start}
+use Rattle.job_protocol.specs.TaskAborts.{task_abort_start}
+use Rattle.job_protocol.specs.TaskCommits.{task_commit_start}
+use Rattle.job_protocol.specs.Writes.{WriteOver, write_start}
+use Rattle.retries.specs.Retries.{fresh}
+use Rattle.s3_types.specs.Answer.{answer}
+use Rattle.s3_types.specs.Moment.{IsHonestOutcome}
+use Rattle.s3_types.specs.Store.{Content, Upload}
+use Rattle.s3_types.specs.declared.journal.Entry.{Entry}
+use Rattle.s3_types.specs.declared.journal.Outcome.{Outcome}
+use Rattle.s3_types.specs.declared.request.Actor.TheVariants.{Driver}
+use Rattle.s3_types.specs.declared.request.Request.{Request}
+use Rattle.std.specs.Prelude.{Bool, List, None, Option, Some, false, true, ℕ, [], ◌++◌, ◌<◌, ◌^◌, ◌∷◌, ◌≡◌, ◌≤◌, ◌⊎◌}
 use Rattle.job_model.specs.declared.ends.SetupEnd.TheVariants as setups
 use Rattle.job_model.specs.declared.ends.TaskEnd.TheVariants as tasks
 
--- where a run stands: what is seen and told, what each attempt and the driver began last and how far that has come, and what the driver's commit has sent
+-- where a run stands: what is seen and told, what each attempt and the driver began last and how far that has come, and what the driver's
+-- commit has sent
 pub record Stand : Type 0 where
   pub seen : Seen
   pub told : Told
@@ -18,7 +40,13 @@ first_stand opening c = record { seen = nothing_seen opening; told = nothing_tol
 
 -- an attempt is at this now
 abbrev pub with_attempt : Stand → Who → Operation → Stand
-with_attempt x a op = record { seen = x.seen; told = x.told; attempts = put_who x.attempts a (Some op); driver = x.driver; commit = x.commit }
+with_attempt x a op = record {
+  seen = x.seen;
+  told = x.told;
+  attempts = put_who x.attempts a (Some op);
+  driver = x.driver;
+  commit = x.commit;
+}
 
 -- the driver is
 abbrev pub with_driver : Stand → Operation → Stand
@@ -26,7 +54,14 @@ with_driver x op = record { seen = x.seen; told = x.told; attempts = x.attempts;
 
 -- one more entry
 abbrev pub saw : Setting → Times → Stand → Entry → Stand
-saw g k x e = record { seen = see g.script k x.seen e; told = tell g.script x.told e; attempts = x.attempts; driver = x.driver; commit = x.commit }
+saw g k x e = record {
+  seen = see g.script k x.seen e;
+  told = tell g.script x.told e;
+  attempts = x.attempts;
+  driver = x.driver;
+  commit =
+      x.commit;
+}
 
 -- what its commit has sent, with this entry where it is of the commit
 abbrev pub commit_with : Operation → List Entry → Entry → List Entry
@@ -61,7 +96,8 @@ is_just_set _ = false
 abbrev pub MaySetUp : Stand → Type 0
 MaySetUp x = (is_set x.driver ≡ false) ⊎ ((is_just_set x.driver ≡ true) × ((a : Who) → x.attempts a ≡ None))
 
--- the entries of a set-up are of events before that of the commit and that of the first abort or clean, those of the commit and its check of it or of later ones before that, and those of an abort or clean of that or later ones
+-- the entries of a set-up are of events before that of the commit and that of the first abort or clean, those of the commit and its check
+-- of it or of later ones before that, and those of an abort or clean of that or later ones
 abbrev pub IsTimely : Times → ℕ → Operation → Type 0
 IsTimely k n (TheSetup t) = (is_begun k.commit n ≡ false) × (is_begun k.clean n ≡ false)
 IsTimely k n (TheCommit v) = (is_begun k.commit n ≡ true) × (is_begun k.clean n ≡ false)
@@ -103,18 +139,27 @@ begun_commit x _ = x.commit
 abbrev pub begun_attempts : Setting → Stand → Beginning → Who → Option Operation
 begun_attempts g x (BeginWrite a) = put_who x.attempts a (Some (TheWrite (fresh g.script.retries (write_start g.script a))))
 begun_attempts g x (BeginPublish a) = put_who x.attempts a (Some (TheTaskCommit (fresh g.script.retries (task_commit_start g.script a))))
-begun_attempts g x (BeginAbort a) = put_who x.attempts a (Some (TheTaskAbort (fresh g.script.retries (task_abort_start g.script (known x.told a)))))
+begun_attempts g x (BeginAbort a) = put_who x.attempts a (Some
+    (TheTaskAbort (fresh g.script.retries (task_abort_start g.script (known x.told a)))))
 begun_attempts g x _ = x.attempts
 
 -- a run once an actor begins an operation
 abbrev pub begin : Setting → Stand → Beginning → Stand
-begin g x b = record { seen = x.seen; told = x.told; attempts = begun_attempts g x b; driver = begun_driver g x b; commit = begun_commit x b }
+begin g x b = record {
+  seen = x.seen;
+  told = x.told;
+  attempts = begun_attempts g x b;
+  driver = begun_driver g x b;
+  commit = begun_commit x b;
+}
 
 -- an attempt's write is done
 abbrev pub WriteIsDone : Option Operation → Type 0
-WriteIsDone o = (spare : ℕ) × (repeated : Bool) × (o ≡ Some (TheWrite (record { operation = WriteOver tasks.Done; spare = spare; repeated = repeated })))
+WriteIsDone o = (spare : ℕ) × (repeated : Bool) × (o ≡ Some (TheWrite
+    (record { operation = WriteOver tasks.Done; spare = spare; repeated = repeated })))
 
--- a set-up where none has ended Done, or where nothing was begun behind one that its driver was not told of; the commit right after its set-up, and an abort or clean at any time after that;
+-- a set-up where none has ended Done, or where nothing was begun behind one that its driver was not told of; the commit right after its
+-- set-up, and an abort or clean at any time after that;
 -- an attempt's write where it has begun nothing, its commit where its write has ended Done, and its abort at any time
 abbrev pub MayBegin : Setting → Stand → Beginning → Type 0
 MayBegin g x BeginSetup = MaySetUp x
@@ -129,11 +174,15 @@ MayBegin g x (BeginAbort a) = (is_set x.driver ≡ true) × IsAttempt g.script a
 pub data Runs (g : Setting) (k : Times) (opening : Content) : List Entry → Stand → Type 0 where
   run_begins : Runs g k opening [] (first_stand opening k.clean)
   actor_begins : (es : List Entry) (x : Stand) (b : Beginning) → Runs g k opening es x → MayBegin g x b → Runs g k opening es (begin g x b)
-  driver_sends : (es : List Entry) (x : Stand) (op : Operation) (n : ℕ) (r : Request) (o : Outcome) → Runs g k opening es x → x.driver ≡ Some op → asks g (who Driver) nothing_learnt op ≡ Some r
+  driver_sends : (es : List Entry) (x : Stand) (op : Operation) (n : ℕ) (r : Request) (o : Outcome) → Runs g k opening es x
+      → x.driver ≡ Some op → asks g (who Driver) nothing_learnt op ≡ Some r
       → IsTimely k n op → x.seen.scene.content.next ≤ 2 ^ 64 → IsHonestOutcome o (answer x.seen.scene r)
-      → Runs g k opening (es ++ driver_entry n r o ∷ []) (with_commit (with_driver (saw g k x (driver_entry n r o)) (tells g (who Driver) op o)) (commit_with op x.commit (driver_entry n r o)))
-  attempt_sends : (es : List Entry) (x : Stand) (a : Who) (op : Operation) (n : ℕ) (r : Request) (o : Outcome) → Runs g k opening es x → is_set x.driver ≡ true → x.attempts a ≡ Some op → asks g a (known x.told a) op ≡ Some r
-      → IsHonestOutcome o (answer x.seen.scene r) → Runs g k opening (es ++ entry a n r o ∷ []) (with_attempt (saw g k x (entry a n r o)) a (tells g a op o))
+      → Runs g k opening (es ++ driver_entry n r o ∷ []) (with_commit
+      (with_driver (saw g k x (driver_entry n r o)) (tells g (who Driver) op o)) (commit_with op x.commit (driver_entry n r o)))
+  attempt_sends : (es : List Entry) (x : Stand) (a : Who) (op : Operation) (n : ℕ) (r : Request) (o : Outcome) → Runs g k opening es x
+      → is_set x.driver ≡ true → x.attempts a ≡ Some op → asks g a (known x.told a) op ≡ Some r
+      → IsHonestOutcome o (answer x.seen.scene r) → Runs g k opening (es ++ entry a n r o ∷ [])
+      (with_attempt (saw g k x (entry a n r o)) a (tells g a op o))
   -- a stranger sends what is foreign to the job, whatever becomes of it
   strays : (es : List Entry) (x : Stand) (n : ℕ) (r : Request) (o : Outcome) → Runs g k opening es x → IsForeign g.script x.told.drawn r
       → Runs g k opening (es ++ strange_entry n r o ∷ []) (saw g k x (strange_entry n r o))

@@ -1,2 +1,1 @@
 pub mod KeptWorlds
-mod Common

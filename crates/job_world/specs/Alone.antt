@@ -1,8 +1,14 @@
 -- A side that nobody else stands beside.
-use Rattle.std.specs.Prelude.{◌≡◌, ℕ, false, List, [], Option}
-use Rattle.job_steps.specs.Prelude.{fate_at, Request, Actor, Known, Pick, Setting, Running, AreOwn}
+use Rattle.job_model.specs.Known.{Known}
+use Rattle.job_model.specs.declared.ends.Pick.{Pick}
+use Rattle.job_protocol.specs.Operations.{Running, Setting}
 use Rattle.job_side.specs.Holds.{Quiet}
 use Rattle.job_side.specs.declared.body.Body.{Body}
+use Rattle.job_spec.specs.Entries.{AreOwn}
+use Rattle.s3_types.specs.Fates.{fate_at}
+use Rattle.s3_types.specs.declared.request.Actor.{Actor}
+use Rattle.s3_types.specs.declared.request.Request.{Request}
+use Rattle.std.specs.Prelude.{List, Option, false, ℕ, [], ◌≡◌}
 
 -- all events and all entries are the job's own, no other job shares the destination, and the sendings have the fates that its script names
 pub record IsAlone {W : Type 0} (b : Body W) : Type 0 where
@@ -12,6 +18,7 @@ pub record IsAlone {W : Type 0} (b : Body W) : Type 0 where
   pub fates : (n : ℕ) → fate_at b.shared.store.fates n ≡ fate_at b.side.script.fates n
 
 -- what a world keeps between events
-pub record Rests {W : Type 0} (wants : W → Option Request) (is_of : Setting → Actor → W → Type 0) (running : Known → W → Running) (picks_of : W → Option (List Pick)) (b : Body W) : Type 0 where
+pub record Rests {W : Type 0} (wants : W → Option Request) (is_of : Setting → Actor → W → Type 0) (running : Known → W → Running)
+    (picks_of : W → Option (List Pick)) (b : Body W) : Type 0 where
   pub quiet : Quiet wants is_of running picks_of b
   pub alone : IsAlone b

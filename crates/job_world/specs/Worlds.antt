@@ -1,14 +1,21 @@
 -- A world as its callers see it.
-use Rattle.std.specs.Prelude.{Bool, List, Option, [], false, length, slice_get, true, ◌++◌, ◌+◌, ◌^◌, ◌∷◌, ◌≡◌, ◌≤◌}
-use Rattle.job_spec.specs.Prelude.{AllByRecursion, AreOwn, Content, Entry, EventEnd, Pick, Promised, Script, Sent}
-use Rattle.job_spec.specs.Promise.{all_picks, lacked_memory}
-use Rattle.job_spec.specs.States.{past}
+use Rattle.job_model.specs.JobScript.{Script}
+use Rattle.job_model.specs.declared.ends.EventEnd.{EventEnd}
+use Rattle.job_model.specs.declared.ends.Pick.{Pick}
 use Rattle.job_safety.specs.Laws.{FactsHold}
-use Rattle.job_soundness.specs.Safe.{ReadersSafe}
 use Rattle.job_side.specs.Events.{picks_in}
 use Rattle.job_side.specs.declared.body.Body.{Body}
+use Rattle.job_soundness.specs.Safe.{ReadersSafe}
+use Rattle.job_spec.specs.Entries.{AreOwn}
+use Rattle.job_spec.specs.Promise.{Promised, Sent, all_picks, lacked_memory}
+use Rattle.job_spec.specs.States.{past}
+use Rattle.s3_types.specs.Store.{Content}
+use Rattle.s3_types.specs.declared.journal.Entry.{Entry}
+use Rattle.std.specs.List.{AllByRecursion}
+use Rattle.std.specs.Prelude.{Bool, List, Option, false, length, slice_get, true, [], ◌++◌, ◌+◌, ◌^◌, ◌∷◌, ◌≡◌, ◌≤◌}
 
--- the script, the store's content as the run began, all entries, the picks of the job's commit, the ends of the events so far, and whether an event found no memory
+-- the script, the store's content as the run began, all entries, the picks of the job's commit, the ends of the events so far, and whether
+-- an event found no memory
 pub record Run : Type 0 where
   pub script : Script
   pub opening : Content
@@ -19,7 +26,15 @@ pub record Run : Type 0 where
 
 -- what callers see of a world
 abbrev pub run_of : {W : Type 0} → (W → Option (List Pick)) → Body W → Bool → Run
-run_of picks_of b stuck = record { script = b.side.script; opening = b.shared.opening; journal = b.shared.journal.entries; picks = picks_in picks_of b.side.picks (slice_get b.side.hands.items 0); ends = b.side.ends.items; stuck = stuck }
+run_of picks_of b stuck = record {
+  script = b.side.script;
+  opening = b.shared.opening;
+  journal = b.shared.journal.entries;
+  picks = picks_in
+      picks_of b.side.picks (slice_get b.side.hands.items 0);
+  ends = b.side.ends.items;
+  stuck = stuck;
+}
 
 -- a store over which a run may begin: ids of uploads are left
 pub record MayBegin (c : Content) : Type 0 where

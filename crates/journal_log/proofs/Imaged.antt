@@ -1,12 +1,36 @@
 -- What requests leave of a content that an image can have.
-use Rattle.journal_log.proofs.Common.{AbortUpload, AllByRecursion, Bool, BucketContent, CompleteUpload, Content, CopyObject, CreateUpload, DeleteObject, DeleteObjects, Entry, Err, IsBucket, IsContent, IsMade, IsObject, IsTotalOrder, KeepsImages, List, MOST_ENTRIES, MakeBucket, NamedPart, None, Object, Objects, Ok, Option, Ordering, PutObject, Request, Some, T, Upload, UploadPart, Uploads, [], aborted, and_parts, ap, apply_at, apply_in, apply_store, arith, bucket_of, changes, completed, cond, content_after, copied, draws, drop, entries_sorted, eq_by_cmp, eq_by_cmp_equiv, false, find, inl, inr, is_bucket, is_eq, is_key, is_lt, is_part_number, joined, le-leb, leb-true, length, live, moment, nat_cmp_total, nat_le, nat_lt, nat_tests, new_bucket, new_content, none_or_some, none_some, part_put, refl, some_is, subst, sym, take, take-append-drop, take_all, text_eq, text_exact, text_is, text_total, true, true_or_false, with_part, without, ℕ, ◌&&◌, ◌++◌, ◌+◌, ◌^◌, ◌∙◌, ◌∷◌, ◌≡◌, ◌≤◌}
-use Rattle.s3_types.specs.Prelude.{below_all, is_sorted}
-use Rattle.std.specs.FinMap as fin
-use Rattle.basics.proofs.Tree.{tied, entries_empty}
-use Rattle.s3_types.specs.Answer.{made}
-use Rattle.store_image.specs.Content.{is_minimum, is_counter, is_id, IsEntry, AreEntries, IsPart, IsUpload}
-use Rattle.journal_log.proofs.Journals.{folded, changes_append, content_append}
+use Rattle.basics.proofs.Members.{none_or_some, none_some, some_is, text_exact, text_is, true_or_false}
+use Rattle.basics.proofs.Tree.{entries_empty, tied}
+use Rattle.basics.specs.Order.{text_eq, text_total}
+use Rattle.journal_log.proofs.Journals.{changes_append, content_append, folded}
+use Rattle.journal_log.specs.Changes.{changes, content_after}
+use Rattle.journal_log.specs.Made.{IsMade, KeepsImages}
+use Rattle.s3_types.specs.Answer.{aborted, apply_at, apply_in, apply_store, bucket_of, completed, copied, draws, made, part_put, without}
+use Rattle.s3_types.specs.Moment.{moment}
+use Rattle.s3_types.specs.Multipart.{is_part_number, joined, live, with_part}
+use Rattle.s3_types.specs.Names.{is_bucket, is_key}
+use Rattle.s3_types.specs.Store.{BucketContent, Content, Objects, Upload, Uploads, new_bucket, new_content}
+use Rattle.s3_types.specs.declared.journal.Entry.{Entry}
+use Rattle.s3_types.specs.declared.limits.TheConstants.{MOST_ENTRIES}
+use Rattle.s3_types.specs.declared.object.Object.{Object}
+use Rattle.s3_types.specs.declared.request.NamedPart.{NamedPart}
+use Rattle.s3_types.specs.declared.request.Request.{Request}
+use Rattle.s3_types.specs.declared.request.Request.TheVariants.{AbortUpload, CompleteUpload, CopyObject, CreateUpload, DeleteObject}
+use Rattle.s3_types.specs.declared.request.Request.TheVariants.{DeleteObjects, MakeBucket, PutObject, UploadPart}
+use Rattle.std.proofs.Common.{Bool, Err, List, None, Ok, Option, Some, T, ap, arith, cond, drop, false, inl, inr, length, nat_le, nat_lt}
+use Rattle.std.proofs.Common.{refl, subst, sym, take, true, ℕ, [], ◌&&◌, ◌++◌, ◌+◌, ◌^◌, ◌∙◌, ◌∷◌, ◌≡◌, ◌≤◌}
 use Rattle.std.proofs.Math.Facts.{and_yes}
+use Rattle.std.proofs.lemmas.Bool.{and_parts, le-leb, leb-true}
+use Rattle.std.proofs.lemmas.Bool.Decides.{nat_tests}
+use Rattle.std.proofs.lemmas.List.{take-append-drop, take_all}
+use Rattle.std.specs.Cmp.{IsTotalOrder, eq_by_cmp_equiv, nat_cmp_total}
+use Rattle.std.specs.FinMap.{entries_sorted}
+use Rattle.std.specs.FinMap.Entries.{below_all, find, is_sorted}
+use Rattle.std.specs.List.{AllByRecursion}
+use Rattle.std.specs.Ordering.{eq_by_cmp, is_eq, is_lt}
+use Rattle.std.specs.declared.cmp.Ordering.{Ordering}
+use Rattle.store_image.specs.Content.{AreEntries, IsBucket, IsContent, IsEntry, IsObject, IsPart, IsUpload, is_counter, is_id, is_minimum}
+use Rattle.std.specs.FinMap as fin
 
 -- ---- the entries of a map
 
@@ -54,9 +78,14 @@ module _ {K X : Type 0} {R : K → K → Ordering} (o : IsTotalOrder R) (exact :
     are_none : AreEntries test IsValue (fin.empty {X = X} {R = R})
     are_none = subst (AllByRecursion IsOne) (sym (entries_empty R)) tt
 
-    put_in : (m : fin.FinMap R X) (k : K) (v : X) → AreEntries test IsValue m → test k ≡ true → IsValue v → AreEntries test IsValue (fin.insert m k v)
+    put_in : (m : fin.FinMap R X) (k : K) (v : X) → AreEntries test IsValue m → test k ≡ true → IsValue v
+        → AreEntries test IsValue (fin.insert m k v)
     put_in m k v a is value = are_at (fin.insert m k v) (λ q w g. elim (true_or_false (eq_by_cmp R q k)) [
-      | inl t ↦ record { key = ap test (exact q k (tied (R q k) t)) ∙ is; value = subst IsValue (some_is (rw (fin.get-insert o m k v q, t) at g)) value }
+      | inl t ↦ record {
+        key = ap test (exact q k (tied (R q k) t)) ∙ is;
+        value = subst IsValue
+            (some_is (rw (fin.get-insert o m k v q, t) at g)) value;
+      }
       | inr t ↦ at m q w a (rw (fin.get-insert o m k v q, t) at g)
     ])
 
@@ -66,7 +95,8 @@ module _ {K X : Type 0} {R : K → K → Ordering} (o : IsTotalOrder R) (exact :
       | inr t ↦ at m q w a (rw (fin.get-remove o m k q, t) at g)
     ])
 
-all_more : {K X : Type 0} (p q : K → Bool) (V W : X → Type 0) → ((k : K) → p k ≡ true → q k ≡ true) → ((x : X) → V x → W x) → (es : List (K × X)) → AllByRecursion (IsEntry p V) es → AllByRecursion (IsEntry q W) es
+all_more : {K X : Type 0} (p q : K → Bool) (V W : X → Type 0) → ((k : K) → p k ≡ true → q k ≡ true) → ((x : X) → V x → W x)
+    → (es : List (K × X)) → AllByRecursion (IsEntry p V) es → AllByRecursion (IsEntry q W) es
 all_more p q V W f g [] a = tt
 all_more p q V W f g (e ∷ es) a = (record { key = f e.0 a.0.key; value = g e.1 a.0.value }, all_more p q V W f g es a.1)
 
@@ -94,7 +124,8 @@ bucket_by next false b h = h
 object_in : (m : Objects) (k : List ℕ) (x : Object) → AreObjects m → is_key k ≡ true → IsObject x → AreObjects (fin.insert m k x)
 object_in = put_in text_total text_exact is_key IsObject
 
-upload_in : (next : ℕ) (m : Uploads) (id : ℕ) (u : Upload) → AreUploads next m → is_id next id ≡ true → IsUpload u → AreUploads next (fin.insert m id u)
+upload_in : (next : ℕ) (m : Uploads) (id : ℕ) (u : Upload) → AreUploads next m → is_id next id ≡ true → IsUpload u
+    → AreUploads next (fin.insert m id u)
 upload_in next = put_in nat_cmp_total fin.nat_cmp-IsAntisymmetric (is_id next) IsUpload
 
 upload_out : (next : ℕ) (m : Uploads) (id : ℕ) → AreUploads next m → AreUploads next (fin.remove m id)
@@ -108,7 +139,8 @@ objects_out [] m a = a
 objects_out (k ∷ ks) m a = objects_out ks (fin.remove m k) (object_out m k a)
 
 -- a copy
-object_copied : (m : Objects) (source target : List ℕ) (x : Option Object) → fin.get m source ≡ x → AreObjects m → is_key target ≡ true → AreObjects (copied m target x)
+object_copied : (m : Objects) (source target : List ℕ) (x : Option Object) → fin.get m source ≡ x → AreObjects m → is_key target ≡ true
+    → AreObjects (copied m target x)
 object_copied m source target None e a k = a
 object_copied m source target (Some x) e a k = object_in m target x a k (at text_total text_exact is_key IsObject m source x a e).value
 
@@ -129,7 +161,8 @@ found_live next m k id u a h = elim (none_or_some (fin.get m id)) [
   ]
 ]
 
-part_in : (next : ℕ) (m : Uploads) (k : List ℕ) (id n : ℕ) (bytes : List ℕ) (x : Option Upload) → live m k id ≡ x → AreUploads next m → AreUploads next (part_put m id x n bytes)
+part_in : (next : ℕ) (m : Uploads) (k : List ℕ) (id n : ℕ) (bytes : List ℕ) (x : Option Upload) → live m k id ≡ x → AreUploads next m
+    → AreUploads next (part_put m id x n bytes)
 part_in next m k id n bytes None e a = a
 part_in next m k id n bytes (Some u) e a = elim (true_or_false (is_part_number n)) [
   | inr t ↦ rw t a
@@ -143,35 +176,56 @@ upload_aborted : (next : ℕ) (m : Uploads) (id : ℕ) (x : Option Upload) → A
 upload_aborted next m id None a = a
 upload_aborted next m id (Some u) a = upload_out next m id a
 
-upload_joined : (next minimum : ℕ) (b : BucketContent) (k : List ℕ) (id : ℕ) (ns : List NamedPart) (x : Option Upload) → live b.uploads k id ≡ x → IsBucket next b → IsBucket next (completed b k id (joined x ns minimum))
+upload_joined : (next minimum : ℕ) (b : BucketContent) (k : List ℕ) (id : ℕ) (ns : List NamedPart) (x : Option Upload)
+    → live b.uploads k id ≡ x → IsBucket next b → IsBucket next (completed b k id (joined x ns minimum))
 upload_joined next minimum b k id ns None e h = h
 upload_joined next minimum b k id ns (Some u) e h = elim (joined (Some u) ns minimum) as (λ r. IsBucket next (completed b k id r)) [
   | Err r ↦ h
   | Ok bytes ↦
       let is = found_live next b.uploads k id u h.uploads e in
       record {
-        objects = object_in b.objects k (record { bytes = bytes; header = None }) h.objects (ap is_key (sym is.same) ∙ is.upload.key) (record { header_fits = omega arith });
+        objects = object_in b.objects k (record { bytes = bytes; header = None }) h.objects (ap is_key (sym is.same) ∙ is.upload.key)
+            (record { header_fits = omega arith });
         uploads = upload_out next b.uploads id h.uploads;
       }
 ]
 
 -- what a request leaves of its bucket
-in_bucket : (b : BucketContent) (next minimum : ℕ) (r : Request) → 1 ≤ next → IsMade r → IsBucket next b → IsBucket (cond (draws r) (next + 1) next) (apply_in b next minimum r)
-in_bucket b next minimum (PutObject n k bytes given) l m h = record { objects = object_in b.objects k (record { bytes = bytes; header = given }) h.objects m.0 (record { header_fits = m.1 }); uploads = h.uploads }
-in_bucket b next minimum (DeleteObject n k) l m h = record { objects = object_out b.objects k h.objects; uploads = h.uploads }
-in_bucket b next minimum (DeleteObjects n ks) l m h = record {
-  objects = elim (nat_lt MOST_ENTRIES (length ks)) as (λ t. AreObjects (cond t b.objects (without b.objects ks))) [ true ↦ h.objects | false ↦ objects_out ks b.objects h.objects ];
+in_bucket : (b : BucketContent) (next minimum : ℕ) (r : Request) → 1 ≤ next → IsMade r → IsBucket next b
+    → IsBucket (cond (draws r) (next + 1) next) (apply_in b next minimum r)
+in_bucket b next minimum (PutObject n k bytes given) l m h = record {
+  objects = object_in b.objects k
+      (record { bytes = bytes; header = given }) h.objects m.0 (record { header_fits = m.1 });
   uploads = h.uploads;
 }
-in_bucket b next minimum (CopyObject n source target) l m h = record { objects = object_copied b.objects source target (fin.get b.objects source) refl h.objects m; uploads = h.uploads }
+in_bucket b next minimum (DeleteObject n k) l m h = record { objects = object_out b.objects k h.objects; uploads = h.uploads }
+in_bucket b next minimum (DeleteObjects n ks) l m h = record {
+  objects = elim (nat_lt MOST_ENTRIES (length ks)) as (λ t. AreObjects (cond t b.objects (without b.objects ks)))
+      [ true ↦ h.objects | false ↦ objects_out ks b.objects h.objects ];
+  uploads = h.uploads;
+}
+in_bucket b next minimum (CopyObject n source target) l m h = record {
+  objects = object_copied b.objects source target
+      (fin.get b.objects source) refl h.objects m;
+  uploads = h.uploads;
+}
 in_bucket b next minimum (CreateUpload n k) l m h = record {
   objects = h.objects;
-  uploads = upload_in (next + 1) b.uploads next (record { key = k; parts = fin.empty }) (uploads_later next b.uploads h.uploads) (own_id next l)
+  uploads = upload_in (next + 1) b.uploads next (record { key = k; parts = fin.empty }) (uploads_later next b.uploads h.uploads)
+      (own_id next l)
       (record { key = m; parts = are_none nat_cmp_total fin.nat_cmp-IsAntisymmetric is_part_number IsPart });
 }
-in_bucket b next minimum (UploadPart n k id number bytes) l m h = record { objects = h.objects; uploads = part_in next b.uploads k id number bytes (live b.uploads k id) refl h.uploads }
+in_bucket b next minimum (UploadPart n k id number bytes) l m h = record {
+  objects = h.objects;
+  uploads = part_in next b.uploads k id number
+      bytes (live b.uploads k id) refl h.uploads;
+}
 in_bucket b next minimum (CompleteUpload n k id ns) l m h = upload_joined next minimum b k id ns (live b.uploads k id) refl h
-in_bucket b next minimum (AbortUpload n k id) l m h = record { objects = h.objects; uploads = upload_aborted next b.uploads id (live b.uploads k id) h.uploads }
+in_bucket b next minimum (AbortUpload n k id) l m h = record {
+  objects = h.objects;
+  uploads = upload_aborted next b.uploads id
+      (live b.uploads k id) h.uploads;
+}
 in_bucket b next minimum r l m h = h
 
 -- ---- the store
@@ -187,10 +241,19 @@ drawn true n h = omega arith
 drawn false n h = h
 
 none_new : (next : ℕ) → IsBucket next new_bucket
-none_new next = record { objects = are_none text_total text_exact is_key IsObject; uploads = are_none nat_cmp_total fin.nat_cmp-IsAntisymmetric (is_id next) IsUpload }
+none_new next = record {
+  objects = are_none text_total text_exact is_key IsObject;
+  uploads = are_none nat_cmp_total
+      fin.nat_cmp-IsAntisymmetric (is_id next) IsUpload;
+}
 
 pub new : (minimum : ℕ) → is_minimum minimum ≡ true → IsContent (new_content minimum)
-new minimum h = record { minimum = h; counter = counter_of 1 (omega arith) (omega arith); buckets = are_none text_total text_exact is_bucket (IsBucket 1) }
+new minimum h = record {
+  minimum = h;
+  counter = counter_of 1 (omega arith) (omega arith);
+  buckets = are_none text_total text_exact is_bucket
+      (IsBucket 1);
+}
 
 one_made : (c : Content) (name : List ℕ) (x : Option BucketContent) → IsContent c → IsContent (made c name x)
 one_made c name (Some b) h = h
@@ -203,7 +266,8 @@ one_made c name None h = elim (true_or_false (is_bucket name)) [
   | inr t ↦ rw t h
 ]
 
-one_at : (c : Content) (r : Request) (x : Option BucketContent) → fin.get c.buckets (bucket_of r) ≡ x → IsContent c → IsMade r → (apply_at x c r).next ≤ 2 ^ 62 → IsContent (apply_at x c r)
+one_at : (c : Content) (r : Request) (x : Option BucketContent) → fin.get c.buckets (bucket_of r) ≡ x → IsContent c → IsMade r
+    → (apply_at x c r).next ≤ 2 ^ 62 → IsContent (apply_at x c r)
 one_at c r None e h m few = h
 one_at c r (Some b) e h m few =
     let is = at text_total text_exact is_bucket (IsBucket c.next) c.buckets (bucket_of r) b h.buckets e in
@@ -213,7 +277,8 @@ one_at c r (Some b) e h m few =
       minimum = h.minimum;
       counter = counter_of next (drawn (draws r) c.next some) few;
       buckets = put_in text_total text_exact is_bucket (IsBucket next) c.buckets (bucket_of r) (apply_in b c.next c.minimum r)
-          (all_more is_bucket is_bucket (IsBucket c.next) (IsBucket next) (λ k t. t) (bucket_by c.next (draws r)) (fin.entries c.buckets) h.buckets)
+          (all_more is_bucket is_bucket (IsBucket c.next) (IsBucket next) (λ k t. t) (bucket_by c.next (draws r)) (fin.entries c.buckets)
+          h.buckets)
           is.key (in_bucket b c.next c.minimum r some m is.value);
     }
 
@@ -235,10 +300,11 @@ on_at : (c : Content) (r : Request) (o : Option BucketContent) → GoesOn c (app
 on_at c r o = grind arith
 
 on_made : (c : Content) (name : List ℕ) (o : Option BucketContent) → GoesOn c (made c name o)
-on_made c name None = elim (is_bucket name) as (λ t. GoesOn c (cond t (record { buckets = fin.insert c.buckets name new_bucket; next = c.next; minimum = c.minimum }) c)) [
-  | true ↦ record { later = omega arith; least = refl }
-  | false ↦ same c
-]
+on_made c name None = elim (is_bucket name) as (λ t. GoesOn c (cond t
+    (record { buckets = fin.insert c.buckets name new_bucket; next = c.next; minimum = c.minimum }) c)) [
+      | true ↦ record { later = omega arith; least = refl }
+      | false ↦ same c
+    ]
 on_made c name (Some b) = same c
 
 on : (c : Content) (r : Request) → GoesOn c (apply_store c r)
@@ -252,7 +318,8 @@ on_and_on c (r ∷ rs) =
     let others = on_and_on (apply_store c r) rs in
     record { later = omega (arith, first.later, others.later); least = others.least ∙ first.least }
 
-pub all : (c : Content) (rs : List Request) → IsContent c → AllByRecursion IsMade rs → (content_after c rs).next ≤ 2 ^ 62 → IsContent (content_after c rs)
+pub all : (c : Content) (rs : List Request) → IsContent c → AllByRecursion IsMade rs → (content_after c rs).next ≤ 2 ^ 62
+    → IsContent (content_after c rs)
 all c [] h m few = h
 all c (r ∷ rs) h m few = all (apply_store c r) rs (one c r h m.0 (omega (arith, few, (on_and_on (apply_store c r) rs).later))) m.1 few
 
@@ -266,9 +333,12 @@ all_joined P (x ∷ xs) ys a b = (a.0, all_joined P xs ys a.1 b)
 
 pub moments : (c : Content) (es : List Entry) → AllByRecursion IsMade (changes es) → KeepsImages c es
 moments c es m h few n =
-    let parts : changes es ≡ changes (take n es) ++ changes (drop n es) = ap changes (sym (take-append-drop n es)) ∙ changes_append (take n es) (drop n es) in
+    let parts : changes es ≡ changes (take n es) ++ changes (drop n es) = ap changes (sym (take-append-drop n es)) ∙ changes_append
+    (take n es) (drop n es) in
     let end : (moment c es (length es)).content ≡ content_after (content_after c (changes (take n es))) (changes (drop n es)) =
-    sym (folded c es (length es)) ∙ ap (λ l. content_after c (changes l)) (take_all (length es) es (omega arith)) ∙ ap (content_after c) parts ∙ content_append c (changes (take n es)) (changes (drop n es)) in
+    sym (folded c es (length es)) ∙ ap (λ l. content_after c (changes l)) (take_all (length es) es (omega arith)) ∙ ap (content_after c)
+    parts ∙ content_append c (changes (take n es)) (changes (drop n es)) in
     let low = (on_and_on (content_after c (changes (take n es))) (changes (drop n es))).later in
     subst IsContent (folded c es n)
-    (all c (changes (take n es)) h (all_front IsMade (changes (take n es)) (changes (drop n es)) (subst (AllByRecursion IsMade) parts m)) (omega (arith, few, low, ap (λ (x : Content). x.next) end)))
+    (all c (changes (take n es)) h (all_front IsMade (changes (take n es)) (changes (drop n es)) (subst (AllByRecursion IsMade) parts m))
+    (omega (arith, few, low, ap (λ (x : Content). x.next) end)))

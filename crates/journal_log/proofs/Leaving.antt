@@ -1,7 +1,15 @@
 -- How what crashes leave goes on from one call to the next.
-use Rattle.journal_log.proofs.Common.{Begins, Content, CrashesLeave, Entry, Holding, Holds, HoldsGrownBy, HoldsSome, IsBeforeOrAfter, IsBetween, IsDurable, IsMoment, IsTimed, List, None, Option, Request, Sight, Some, Stored, WhereTold, [], arith, changes, fresh, image, inl, inr, refl, subst, sym, ⊎_elim, ◌++◌, ◌∙◌, ◌∷◌, ◌≡◌, ◌⊎◌}
-use Rattle.journal_log.specs.Crashes.{IsAppended, AreAppended}
-use Rattle.journal_log.proofs.Standing.{begins_all, begins_more, begins_longer, grown_none, grown_one, grown_then, holds_one, some, longer, between}
+use Rattle.journal_log.proofs.Standing.{begins_all, begins_longer, begins_more, between, grown_none, grown_one, grown_then, holds_one}
+use Rattle.journal_log.proofs.Standing.{longer, some}
+use Rattle.journal_log.specs.Changes.{Begins, changes}
+use Rattle.journal_log.specs.Crashes.{AreAppended, IsAppended, IsBetween, WhereTold}
+use Rattle.journal_log.specs.Kept.{Holds, HoldsGrownBy, HoldsSome, IsMoment}
+use Rattle.s3_types.specs.Store.{Content}
+use Rattle.s3_types.specs.declared.journal.Entry.{Entry}
+use Rattle.s3_types.specs.declared.request.Request.{Request}
+use Rattle.shelf.specs.Logged.{CrashesLeave, Holding, IsBeforeOrAfter, IsDurable, IsTimed, Sight, Stored, fresh}
+use Rattle.std.proofs.Common.{List, None, Option, Some, arith, inl, inr, refl, subst, sym, [], ⊎_elim, ◌++◌, ◌∙◌, ◌∷◌, ◌≡◌, ◌⊎◌}
+use Rattle.store_image.specs.Image.{image}
 
 -- ---- what a crash left between changes
 
@@ -26,7 +34,8 @@ so_far None rs qs h is = tt
 so_far (Some s) rs qs h is = (is.0, begins_longer is.0 rs qs is.1, is.2)
 
 -- further changes
-pub further_on : (o p : Option Stored) (rs qs : List Request) → HoldsGrownBy o p rs → (h : Holding) → IsBetween p qs h → IsBetween o (rs ++ qs) h
+pub further_on : (o p : Option Stored) (rs qs : List Request) → HoldsGrownBy o p rs → (h : Holding) → IsBetween p qs h
+    → IsBetween o (rs ++ qs) h
 further_on o p rs qs g h e = grind (arith, begins_more, grown_then)
 
 -- before or after one
@@ -39,7 +48,8 @@ module _ {S : Type 0} (F : Sight S) where
   started old P here = record { later = omega arith; each = here; before = λ t c le left. inl left }
 
   -- one run and then another
-  pub then_on : (old mid new : S) (P Q R : Holding → Type 0) → CrashesLeave F old mid P → CrashesLeave F mid new Q → ((c : Holding) → P c → R c) → ((c : Holding) → Q c → R c) → CrashesLeave F old new R
+  pub then_on : (old mid new : S) (P Q R : Holding → Type 0) → CrashesLeave F old mid P → CrashesLeave F mid new Q
+      → ((c : Holding) → P c → R c) → ((c : Holding) → Q c → R c) → CrashesLeave F old new R
   then_on old mid new P Q R h g e f = grind arith
 
   -- what is known of less is known of more
@@ -50,41 +60,54 @@ module _ {S : Type 0} (F : Sight S) where
 
 module _ {S : Type 0} (F : Sight S) where
   -- changes that follow others
-  pub goes_on : (old mid new : S) (rs qs : List Request) → HoldsGrownBy (F.held old) (F.held mid) rs → CrashesLeave F old mid (IsBetween (F.held old) rs) → CrashesLeave F mid new (IsBetween (F.held mid) qs)
+  pub goes_on : (old mid new : S) (rs qs : List Request) → HoldsGrownBy (F.held old) (F.held mid) rs
+      → CrashesLeave F old mid (IsBetween (F.held old) rs) → CrashesLeave F mid new (IsBetween (F.held mid) qs)
       → CrashesLeave F old new (IsBetween (F.held old) (rs ++ qs))
   goes_on old mid new rs qs grown first second =
-      then_on F old mid new (IsBetween (F.held old) rs) (IsBetween (F.held mid) qs) (IsBetween (F.held old) (rs ++ qs)) first second (so_far (F.held old) rs qs) (further_on (F.held old) (F.held mid) rs qs grown)
+      then_on F old mid new (IsBetween (F.held old) rs) (IsBetween (F.held mid) qs) (IsBetween (F.held old) (rs ++ qs)) first second
+      (so_far (F.held old) rs qs) (further_on (F.held old) (F.held mid) rs qs grown)
 
   one_append : (old new : S) (r : Request) → IsAppended F old new r → CrashesLeave F old new (IsBetween (F.held old) (r ∷ []))
-  one_append old new r is = widened F old new (IsBeforeOrAfter (F.held old) r) (IsBetween (F.held old) (r ∷ [])) is.leaves (around (F.held old) r)
+  one_append old new r is = widened F old new (IsBeforeOrAfter (F.held old) r) (IsBetween (F.held old) (r ∷ [])) is.leaves
+      (around (F.held old) r)
 
-  from_one : (old mid new : S) (r : Request) (rs : List Request) → IsAppended F old mid r → AreAppended F mid rs new → CrashesLeave F old new (IsBetween (F.held old) (r ∷ rs))
+  from_one : (old mid new : S) (r : Request) (rs : List Request) → IsAppended F old mid r → AreAppended F mid rs new
+      → CrashesLeave F old new (IsBetween (F.held old) (r ∷ rs))
   from_one old mid new r [] is are = subst (λ (s : S). CrashesLeave F old s (IsBetween (F.held old) (r ∷ []))) are (one_append old mid r is)
   from_one old mid new r (q ∷ rs) is are =
-      goes_on old mid new (r ∷ []) (q ∷ rs) (holds_one (F.held old) (F.held mid) r is.grown) (one_append old mid r is) (from_one mid are.0 new q rs are.1 are.2)
+      goes_on old mid new (r ∷ []) (q ∷ rs) (holds_one (F.held old) (F.held mid) r is.grown) (one_append old mid r is)
+      (from_one mid are.0 new q rs are.1 are.2)
 
-  pub all_appended : IsTimed F → (old new : S) (rs : List Request) → IsDurable (F.held old) (F.may_leave old) → AreAppended F old rs new → CrashesLeave F old new (IsBetween (F.held old) rs)
+  pub all_appended : IsTimed F → (old new : S) (rs : List Request) → IsDurable (F.held old) (F.may_leave old) → AreAppended F old rs new
+      → CrashesLeave F old new (IsBetween (F.held old) rs)
   all_appended timed old new [] durable are =
       subst (λ (s : S). CrashesLeave F old s (IsBetween (F.held old) [])) are
       (started F old (IsBetween (F.held old) []) (λ h left. at_first (F.held old) (F.may_leave old) h durable (timed.only_now old h left)))
   all_appended timed old new (r ∷ rs) durable are = from_one old are.0 new r rs are.1 are.2
 
-  pub leaves_moments : IsTimed F → (c : Content) (es part : List Entry) (old new : S) (rs : List Request) → Holds (F.held old) c (changes es) → IsDurable (F.held old) (F.may_leave old) → AreAppended F old rs new → Begins rs (changes part)
+  pub leaves_moments : IsTimed F → (c : Content) (es part : List Entry) (old new : S) (rs : List Request)
+      → Holds (F.held old) c (changes es) → IsDurable (F.held old) (F.may_leave old) → AreAppended F old rs new → Begins rs (changes part)
       → CrashesLeave F old new (λ h. WhereTold (F.held old) (IsMoment c (es ++ part) h))
   leaves_moments h c es part old new rs g e f p = grind (arith, widened, all_appended, between, so_far)
 
-  pub on_and_on : (c : Content) (es part : List Entry) (first mid new : S) → Holds (F.held mid) c (changes es) → HoldsSome (F.held mid) (F.held new) (changes part) → CrashesLeave F first mid (λ h. WhereTold (F.held mid) (IsMoment c es h))
-      → CrashesLeave F mid new (IsBetween (F.held mid) (changes part)) → CrashesLeave F first new (λ h. WhereTold (F.held new) (IsMoment c (es ++ part) h))
+  pub on_and_on : (c : Content) (es part : List Entry) (first mid new : S) → Holds (F.held mid) c (changes es)
+      → HoldsSome (F.held mid) (F.held new) (changes part) → CrashesLeave F first mid (λ h. WhereTold (F.held mid) (IsMoment c es h))
+      → CrashesLeave F mid new (IsBetween (F.held mid) (changes part))
+      → CrashesLeave F first new (λ h. WhereTold (F.held new) (IsMoment c (es ++ part) h))
   on_and_on c es part first mid new h g e f = grind (arith, told_still, then_on, told_more, longer, between)
 
 -- a load, a replace by the opening's image, and then changes of the journal
 pub survives : {S : Type 0} (F : Sight S) → IsTimed F
     → (c : Content) (es : List Entry) (o : Option Stored) (first loaded replaced last : S) → CrashesLeave F first loaded (F.may_leave first)
-    → CrashesLeave F loaded replaced (λ h. F.may_leave loaded h ⊎ (h ≡ fresh (image c))) → CrashesLeave F replaced last (λ h. WhereTold o (IsMoment c es h))
+    → CrashesLeave F loaded replaced (λ h. F.may_leave loaded h ⊎ (h ≡ fresh (image c)))
+    → CrashesLeave F replaced last (λ h. WhereTold o (IsMoment c es h))
     → CrashesLeave F first last (λ h. WhereTold o (F.may_leave first h ⊎ IsMoment c es h))
 survives {S} F timed c es o first loaded replaced last load replace append =
     let Or : Holding → Type 0 = λ h. F.may_leave first h ⊎ IsMoment c es h in
-    let opened : (h : Holding) → h ≡ fresh (image c) → IsMoment c es h = λ h e. subst (IsMoment c es) (sym e) (some c es [] (changes es, refl)) in
+    let opened : (h : Holding) → h ≡ fresh (image c)
+    → IsMoment c es h = λ h e. subst (IsMoment c es) (sym e) (some c es [] (changes es, refl)) in
     let on = then_on F first loaded replaced (F.may_leave first) (λ h. F.may_leave loaded h ⊎ (h ≡ fresh (image c))) Or load replace
-    (λ h left. inl left) (λ h is. ⊎_elim (λ left. inl (load.each h (timed.counts_now loaded (F.moment first) h load.later left))) (λ e. inr (opened h e)) is) in
-    then_on F first replaced last Or (λ h. WhereTold o (IsMoment c es h)) (λ h. WhereTold o (Or h)) on append (λ h is. told_all o (Or h) is) (λ h is. told_more o (IsMoment c es h) (Or h) (λ m. inr m) is)
+    (λ h left. inl left) (λ h is. ⊎_elim (λ left. inl (load.each h (timed.counts_now loaded (F.moment first) h load.later left)))
+    (λ e. inr (opened h e)) is) in
+    then_on F first replaced last Or (λ h. WhereTold o (IsMoment c es h)) (λ h. WhereTold o (Or h)) on append (λ h is. told_all o (Or h) is)
+    (λ h is. told_more o (IsMoment c es h) (Or h) (λ m. inr m) is)

@@ -4,4 +4,3 @@ pub mod Leaving
 pub mod Imaged
 pub mod Steps
 pub mod Replaces
-mod Common

@@ -1,12 +1,12 @@
 -- How a run of appends goes, of which each call but the last was answered.
-use Rattle.std.specs.Prelude.{◌≡◌, ◌⊎◌, List, [], ◌∷◌, ◌++◌}
-use Rattle.store_frame.specs.Prelude.{Request}
-use Rattle.shelf.specs.Logged.{IsDurable, HoldsOneOf, Sight}
-use Rattle.shelf.specs.Logged.Call.{Replace, Append, AppendOutOfMemory}
-use Rattle.shelf.specs.declared.kept.ShelfStop.{ShelfStop}
-use Rattle.shelf.specs.declared.kept.ShelfStop.TheVariants.{Failed, NoMemory}
 use Rattle.journal_log.specs.Changes.{Begins}
 use Rattle.journal_log.specs.Kept.{HoldsGrownBy}
+use Rattle.s3_types.specs.declared.request.Request.{Request}
+use Rattle.shelf.specs.Logged.{HoldsOneOf, IsDurable, Sight}
+use Rattle.shelf.specs.Logged.Call.{Append, AppendOutOfMemory, Replace}
+use Rattle.shelf.specs.declared.kept.ShelfStop.{ShelfStop}
+use Rattle.shelf.specs.declared.kept.ShelfStop.TheVariants.{Failed, NoMemory}
+use Rattle.std.specs.Prelude.{List, [], ◌++◌, ◌∷◌, ◌≡◌, ◌⊎◌}
 
 -- one append was answered for each of these changes
 abbrev pub AreAnswered : {S : Type 0} → Sight S → List Request → S → S → Type 0

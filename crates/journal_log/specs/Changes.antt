@@ -1,7 +1,12 @@
 -- What a journal changes of a store.
-use Rattle.std.specs.Prelude.{◌≡◌, List, [], ◌∷◌, ◌++◌, map}
-use Rattle.store_frame.specs.Prelude.{filter, Content, apply_store, is_effective, Request, Entry}
 use Rattle.log_format.specs.Change.{is_changing}
+use Rattle.s3_types.specs.Answer.{apply_store}
+use Rattle.s3_types.specs.Moment.{is_effective}
+use Rattle.s3_types.specs.Store.{Content}
+use Rattle.s3_types.specs.declared.journal.Entry.{Entry}
+use Rattle.s3_types.specs.declared.request.Request.{Request}
+use Rattle.std.specs.List.{filter}
+use Rattle.std.specs.Prelude.{List, map, [], ◌++◌, ◌∷◌, ◌≡◌}
 
 -- the requests of the effective entries that are changing, in order
 unfoldable pub changes : List Entry → List Request

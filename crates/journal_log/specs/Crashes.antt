@@ -1,10 +1,13 @@
 -- What a crash leaves of a run.
-use Rattle.std.specs.Prelude.{◌≡◌, ◌⊎◌, ℕ, List, [], ◌∷◌, length, Option, Some, None}
-use Rattle.store_frame.specs.Prelude.{Content, moment, Request, Entry}
-use Rattle.shelf.specs.Logged.{Holding, Stored, HoldsGrown, IsBeforeOrAfter, Sight, CrashesLeave}
-use Rattle.shelf.specs.Logged.Holding.{Nothing}
 use Rattle.journal_log.specs.Changes.{Begins}
-use Rattle.journal_log.specs.Kept.{StandsFor, IsMoment, IsToEnd, grown_by}
+use Rattle.journal_log.specs.Kept.{IsMoment, IsToEnd, StandsFor, grown_by}
+use Rattle.s3_types.specs.Moment.{moment}
+use Rattle.s3_types.specs.Store.{Content}
+use Rattle.s3_types.specs.declared.journal.Entry.{Entry}
+use Rattle.s3_types.specs.declared.request.Request.{Request}
+use Rattle.shelf.specs.Logged.{CrashesLeave, Holding, HoldsGrown, IsBeforeOrAfter, Sight, Stored}
+use Rattle.shelf.specs.Logged.Holding.{Nothing}
+use Rattle.std.specs.Prelude.{List, None, Option, Some, length, ℕ, [], ◌∷◌, ◌≡◌, ◌⊎◌}
 
 -- P, where it is told what is held
 abbrev pub WhereTold : Option Stored → Type 0 → Type 0
@@ -21,8 +24,10 @@ abbrev pub IsLast : Option Stored → Content → List Entry → Holding → Typ
 IsLast None opening es h = Unit {0}
 IsLast (Some s) opening es h = StandsFor h (moment opening es (length es)).content ⊎ ((s.holding ≡ Nothing) × (h ≡ Nothing))
 
--- Crashes of a run with this status and with this held at its end: what one at its beginning may leave, what one since then might have left, and what one at its end may leave.
-pub record SurvivesCrashes (due : ℕ) (held : Option Stored) (at_first since_then at_last : Holding → Type 0) (opening : Content) (es : List Entry) : Type 0 where
+-- Crashes of a run with this status and with this held at its end: what one at its beginning may leave, what one since then might have
+-- left, and what one at its end may leave.
+pub record SurvivesCrashes (due : ℕ) (held : Option Stored) (at_first since_then at_last : Holding → Type 0) (opening : Content)
+    (es : List Entry) : Type 0 where
   -- during the run: what one at its beginning may leave, or a moment of the run
   pub within : (h : Holding) → since_then h → WhereTold held (at_first h ⊎ IsMoment opening es h)
   -- behind a run that went to its end: its last moment

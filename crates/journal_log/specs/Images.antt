@@ -1,12 +1,12 @@
 -- What comes of putting the image of a store in place of what a shelf holds.
-use Rattle.std.specs.Prelude.{◌≡◌, ◌⊎◌, ℕ, ◌<◌, [], Result, Err}
-use Rattle.store_frame.specs.Prelude.{Content}
-use Rattle.shelf.specs.Logged.{fresh, IsDurable, Sight, CrashesLeave}
+use Rattle.journal_log.specs.Kept.{Holds}
+use Rattle.s3_types.specs.Store.{Content}
+use Rattle.shelf.specs.Logged.{CrashesLeave, IsDurable, Sight, fresh}
 use Rattle.shelf.specs.Logged.Call.{Replace}
 use Rattle.shelf.specs.declared.kept.ShelfStop.{ShelfStop}
 use Rattle.shelf.specs.declared.kept.ShelfStop.TheVariants.{Failed}
+use Rattle.std.specs.Prelude.{Err, Result, ℕ, [], ◌<◌, ◌≡◌, ◌⊎◌}
 use Rattle.store_image.specs.Image.{image}
-use Rattle.journal_log.specs.Kept.{Holds}
 
 -- it was put there
 pub record Replaced {S : Type 0} (F : Sight S) (c : Content) (old new : S) : Type 0 where

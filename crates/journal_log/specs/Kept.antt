@@ -1,11 +1,15 @@
 -- What a shelf keeps of a run: the image of its opening content, and changes of its journal.
-use Rattle.std.specs.Prelude.{◌≡◌, ◌≢◌, ◌⊎◌, ℕ, ◌<◌, ◌≤◌, List, [], ◌∷◌, ◌++◌, length, Option, Some, None}
-use Rattle.store_frame.specs.Prelude.{option_map, Content, moment, Request, Entry}
+use Rattle.journal_log.specs.Changes.{Begins, changes, content_after}
 use Rattle.log_format.specs.declared.held.Held.{Held}
+use Rattle.s3_types.specs.Moment.{moment}
+use Rattle.s3_types.specs.Store.{Content}
+use Rattle.s3_types.specs.declared.journal.Entry.{Entry}
+use Rattle.s3_types.specs.declared.request.Request.{Request}
 use Rattle.shelf.specs.Logged.{Holding, Stored, told}
-use Rattle.shelf.specs.Logged.Holding.{Nothing, Stands, BadAt}
+use Rattle.shelf.specs.Logged.Holding.{BadAt, Nothing, Stands}
+use Rattle.std.specs.Option.{option_map}
+use Rattle.std.specs.Prelude.{List, None, Option, Some, length, ℕ, [], ◌++◌, ◌<◌, ◌∷◌, ◌≡◌, ◌≢◌, ◌≤◌, ◌⊎◌}
 use Rattle.store_image.specs.Image.{image}
-use Rattle.journal_log.specs.Changes.{changes, content_after, Begins}
 
 -- ---- what a holding stands for
 
@@ -42,7 +46,8 @@ last_event n (e ∷ es) = last_event e.event es
 
 -- among these are all changes up to each entry of an earlier event than the last entry's
 abbrev pub HasEarlier : List Entry → List Request → Type 0
-HasEarlier es rs = (front back : List Entry) (e : Entry) → es ≡ front ++ e ∷ back → e.event < last_event 0 es → Begins (changes (front ++ e ∷ [])) rs
+HasEarlier es rs = (front back : List Entry) (e : Entry) → es ≡ front ++ e ∷ back → e.event < last_event 0 es
+    → Begins (changes (front ++ e ∷ [])) rs
 
 -- the first changes of a run that was cut short, with all of the earlier events
 pub record HoldsPart (held : Option Stored) (opening : Content) (es : List Entry) : Type 0 where

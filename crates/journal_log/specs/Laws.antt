@@ -1,15 +1,20 @@
 -- The laws of this crate.
-use Rattle.std.specs.Prelude.{◌≡◌, ◌⊎◌, ℕ, ◌<◌, ◌≤◌, ◌^◌, true, false, List, ◌++◌, length, take, Option}
-use Rattle.store_frame.specs.Prelude.{AllByRecursion, Content, Scene, new_content, apply, apply_store, moment, Request, Entry}
+use Rattle.journal_log.specs.Changes.{Begins, changes, content_after}
+use Rattle.journal_log.specs.Crashes.{AreAppended, IsBetween, IsLast, WhereTold}
+use Rattle.journal_log.specs.Kept.{HasEarlier, Holds, HoldsGrownBy, HoldsPart, HoldsSome, IsMoment, StandsFor, Unfolds, kept}
+use Rattle.journal_log.specs.Made.{IsMade, KeepsImages}
 use Rattle.log_format.specs.Change.{is_changing}
 use Rattle.log_format.specs.declared.held.Held.{Held}
-use Rattle.shelf.specs.Logged.{Holding, Stored, fresh, IsDurable, Sight, CrashesLeave}
+use Rattle.s3_types.specs.Answer.{apply, apply_store}
+use Rattle.s3_types.specs.Moment.{moment}
+use Rattle.s3_types.specs.Store.{Content, Scene, new_content}
+use Rattle.s3_types.specs.declared.journal.Entry.{Entry}
+use Rattle.s3_types.specs.declared.request.Request.{Request}
+use Rattle.shelf.specs.Logged.{CrashesLeave, Holding, IsDurable, Sight, Stored, fresh}
+use Rattle.std.specs.List.{AllByRecursion}
+use Rattle.std.specs.Prelude.{List, Option, false, length, take, true, ℕ, ◌++◌, ◌<◌, ◌^◌, ◌≡◌, ◌≤◌, ◌⊎◌}
+use Rattle.store_image.specs.Content.{IsContent, is_minimum}
 use Rattle.store_image.specs.Image.{image}
-use Rattle.store_image.specs.Content.{is_minimum, IsContent}
-use Rattle.journal_log.specs.Changes.{changes, content_after, Begins}
-use Rattle.journal_log.specs.Made.{IsMade, KeepsImages}
-use Rattle.journal_log.specs.Kept.{Unfolds, StandsFor, IsMoment, kept, Holds, HasEarlier, HoldsPart, HoldsGrownBy, HoldsSome}
-use Rattle.journal_log.specs.Crashes.{WhereTold, IsBetween, IsLast, AreAppended}
 
 -- the changes of a journal's requests give the store at each of its moments
 pub record ChangesFollow : Type 0 where
@@ -29,7 +34,8 @@ pub record ContentStays : Type 0 where
   pub new : (minimum : ℕ) → is_minimum minimum ≡ true → IsContent (new_content minimum)
   -- and so can a store behind requests, up to the most of its counter
   pub one : (c : Content) (r : Request) → IsContent c → IsMade r → (apply_store c r).next ≤ 2 ^ 62 → IsContent (apply_store c r)
-  pub all : (c : Content) (rs : List Request) → IsContent c → AllByRecursion IsMade rs → (content_after c rs).next ≤ 2 ^ 62 → IsContent (content_after c rs)
+  pub all : (c : Content) (rs : List Request) → IsContent c → AllByRecursion IsMade rs → (content_after c rs).next ≤ 2 ^ 62
+      → IsContent (content_after c rs)
   -- and behind each entry of a journal
   pub moments : (opening : Content) (es : List Entry) → AllByRecursion IsMade (changes es) → KeepsImages opening es
 
@@ -41,29 +47,43 @@ pub record KeptStands : Type 0 where
   -- a moment is one of a longer run too
   pub longer : (opening : Content) (es fs : List Entry) (h : Holding) → IsMoment opening es h → IsMoment opening (es ++ fs) h
   -- what grew holds the changes before and those by which it grew
-  pub grown : (opening : Content) (before after : Option Stored) (rs more : List Request) → Holds before opening rs → HoldsGrownBy before after more → Holds after opening (rs ++ more)
+  pub grown : (opening : Content) (before after : Option Stored) (rs more : List Request) → Holds before opening rs
+      → HoldsGrownBy before after more → Holds after opening (rs ++ more)
   -- what stands between the changes of two journals is a moment of both together
-  pub between : (opening : Content) (es part : List Entry) (held : Option Stored) (h : Holding) → Holds held opening (changes es) → IsBetween held (changes part) h → WhereTold held (IsMoment opening (es ++ part) h)
+  pub between : (opening : Content) (es part : List Entry) (held : Option Stored) (h : Holding) → Holds held opening (changes es)
+      → IsBetween held (changes part) h → WhereTold held (IsMoment opening (es ++ part) h)
   -- all changes before an event, with some of that event's, have all of the earlier events
-  pub earlier : (es part : List Entry) (n : ℕ) (rs : List Request) → AllByRecursion (λ e. e.event ≡ n) part → Begins rs (changes part) → HasEarlier (es ++ part) (changes es ++ rs)
+  pub earlier : (es part : List Entry) (n : ℕ) (rs : List Request) → AllByRecursion (λ e. e.event ≡ n) part → Begins rs (changes part)
+      → HasEarlier (es ++ part) (changes es ++ rs)
   -- what grew by first changes of an event is what is held of a run that was cut short there
-  pub short : (opening : Content) (before after : Option Stored) (es part : List Entry) (n : ℕ) → Holds before opening (changes es) → AllByRecursion (λ e. e.event ≡ n) part → HoldsSome before after (changes part) → HoldsPart after opening (es ++ part)
+  pub short : (opening : Content) (before after : Option Stored) (es part : List Entry) (n : ℕ) → Holds before opening (changes es)
+      → AllByRecursion (λ e. e.event ≡ n) part → HoldsSome before after (changes part) → HoldsPart after opening (es ++ part)
   -- where the base is the image of a content that can have one, there is one content that it all stands for
-  pub one : (held : Held) (c d : Content) (a : Unfolds held c) (b : Unfolds held d) → length held.base < 2 ^ 64 → IsContent a.first → IsContent b.first → c ≡ d
+  pub one : (held : Held) (c d : Content) (a : Unfolds held c) (b : Unfolds held d) → length held.base < 2 ^ 64 → IsContent a.first
+      → IsContent b.first → c ≡ d
 
--- from a shelf that is durable and holds the changes of a journal, first changes of the next entries were appended: a crash since then left a moment
+-- from a shelf that is durable and holds the changes of a journal, first changes of the next entries were appended: a crash since then left
+-- a moment
 pub record CrashesLeaveMoments {S : Type 0} (F : Sight S) : Type 0 where
-  pub between : (old new : S) (rs : List Request) → IsDurable (F.held old) (F.may_leave old) → AreAppended F old rs new → CrashesLeave F old new (IsBetween (F.held old) rs)
-  pub leave : (opening : Content) (es part : List Entry) (old new : S) (rs : List Request) → Holds (F.held old) opening (changes es) → IsDurable (F.held old) (F.may_leave old) → AreAppended F old rs new → Begins rs (changes part)
+  pub between : (old new : S) (rs : List Request) → IsDurable (F.held old) (F.may_leave old) → AreAppended F old rs new
+      → CrashesLeave F old new (IsBetween (F.held old) rs)
+  pub leave : (opening : Content) (es part : List Entry) (old new : S) (rs : List Request) → Holds (F.held old) opening (changes es)
+      → IsDurable (F.held old) (F.may_leave old) → AreAppended F old rs new → Begins rs (changes part)
       → CrashesLeave F old new (λ h. WhereTold (F.held old) (IsMoment opening (es ++ part) h))
   -- one at the end of a run that is held whole and is durable leaves its last moment
-  pub last : (opening : Content) (es : List Entry) (at_end : S) → Holds (F.held at_end) opening (changes es) → IsDurable (F.held at_end) (F.may_leave at_end) → (h : Holding) → F.may_leave at_end h → IsLast (F.held at_end) opening es h
+  pub last : (opening : Content) (es : List Entry) (at_end : S) → Holds (F.held at_end) opening (changes es)
+      → IsDurable (F.held at_end) (F.may_leave at_end) → (h : Holding) → F.may_leave at_end h → IsLast (F.held at_end) opening es h
   -- and so from one event to the next, also where some of the next changes were appended alone
-  pub on : (opening : Content) (es part : List Entry) (first mid new : S) → Holds (F.held mid) opening (changes es) → HoldsSome (F.held mid) (F.held new) (changes part) → CrashesLeave F first mid (λ h. WhereTold (F.held mid) (IsMoment opening es h))
-      → CrashesLeave F mid new (IsBetween (F.held mid) (changes part)) → CrashesLeave F first new (λ h. WhereTold (F.held new) (IsMoment opening (es ++ part) h))
+  pub on : (opening : Content) (es part : List Entry) (first mid new : S) → Holds (F.held mid) opening (changes es)
+      → HoldsSome (F.held mid) (F.held new) (changes part) → CrashesLeave F first mid (λ h. WhereTold (F.held mid) (IsMoment opening es h))
+      → CrashesLeave F mid new (IsBetween (F.held mid) (changes part))
+      → CrashesLeave F first new (λ h. WhereTold (F.held new) (IsMoment opening (es ++ part) h))
 
--- a shelf was loaded, replaced by the image of the opening content, and took changes of the journal: a crash since the load began left what one before it may leave, or a moment
+-- a shelf was loaded, replaced by the image of the opening content, and took changes of the journal: a crash since the load began left what
+-- one before it may leave, or a moment
 pub record RunsSurvive {S : Type 0} (F : Sight S) : Type 0 where
-  pub survive : (opening : Content) (es : List Entry) (told : Option Stored) (first loaded replaced last : S) → CrashesLeave F first loaded (F.may_leave first)
-      → CrashesLeave F loaded replaced (λ h. F.may_leave loaded h ⊎ (h ≡ fresh (image opening))) → CrashesLeave F replaced last (λ h. WhereTold told (IsMoment opening es h))
+  pub survive : (opening : Content) (es : List Entry) (told : Option Stored) (first loaded replaced last : S)
+      → CrashesLeave F first loaded (F.may_leave first)
+      → CrashesLeave F loaded replaced (λ h. F.may_leave loaded h ⊎ (h ≡ fresh (image opening)))
+      → CrashesLeave F replaced last (λ h. WhereTold told (IsMoment opening es h))
       → CrashesLeave F first last (λ h. WhereTold told (F.may_leave first h ⊎ IsMoment opening es h))

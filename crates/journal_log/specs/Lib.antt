@@ -5,4 +5,3 @@ pub mod Crashes
 pub mod Laws
 pub mod Appends
 pub mod Images
-pub mod Prelude

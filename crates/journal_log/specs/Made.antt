@@ -1,10 +1,16 @@
 -- Requests that keep a store one that an image can have.
-use Rattle.std.specs.Prelude.{◌≡◌, ℕ, ◌<◌, ◌≤◌, ◌^◌, true, List, length}
-use Rattle.store_frame.specs.Prelude.{is_key, Content, moment, Request, PutObject, CopyObject, CreateUpload, Entry}
-use Rattle.store_image.specs.Image.{header}
+use Rattle.s3_types.specs.Moment.{moment}
+use Rattle.s3_types.specs.Names.{is_key}
+use Rattle.s3_types.specs.Store.{Content}
+use Rattle.s3_types.specs.declared.journal.Entry.{Entry}
+use Rattle.s3_types.specs.declared.request.Request.{Request}
+use Rattle.s3_types.specs.declared.request.Request.TheVariants.{CopyObject, CreateUpload, PutObject}
+use Rattle.std.specs.Prelude.{List, length, true, ℕ, ◌<◌, ◌^◌, ◌≡◌, ◌≤◌}
 use Rattle.store_image.specs.Content.{IsContent}
+use Rattle.store_image.specs.Image.{header}
 
--- what it puts it puts at a key, with a header that fits in its field; the names of new buckets and the numbers of parts are tested by the store itself
+-- what it puts it puts at a key, with a header that fits in its field; the names of new buckets and the numbers of parts are tested by the
+-- store itself
 abbrev pub IsMade : Request → Type 0
 IsMade (PutObject bucket key bytes given) = (is_key key ≡ true) × (header given < 2 ^ 64)
 IsMade (CopyObject bucket source target) = is_key target ≡ true
@@ -13,4 +19,5 @@ IsMade _ = Unit {0}
 
 -- from a content that an image can have a run leads through such contents alone, where its counter is at most 2^62 at the end
 abbrev pub KeepsImages : Content → List Entry → Type 0
-KeepsImages opening es = IsContent opening → (moment opening es (length es)).content.next ≤ 2 ^ 62 → (m : ℕ) → IsContent (moment opening es m).content
+KeepsImages opening es = IsContent opening → (moment opening es (length es)).content.next ≤ 2 ^ 62 → (m : ℕ)
+    → IsContent (moment opening es m).content

@@ -1,8 +1,9 @@
 -- What the first line of a text is.
-use Rattle.basics.proofs.Common.{List, [], ap, append-nil, append_assoc, arith, length, length-append, refl, sym, ℕ, ◌++◌, ◌+◌, ◌<◌, ◌==◌}
-use Rattle.basics.proofs.Common.{◌∙◌, ◌∷◌, ◌≡◌, Bool, true, false, cond}
 use Rattle.basics.specs.Lines.{unless_empty}
-use Rattle.line_input.specs.LinesOf.{lines_from, lines_of, first_line, behind_line}
+use Rattle.line_input.specs.LinesOf.{behind_line, first_line, lines_from, lines_of}
+use Rattle.std.proofs.Common.{Bool, List, ap, append_assoc, arith, cond, false, length, refl, sym, true, ℕ, [], ◌++◌, ◌+◌, ◌<◌, ◌==◌, ◌∙◌}
+use Rattle.std.proofs.Common.{◌∷◌, ◌≡◌}
+use Rattle.std.proofs.lemmas.List.{append-nil, length-append}
 
 some_line : (line : List ℕ) → 0 < length line → unless_empty line ≡ line ∷ []
 some_line [] h = absurd (omega arith)

@@ -1,12 +1,15 @@
 -- What is given of the bytes that are unread.
-use Rattle.basics.proofs.Common.{Bool, List, None, Option, Some, [], and_parts, ap, append-nil, append_assoc, arith, drop, drop-cons}
-use Rattle.basics.proofs.Common.{false, inl, inr, length, length-append, list_all, nil_from_length, refl, subst}
-use Rattle.basics.proofs.Common.{suc, sym, take, take-append-drop, take_at, true, ℕ, ◌++◌, ◌<◌, ◌∙◌, ◌∷◌, ◌≡◌, nat_lt, ltb-true, ltb-false}
 use Rattle.basics.proofs.Bools.{not_so}
 use Rattle.basics.specs.Parts.{is_other}
-use Rattle.line_input.specs.LinesOf.{first_line, behind_line}
-use Rattle.line_input.specs.Reading.{unread, Gives, IsWhole, IsCut}
 use Rattle.line_input.specs.Buffers.{IsEnd, IsLineEnd, line_at, rest_at}
+use Rattle.line_input.specs.LinesOf.{behind_line, first_line}
+use Rattle.line_input.specs.Reading.{Gives, IsCut, IsWhole, unread}
+use Rattle.std.proofs.Common.{Bool, List, None, Option, Some, ap, append_assoc, arith, drop, false, inl, inr, length, nat_lt, refl, subst}
+use Rattle.std.proofs.Common.{suc, sym, take, true, ℕ, [], ◌++◌, ◌<◌, ◌∙◌, ◌∷◌, ◌≡◌}
+use Rattle.std.proofs.Math.Seq.{drop-cons}
+use Rattle.std.proofs.lemmas.Bool.{and_parts, ltb-false, ltb-true}
+use Rattle.std.proofs.lemmas.List.{append-nil, length-append, nil_from_length, take-append-drop, take_at}
+use Rattle.std.specs.List.{list_all}
 
 first_inside : (front rest : List ℕ) → list_all (is_other 10) front ≡ true → first_line (front ++ rest) ≡ front ++ first_line rest
 unfolding first_line

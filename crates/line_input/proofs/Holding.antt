@@ -1,17 +1,19 @@
 -- What is held after more was read, and where the first line feed of it is.
-use Rattle.basics.proofs.Common.{List, None, Option, Some, [], ap, append_assoc, arith, cases_lt, drop, drop-drop, drop_all, eq-eqb, inl}
-use Rattle.basics.proofs.Common.{inr, le-ltb, lt-ltb, nat_lt, eqb-true, get_or, get_or-drop, get_or-take, length}
-use Rattle.basics.proofs.Common.{length-take, length-take-le, list_all, list_all-append, refl, subst, suc, sym, take, take-append-drop}
-use Rattle.basics.proofs.Common.{take_all, take_at, true, ℕ, ◌++◌, ◌+◌, ◌-◌, ◌<◌, ◌∙◌, ◌≡◌, ◌≤◌}
-use Rattle.std.proofs.Common.{length-drop, slice_range}
-use Rattle.std.proofs.Math.Seq.{take-add}
-use Rattle.std.proofs.lemmas.Slice.{between_is}
-use Rattle.memchr.specs.Find.{IsFirstByte, Nowhere, Passes, is_byte}
 use Rattle.basics.proofs.Pieces.{others_from_bytes}
 use Rattle.basics.specs.Parts.{is_other}
-use Rattle.shelf.specs.Devices.{Takes}
-use Rattle.line_input.specs.Reading.{unread, IsOver}
 use Rattle.line_input.specs.Buffers.{IsLineEnd}
+use Rattle.line_input.specs.Reading.{IsOver, unread}
+use Rattle.memchr.specs.Find.{IsFirstByte, Nowhere, Passes, is_byte}
+use Rattle.shelf.specs.Devices.{Takes}
+use Rattle.std.proofs.Common.{List, None, Option, Some, ap, append_assoc, arith, drop, get_or, inl, inr, length, length-drop, nat_lt, refl}
+use Rattle.std.proofs.Common.{slice_range, subst, suc, sym, take, true, ℕ, [], ◌++◌, ◌+◌, ◌-◌, ◌<◌, ◌∙◌, ◌≡◌, ◌≤◌}
+use Rattle.std.proofs.Math.Seq.{take-add}
+use Rattle.std.proofs.lemmas.Bool.{cases_lt, eq-eqb, eqb-true, le-ltb, lt-ltb}
+use Rattle.std.proofs.lemmas.List.{drop-drop, drop_all, get_or-drop, get_or-take, length-take, length-take-le, take-append-drop, take_all}
+use Rattle.std.proofs.lemmas.List.{take_at}
+use Rattle.std.proofs.lemmas.List.Folds.{list_all-append}
+use Rattle.std.proofs.lemmas.Slice.{between_is}
+use Rattle.std.specs.List.{list_all}
 
 -- ---- what is held
 

@@ -1,5 +1,17 @@
 -- Entries that are keys.
-use Rattle.list_walk.proofs.Common.{AreKeys, Bool, Err, IfOk, List, More, None, Object, Objects, Ok, Option, PageEntry, Reply, Result, Some, Walked, Whole, [], ap, arith, begins, cond, entry_of, false, filter, folded_from, is_again, is_lt, keys_on, listed, map, map-append, refl, suc, take, text_cmp, text_in, true, walked, walked_by, walked_entries, ℕ, ◌++◌, ◌∙◌, ◌∷◌, ◌≡◌}
+use Rattle.basics.specs.Order.{text_cmp}
+use Rattle.list_walk.specs.Fitting.{AreKeys}
+use Rattle.list_walk.specs.Walks.{More, Walked, Whole, keys_on, walked, walked_by, walked_entries}
+use Rattle.s3_types.specs.Pages.{begins, entry_of, folded_from, is_again, listed, text_in}
+use Rattle.s3_types.specs.Store.{Objects}
+use Rattle.s3_types.specs.declared.object.Object.{Object}
+use Rattle.s3_types.specs.declared.reply.PageEntry.{PageEntry}
+use Rattle.s3_types.specs.declared.reply.Reply.{Reply}
+use Rattle.std.proofs.Common.{Bool, Err, IfOk, List, None, Ok, Option, Result, Some, ap, arith, cond, false, map, refl, suc, take, true, ℕ}
+use Rattle.std.proofs.Common.{[], ◌++◌, ◌∙◌, ◌∷◌, ◌≡◌}
+use Rattle.std.proofs.lemmas.List.{map-append}
+use Rattle.std.specs.List.{filter}
+use Rattle.std.specs.Ordering.{is_lt}
 use Rattle.std.specs.FinMap as fin
 
 pub are_keys : (es fs : List PageEntry) → AreKeys es → AreKeys fs → AreKeys (es ++ fs)
@@ -24,17 +36,19 @@ keys_filtered test (e ∷ es) h = elim (test e) as (λ b. AreKeys (cond b (e ∷
 
 keys_folded : (last : Option (List ℕ)) (es : List PageEntry) → AreKeys es → AreKeys (folded_from last es)
 keys_folded last [] h = tt
-keys_folded last (e ∷ es) h = elim (is_again last e) as (λ b. AreKeys (cond b (folded_from last es) (e ∷ folded_from (Some (text_in e)) es))) [
-  | true ↦ keys_folded last es h.1
-  | false ↦ (h.0, keys_folded (Some (text_in e)) es h.1)
-]
+keys_folded last (e ∷ es) h = elim (is_again last e) as (λ b. AreKeys
+    (cond b (folded_from last es) (e ∷ folded_from (Some (text_in e)) es))) [
+      | true ↦ keys_folded last es h.1
+      | false ↦ (h.0, keys_folded (Some (text_in e)) es h.1)
+    ]
 
 keys_taken : (n : ℕ) (es : List PageEntry) → AreKeys es → AreKeys (take n es)
 keys_taken (suc n) (e ∷ es) h = (h.0, keys_taken n es h.1)
 keys_taken _ _ h = tt
 
 pub page_keys : (n : ℕ) (p a : List ℕ) (m : Objects) → AreKeys (take n (listed p false a m))
-page_keys n p a m = keys_taken n _ (keys_folded None _ (keys_filtered (λ x. is_lt (text_cmp a (text_in x))) _ (keys_mapped p (filter (λ e. begins p e.0) (fin.entries m)))))
+page_keys n p a m = keys_taken n _ (keys_folded None _ (keys_filtered (λ x. is_lt (text_cmp a (text_in x))) _
+    (keys_mapped p (filter (λ e. begins p e.0) (fin.entries m)))))
 
 -- ---- walks
 
@@ -47,6 +61,9 @@ on_keys (Whole es) = Whole (keys_on es)
 pub walked_keys : (found : List PageEntry) (r : Reply) → walked (keys_on found) r ≡ on_keys (walked_entries found r)
 walked_keys found r = grind (arith, keys_joined)
 
-pub heard_keys : {E : Type 0} (old new : List PageEntry) (r : Reply) (heard : Result Bool E) → IfOk heard (λ more. walked_entries old r ≡ walked_by more new) → IfOk heard (λ more. walked (keys_on old) r ≡ walked_by more (keys_on new))
-heard_keys old new r (Ok more) h = walked_keys old r ∙ ap on_keys h ∙ (elim more as (λ b. on_keys (walked_by b new) ≡ walked_by b (keys_on new)) [ true ↦ refl | false ↦ refl ])
+pub heard_keys : {E : Type 0} (old new : List PageEntry) (r : Reply) (heard : Result Bool E)
+    → IfOk heard (λ more. walked_entries old r ≡ walked_by more new)
+    → IfOk heard (λ more. walked (keys_on old) r ≡ walked_by more (keys_on new))
+heard_keys old new r (Ok more) h = walked_keys old r ∙ ap on_keys h ∙ (elim more as
+    (λ b. on_keys (walked_by b new) ≡ walked_by b (keys_on new)) [ true ↦ refl | false ↦ refl ])
 heard_keys old new r (Err e) h = h

@@ -1,8 +1,12 @@
 -- The replies that walks and sweeps are given where their bucket is there.
-use Rattle.std.specs.Prelude.{Bool, true, false, List}
-use Rattle.store_frame.specs.Prelude.{AllByRecursion, Reply, Page, Refused, NoSuchBucket, PageEntry, Prefix}
-use Rattle.list_walk.specs.Walks.{Sweep, Listing, Deleting}
-use Rattle.s3_types.specs.declared.reply.PageEntry.TheVariants.{Object as Single}
+use Rattle.list_walk.specs.Walks.{Deleting, Listing, Sweep}
+use Rattle.s3_types.specs.declared.reply.PageEntry.{PageEntry}
+use Rattle.s3_types.specs.declared.reply.PageEntry.TheVariants.{Object as Single, Prefix}
+use Rattle.s3_types.specs.declared.reply.Refusal.TheVariants.{NoSuchBucket}
+use Rattle.s3_types.specs.declared.reply.Reply.{Reply}
+use Rattle.s3_types.specs.declared.reply.Reply.TheVariants.{Page, Refused}
+use Rattle.std.specs.List.{AllByRecursion}
+use Rattle.std.specs.Prelude.{Bool, List, false, true}
 
 -- an entry of a page that is not folded
 abbrev pub IsKey : PageEntry → Type 0

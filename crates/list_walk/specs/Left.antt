@@ -1,9 +1,14 @@
 -- What walks and sweeps have left in a scene.
-use Rattle.std.specs.Prelude.{ℕ, ◌+◌, ◌*◌, ◌/◌, Bool, true, false, List, ◌∷◌, length, Option, Some, None}
-use Rattle.store_frame.specs.Prelude.{filter, Scene, BucketContent, begins, listed, Request, PutObject, CopyObject, CompleteUpload, CreateUpload, UploadPart, UploadRef}
+use Rattle.list_walk.specs.Walks.{Deleting, Listing, Sweep, last_of, last_ref}
+use Rattle.s3_types.specs.Pages.{begins, listed}
+use Rattle.s3_types.specs.Store.{BucketContent, Scene}
+use Rattle.s3_types.specs.declared.request.Request.{Request}
+use Rattle.s3_types.specs.declared.request.Request.TheVariants.{CompleteUpload, CopyObject, CreateUpload, PutObject, UploadPart}
+use Rattle.s3_types.specs.declared.request.UploadRef.{UploadRef}
+use Rattle.std.specs.List.{filter}
+use Rattle.std.specs.Prelude.{Bool, List, None, Option, Some, false, length, true, ℕ, ◌*◌, ◌+◌, ◌/◌, ◌∷◌}
 use Rattle.std.specs.FinMap as fin
 use Rattle.s3_types.specs.Multipart as uploads
-use Rattle.list_walk.specs.Walks.{Sweep, Listing, Deleting, last_of, last_ref}
 
 -- how many of something a bucket has: none where it is not there
 abbrev pub count_in : (BucketContent → ℕ) → Option BucketContent → ℕ

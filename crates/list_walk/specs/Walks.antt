@@ -1,7 +1,14 @@
--- Walks over listings page by page, and the deletion of keys in batches (Amazon S3 API: ListObjectsV2, ListMultipartUploads, DeleteObjects).
-use Rattle.std.specs.Prelude.{ℕ, Bool, true, false, List, [], ◌∷◌, ◌++◌, map, take, drop, Option, Some, None}
-use Rattle.store_frame.specs.Prelude.{filter, text_in, Request, DeleteObjects, ListPage, ListUploads, UploadRef, Reply, Page, PageEntry}
-use Rattle.s3_types.specs.declared.reply.Reply.TheVariants.{Uploads}
+-- Walks over listings page by page, and the deletion of keys in batches (Amazon S3 API: ListObjectsV2, ListMultipartUploads,
+-- DeleteObjects).
+use Rattle.s3_types.specs.Pages.{text_in}
+use Rattle.s3_types.specs.declared.reply.PageEntry.{PageEntry}
+use Rattle.s3_types.specs.declared.reply.Reply.{Reply}
+use Rattle.s3_types.specs.declared.reply.Reply.TheVariants.{Page, Uploads}
+use Rattle.s3_types.specs.declared.request.Request.{Request}
+use Rattle.s3_types.specs.declared.request.Request.TheVariants.{DeleteObjects, ListPage, ListUploads}
+use Rattle.s3_types.specs.declared.request.UploadRef.{UploadRef}
+use Rattle.std.specs.List.{filter}
+use Rattle.std.specs.Prelude.{Bool, List, None, Option, Some, drop, false, map, take, true, ℕ, [], ◌++◌, ◌∷◌}
 
 -- a walk after a page: what was listed so far, or all of it
 pub data Walked (X : Type 0) : Type 0 where

@@ -1,16 +1,23 @@
 -- A row whose last field is read behind its others.
-use Rattle.log_format.proofs.Common.{Fails, List, LogFault, Ok, Request, Result, ap, subst, sym, wanting, ℕ, ◌>>=◌, ◌∙◌, ◌≡◌}
-use Rattle.log_format.specs.Reading.{Read, pair_at, paired, alone, row_of}
+use Rattle.basics.specs.Reading.{Fails, ◌>>=◌}
+use Rattle.log_format.specs.Fault.{wanting}
+use Rattle.log_format.specs.Reading.{Read, alone, pair_at, paired, row_of}
+use Rattle.log_format.specs.declared.fault.LogFault.{LogFault}
+use Rattle.s3_types.specs.declared.request.Request.{Request}
+use Rattle.std.proofs.Common.{List, Ok, Result, ap, subst, sym, ℕ, ◌∙◌, ◌≡◌}
 
-module _ {A B : Type 0} (make : A × B → Request) (at : ℕ) (first : List ℕ → Read A) (second : List ℕ → Read B) (bytes : List ℕ) (a : A) (rest : List ℕ) where
+module _ {A B : Type 0} (make : A × B → Request) (at : ℕ) (first : List ℕ → Read A) (second : List ℕ → Read B) (bytes : List ℕ) (a : A)
+    (rest : List ℕ) where
   last_field : first bytes ≡ Ok (a, rest) → row_of make (pair_at first second) at bytes ≡ alone make at (paired a (second rest))
   unfolding row_of pair_at
   last_field is = ap (λ (r : Read A). alone make at (r >>= λ x. paired x.0 (second x.1))) is
 
   -- the request that is read
-  pub row : (request : Request) → first bytes ≡ Ok (a, rest) → alone make at (paired a (second rest)) ≡ Ok request → row_of make (pair_at first second) at bytes ≡ Ok request
+  pub row : (request : Request) → first bytes ≡ Ok (a, rest) → alone make at (paired a (second rest)) ≡ Ok request
+      → row_of make (pair_at first second) at bytes ≡ Ok request
   row request is read = last_field is ∙ read
 
   -- a fault of the last field or behind it
-  pub fault : (e : LogFault) → first bytes ≡ Ok (a, rest) → Fails wanting e (alone make at (paired a (second rest))) → Fails wanting e (row_of make (pair_at first second) at bytes)
+  pub fault : (e : LogFault) → first bytes ≡ Ok (a, rest) → Fails wanting e (alone make at (paired a (second rest)))
+      → Fails wanting e (row_of make (pair_at first second) at bytes)
   fault e is read = subst (λ (r : Result Request LogFault). Fails wanting e r) (sym (last_field is)) read

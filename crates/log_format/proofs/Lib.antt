@@ -3,4 +3,3 @@ pub mod Steps
 pub mod Changes
 pub mod Files
 pub mod Behind
-mod Common

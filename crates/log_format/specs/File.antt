@@ -1,10 +1,10 @@
 -- What a file's bytes stand for.
-use Rattle.std.specs.Prelude.{◌≡◌, ◌≢◌, ◌⊎◌, ℕ, false, List, [], ◌∷◌, ◌++◌}
-use Rattle.s3_types.specs.Prelude.{AllByRecursion}
 use Rattle.log_format.specs.Change.{IsChange}
 use Rattle.log_format.specs.Log.{headed, opened}
 use Rattle.log_format.specs.Reading.{is_log}
 use Rattle.log_format.specs.declared.held.Held.{Held}
+use Rattle.std.specs.List.{AllByRecursion}
+use Rattle.std.specs.Prelude.{List, false, ℕ, [], ◌++◌, ◌∷◌, ◌≡◌, ◌≢◌, ◌⊎◌}
 
 -- a file that is no log is a base without changes
 pub record IsBare (file : List ℕ) (held : Held) : Type 0 where

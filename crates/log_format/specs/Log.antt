@@ -1,10 +1,12 @@
 -- How a base and the changes after it are written in a file. All numbers are big-endian.
-use Rattle.std.specs.Prelude.{ℕ, List, [], ◌∷◌, ◌++◌, length, codes}
-use Rattle.s3_types.specs.Prelude.{w32, w64, to_be_bytes, flat_map}
+use Rattle.log_format.specs.Change.{header}
 use Rattle.s3_types.specs.declared.request.NamedPart.{NamedPart}
 use Rattle.s3_types.specs.declared.request.Request.{Request}
-use Rattle.s3_types.specs.declared.request.Request.TheVariants.{MakeBucket, PutObject, DeleteObject, DeleteObjects, CopyObject, CreateUpload, UploadPart, CompleteUpload, AbortUpload}
-use Rattle.log_format.specs.Change.{header}
+use Rattle.s3_types.specs.declared.request.Request.TheVariants.{AbortUpload, CompleteUpload, CopyObject, CreateUpload, DeleteObject}
+use Rattle.s3_types.specs.declared.request.Request.TheVariants.{DeleteObjects, MakeBucket, PutObject, UploadPart}
+use Rattle.std.specs.Int.{to_be_bytes, w32, w64}
+use Rattle.std.specs.List.{flat_map}
+use Rattle.std.specs.Prelude.{List, codes, length, ℕ, [], ◌++◌, ◌∷◌}
 
 -- a number in 4 bytes
 abbrev pub short : ℕ → List ℕ

@@ -1,15 +1,22 @@
--- Reading a file from left to right, with the first fault that is met. All faults within a record are told at one place, that of its length.
-use Rattle.std.specs.Prelude.{ℕ, ◌-◌, zero, suc, ◌==◌, nat_lt, Bool, List, [], ◌∷◌, length, take, drop, slice_index, bytes_eq, Option, Some, None, Result, Ok, Err, if◌then◌else◌}
-use Rattle.s3_types.specs.Prelude.{Width, w32, w64, byte_len, from_be_bytes, list_all, is_utf8, ◌>>=◌, passing, is_bucket, is_key, is_hex}
-use Rattle.basics.specs.Reading as reading
-use Rattle.basics.specs.Reading.{made}
-use Rattle.s3_types.specs.declared.request.NamedPart.{NamedPart}
-use Rattle.s3_types.specs.declared.request.Request.{Request}
-use Rattle.s3_types.specs.declared.request.Request.TheVariants.{MakeBucket, PutObject, DeleteObject, DeleteObjects, CopyObject, CreateUpload, UploadPart, CompleteUpload, AbortUpload}
+-- Reading a file from left to right, with the first fault that is met. All faults within a record are told at one place, that of its
+-- length.
+use Rattle.basics.specs.Reading.{made, passing, ◌>>=◌}
 use Rattle.log_format.specs.Log.{magic}
-use Rattle.log_format.specs.declared.held.Held.{Held}
 use Rattle.log_format.specs.declared.fault.LogFault.{LogFault}
 use Rattle.log_format.specs.declared.fault.LogFault.TheVariants.{Bad}
+use Rattle.log_format.specs.declared.held.Held.{Held}
+use Rattle.s3_types.specs.Names.{is_bucket, is_key}
+use Rattle.s3_types.specs.Tags.{is_hex}
+use Rattle.s3_types.specs.declared.request.NamedPart.{NamedPart}
+use Rattle.s3_types.specs.declared.request.Request.{Request}
+use Rattle.s3_types.specs.declared.request.Request.TheVariants.{AbortUpload, CompleteUpload, CopyObject, CreateUpload, DeleteObject}
+use Rattle.s3_types.specs.declared.request.Request.TheVariants.{DeleteObjects, MakeBucket, PutObject, UploadPart}
+use Rattle.std.specs.Int.{Width, byte_len, from_be_bytes, w32, w64}
+use Rattle.std.specs.List.{list_all}
+use Rattle.std.specs.Prelude.{Bool, Err, List, None, Ok, Option, Result, Some, bytes_eq, drop, if◌then◌else◌, length, nat_lt, slice_index}
+use Rattle.std.specs.Prelude.{suc, take, zero, ℕ, [], ◌-◌, ◌==◌, ◌∷◌}
+use Rattle.std.specs.Str.{is_utf8}
+use Rattle.basics.specs.Reading as reading
 
 -- a value with what is left after it, or a fault
 abbrev pub Read : Type 0 → Type 0
@@ -109,7 +116,8 @@ make_bucket_in at bytes = row_of MakeBucket (text_at is_utf8 at) at bytes
 
 -- the PutObject whose fields these bytes are, or a fault
 unfoldable pub put_object_in : ℕ → List ℕ → Result Request LogFault
-put_object_in at bytes = row_of (λ x. PutObject x.0.0.0 x.0.0.1 x.1 (header_in x.0.1)) (pair_at (pair_at (target_at at) (number_at w64 at)) (block_at at)) at bytes
+put_object_in at bytes = row_of (λ x. PutObject x.0.0.0 x.0.0.1 x.1 (header_in x.0.1))
+    (pair_at (pair_at (target_at at) (number_at w64 at)) (block_at at)) at bytes
 
 -- the DeleteObject whose fields these bytes are, or a fault
 unfoldable pub delete_object_in : ℕ → List ℕ → Result Request LogFault
@@ -117,7 +125,8 @@ delete_object_in at bytes = row_of (λ x. DeleteObject x.0 x.1) (target_at at) a
 
 -- the DeleteObjects whose fields these bytes are, or a fault
 unfoldable pub delete_objects_in : ℕ → List ℕ → Result Request LogFault
-delete_objects_in at bytes = row_of (λ x. DeleteObjects x.0 x.1) (pair_at (text_at is_bucket at) (counted_at (text_at is_key at) at)) at bytes
+delete_objects_in at bytes = row_of (λ x. DeleteObjects x.0 x.1) (pair_at (text_at is_bucket at) (counted_at (text_at is_key at) at)) at
+    bytes
 
 -- the CopyObject whose fields these bytes are, or a fault
 unfoldable pub copy_object_in : ℕ → List ℕ → Result Request LogFault
@@ -129,11 +138,13 @@ create_upload_in at bytes = row_of (λ x. CreateUpload x.0 x.1) (target_at at) a
 
 -- the UploadPart whose fields these bytes are, or a fault
 unfoldable pub upload_part_in : ℕ → List ℕ → Result Request LogFault
-upload_part_in at bytes = row_of (λ x. UploadPart x.0.0.0.0 x.0.0.0.1 x.0.0.1 x.0.1 x.1) (pair_at (pair_at (upload_at at) (number_at w32 at)) (block_at at)) at bytes
+upload_part_in at bytes = row_of (λ x. UploadPart x.0.0.0.0 x.0.0.0.1 x.0.0.1 x.0.1 x.1)
+    (pair_at (pair_at (upload_at at) (number_at w32 at)) (block_at at)) at bytes
 
 -- the CompleteUpload whose fields these bytes are, or a fault
 unfoldable pub complete_upload_in : ℕ → List ℕ → Result Request LogFault
-complete_upload_in at bytes = row_of (λ x. CompleteUpload x.0.0.0 x.0.0.1 x.0.1 x.1) (pair_at (upload_at at) (counted_at (named_at at) at)) at bytes
+complete_upload_in at bytes = row_of (λ x. CompleteUpload x.0.0.0 x.0.0.1 x.0.1 x.1) (pair_at (upload_at at) (counted_at (named_at at) at))
+    at bytes
 
 -- the AbortUpload whose fields these bytes are, or a fault
 unfoldable pub abort_upload_in : ℕ → List ℕ → Result Request LogFault
@@ -171,7 +182,8 @@ unfoldable pub changes_at : ℕ → ℕ → List ℕ → Result (List Request) L
 changes_at zero whole bytes = Err (Bad (place whole bytes))
 changes_at (suc n) whole bytes = do
   gate ← byte_at (place whole bytes) bytes
-  if gate.0 == 1 then (record_at (place whole gate.1) gate.1 >>= λ change. changes_at n whole change.1 >>= λ changes. Ok (change.0 ∷ changes)) else Ok []
+  if gate.0 == 1 then (record_at (place whole gate.1) gate.1 >>= λ change. changes_at n whole change.1 >>= λ changes. Ok
+      (change.0 ∷ changes)) else Ok []
 
 -- a base and the changes after it
 unfoldable pub logged_in : ℕ → List ℕ → Result Held LogFault

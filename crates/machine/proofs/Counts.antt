@@ -1,5 +1,10 @@
 -- Counts of sendings one after another.
-use Rattle.machine.proofs.Common.{AreAnswered, Counted, Entry, Fate, List, Option, [], ap, append_assoc, arith, false, is_unanswered, length, length-append, subst, sym, ℕ, ◌++◌, ◌+◌, ◌∙◌, ◌∷◌, ◌≡◌, ◌≤◌}
+use Rattle.machine.specs.Counted.{AreAnswered, Counted}
+use Rattle.s3_types.specs.Moment.{is_unanswered}
+use Rattle.s3_types.specs.declared.fates.Fate.{Fate}
+use Rattle.s3_types.specs.declared.journal.Entry.{Entry}
+use Rattle.std.proofs.Common.{List, Option, ap, append_assoc, arith, false, length, length-append, subst, sym, ℕ, [], ◌++◌, ◌+◌, ◌∙◌, ◌∷◌}
+use Rattle.std.proofs.Common.{◌≡◌, ◌≤◌}
 
 cancel : (l a b : List Entry) → l ++ a ≡ l ++ b → a ≡ b
 cancel [] a b h = h
@@ -10,21 +15,27 @@ answered_both [] b h = (tt, h)
 answered_both (e ∷ a) b h = let k = answered_both a b h.1 in ((h.0, k.0), k.1)
 
 -- nothing was sent
-pub counted_none : (old new : List Entry) (first requests before now : ℕ) (told tells : ℕ → Option Fate) → new ≡ old → requests ≡ first → now ≡ before → ((n : ℕ) → tells n ≡ told n) → Counted old new first requests before now told tells
+pub counted_none : (old new : List Entry) (first requests before now : ℕ) (told tells : ℕ → Option Fate) → new ≡ old → requests ≡ first
+    → now ≡ before → ((n : ℕ) → tells n ≡ told n) → Counted old new first requests before now told tells
 counted_none old new first requests before now told tells h g e f = grind arith
 
 -- one sending, with its entry
-pub counted_one : (old mid new : List Entry) (e : Entry) (first requests before now : ℕ) (told tells : ℕ → Option Fate) → new ≡ mid ++ e ∷ [] → mid ≡ old → requests ≡ first + 1 → before ≤ now → (is_unanswered e.outcome ≡ false → now ≡ before) → ((n : ℕ) → tells n ≡ told n) → Counted old new first requests before now told tells
+pub counted_one : (old mid new : List Entry) (e : Entry) (first requests before now : ℕ) (told tells : ℕ → Option Fate)
+    → new ≡ mid ++ e ∷ [] → mid ≡ old → requests ≡ first + 1 → before ≤ now → (is_unanswered e.outcome ≡ false → now ≡ before)
+    → ((n : ℕ) → tells n ≡ told n) → Counted old new first requests before now told tells
 counted_one old mid new e first requests before now told tells em eo r l k t = record {
-  made = let n : length new ≡ length (mid ++ e ∷ []) = ap length em in let m : length mid ≡ length old = ap length eo in omega (arith, n, m, length-append mid (e ∷ []), r);
+  made = let n : length new ≡ length (mid ++ e ∷ []) = ap length em in let m : length mid ≡ length old = ap length eo in omega
+      (arith, n, m, length-append mid (e ∷ []), r);
   foretold = t;
   losses = l;
   kept = λ part ep a. k (subst AreAnswered (cancel old part (e ∷ []) (sym ep ∙ em ∙ ap (λ l. l ++ e ∷ []) eo)) a).0;
 }
 
 -- first these, and then those
-pub counted_then : (old mid new part rest : List Entry) (first middle requests before between now : ℕ) (told meanwhile tells : ℕ → Option Fate) → mid ≡ old ++ part → new ≡ mid ++ rest
-    → Counted old mid first middle before between told meanwhile → Counted mid new middle requests between now meanwhile tells → Counted old new first requests before now told tells
+pub counted_then : (old mid new part rest : List Entry) (first middle requests before between now : ℕ)
+    (told meanwhile tells : ℕ → Option Fate) → mid ≡ old ++ part → new ≡ mid ++ rest
+    → Counted old mid first middle before between told meanwhile → Counted mid new middle requests between now meanwhile tells
+    → Counted old new first requests before now told tells
 counted_then old mid new part rest first middle requests before between now told meanwhile tells em en h k = record {
   made = omega (arith, h.made, k.made);
   foretold = λ n. k.foretold n ∙ h.foretold n;

@@ -1,6 +1,9 @@
 -- What each sending of a machine that is alone keeps.
-use Rattle.std.specs.Prelude.{◌≡◌, Bool, true, false, Option, Some}
-use Rattle.machine.specs.Prelude.{Scene, answer, apply, Request, Item, Got, WornOut}
+use Rattle.retries.specs.Retries.{Got, Item, WornOut}
+use Rattle.s3_types.specs.Answer.{answer, apply}
+use Rattle.s3_types.specs.Store.{Scene}
+use Rattle.s3_types.specs.declared.request.Request.{Request}
+use Rattle.std.specs.Prelude.{Bool, Option, Some, false, true, ◌≡◌}
 
 -- what holds of a machine, the scene, and whether an earlier sending of its request was lost, holds after each sending
 pub record Keeps {M : Type 0} (wants : M → Option Request) (after : M → Item → M) (K : M → Scene → Bool → Type 0) : Type 0 where

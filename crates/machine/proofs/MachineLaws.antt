@@ -1,7 +1,12 @@
 -- The laws of a machine, for any operation that an actor holds.
-use Rattle.std.specs.Prelude.{ℕ, Bool, Option}
-use Rattle.machine.specs.Prelude.{Scene, Request, Reply, Item, Standing, Laws, AskLaws}
-use Rattle.machine.specs.Asks.{never}
+use Rattle.machine.specs.Asks.{AskLaws, never}
+use Rattle.machine.specs.Laws.{Laws}
+use Rattle.machine.specs.Standing.{Standing}
+use Rattle.retries.specs.Retries.{Item}
+use Rattle.s3_types.specs.Store.{Scene}
+use Rattle.s3_types.specs.declared.reply.Reply.{Reply}
+use Rattle.s3_types.specs.declared.request.Request.{Request}
+use Rattle.std.specs.Prelude.{Bool, Option, ℕ}
 
 pub machine_laws : {O E : Type 0} {wants : O → Option Request} {after : O → Item → O} {fits : O → Reply → Bool → Type 0}
     {end_of : O → Option E} {standing : O → Standing} (left : O → Scene → ℕ) → AskLaws wants after fits end_of standing

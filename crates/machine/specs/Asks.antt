@@ -1,7 +1,10 @@
 -- What an operation owes beside the contracts of its calls.
-use Rattle.std.specs.Prelude.{◌≡◌, Bool, Option, Some, None, is_none, is_some}
-use Rattle.retries.specs.Prelude.{Scene, Request, Reply, Item, Got, WornOut, OutOfMemory}
-use Rattle.machine.specs.Standing.{Standing, Faulted, Broken}
+use Rattle.machine.specs.Standing.{Broken, Faulted, Standing}
+use Rattle.retries.specs.Retries.{Got, Item, OutOfMemory, WornOut}
+use Rattle.s3_types.specs.Store.{Scene}
+use Rattle.s3_types.specs.declared.reply.Reply.{Reply}
+use Rattle.s3_types.specs.declared.request.Request.{Request}
+use Rattle.std.specs.Prelude.{Bool, None, Option, Some, is_none, is_some, ◌≡◌}
 
 -- what an actor's operation owes as a machine
 pub record AskLaws {O E : Type 0} (wants : O → Option Request) (after : O → Item → O) (fits : O → Reply → Bool → Type 0)

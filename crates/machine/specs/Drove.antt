@@ -1,24 +1,37 @@
 -- What sending once, and driving a machine alone, have done.
-use Rattle.std.specs.Prelude.{◌≡◌, ℕ, ◌<◌, ◌≤◌, ◌+◌, ◌⊎◌, Bool, true, false, List, [], ◌∷◌, ◌++◌, length, Option, Some, None, Result, Ok, Err, IsTrue}
-use Rattle.retries.specs.Prelude.{Scene, answer, effect, after_all, AreHonest, IsHonestOutcome, is_unanswered, IsForetold, AreForetold, Fate, Request, Actor, Reply, Entry, Follows, run, Item, wants_of, fresh, step, has_worn}
-use Rattle.machine.specs.Standing.{Standing, Faulted}
-use Rattle.machine.specs.Turns.{retried, broken, turn_of, AreBy}
 use Rattle.machine.specs.Counted.{Counted}
-use Rattle.machine.specs.Tries.{Tried, IsFaultBy}
+use Rattle.machine.specs.Standing.{Faulted, Standing}
+use Rattle.machine.specs.Tries.{IsFaultBy, Tried}
+use Rattle.machine.specs.Turns.{AreBy, broken, retried, turn_of}
+use Rattle.machine.specs.declared.driving.DriveStop.{DriveStop}
+use Rattle.machine.specs.declared.driving.DriveStop.TheVariants.{NoMemory, StoreFault}
 use Rattle.machine.specs.declared.retrying.Retrying.{Retrying}
 use Rattle.machine.specs.declared.retrying.Turn.{Turn}
-use Rattle.machine.specs.declared.driving.DriveStop.{DriveStop}
-use Rattle.machine.specs.declared.driving.DriveStop.TheVariants.{StoreFault, NoMemory}
+use Rattle.retries.specs.Operation.{Follows, run}
+use Rattle.retries.specs.Retries.{Item, fresh, has_worn, step, wants_of}
+use Rattle.s3_types.specs.Answer.{answer}
+use Rattle.s3_types.specs.Foretold.{AreForetold, IsForetold}
+use Rattle.s3_types.specs.Moment.{AreHonest, IsHonestOutcome, after_all, effect, is_unanswered}
+use Rattle.s3_types.specs.Store.{Scene}
+use Rattle.s3_types.specs.declared.fates.Fate.{Fate}
+use Rattle.s3_types.specs.declared.journal.Entry.{Entry}
+use Rattle.s3_types.specs.declared.reply.Reply.{Reply}
+use Rattle.s3_types.specs.declared.request.Actor.{Actor}
+use Rattle.s3_types.specs.declared.request.Request.{Request}
+use Rattle.std.specs.Prelude.{Bool, Err, IsTrue, List, None, Ok, Option, Result, Some, false, length, true, ℕ, [], ◌++◌, ◌+◌, ◌<◌, ◌∷◌, ◌≡◌}
+use Rattle.std.specs.Prelude.{◌≤◌, ◌⊎◌}
 
 -- from s to s' these entries are one run of the machine from t on
-pub record IsRun {M : Type 0} (wants : M → Option Request) (after : M → Item → M) (actor : Actor) (event : ℕ) (t : Retrying M) (s : Scene) (part : List Entry) (s' : Scene) : Type 0 where
+pub record IsRun {M : Type 0} (wants : M → Option Request) (after : M → Item → M) (actor : Actor) (event : ℕ) (t : Retrying M) (s : Scene)
+    (part : List Entry) (s' : Scene) : Type 0 where
   pub by : AreBy actor event part
   pub honest : AreHonest s part
   pub follows : Follows (wants_of wants) (step t.retries after) (retried t) part
   pub scene : s' ≡ after_all s part
 
 -- one sending, by a machine at t: the entry, which is honest, and the scene after it
-pub record IsSent {M : Type 0} (wants : M → Option Request) (actor : Actor) (event : ℕ) (t : Retrying M) (s : Scene) (e : Entry) (s' : Scene) : Type 0 where
+pub record IsSent {M : Type 0} (wants : M → Option Request) (actor : Actor) (event : ℕ) (t : Retrying M) (s : Scene) (e : Entry)
+    (s' : Scene) : Type 0 where
   pub by : e.actor ≡ actor
   pub during : e.event ≡ event
   pub wanted : wants t.machine ≡ Some e.request
@@ -26,8 +39,10 @@ pub record IsSent {M : Type 0} (wants : M → Option Request) (actor : Actor) (e
   pub scene : s' ≡ effect s e.request e.outcome
 
 -- nothing was asked, and nothing sent; or one sending, with its entry
-abbrev pub Sent : {M : Type 0} → (M → Option Request) → (M → Item → M) → Actor → ℕ → Retrying M → Retrying M → Scene → Scene → List Entry → List Entry → ℕ → ℕ → (ℕ → Option Fate) → ℕ → ℕ → Option Turn → Type 0
-Sent wants after actor event t t' s s' old new before now told first requests None = (wants t.machine ≡ None) × (t' ≡ t) × (s' ≡ s) × (now ≡ before) × (new ≡ old)
+abbrev pub Sent : {M : Type 0} → (M → Option Request) → (M → Item → M) → Actor → ℕ → Retrying M → Retrying M → Scene → Scene → List Entry
+    → List Entry → ℕ → ℕ → (ℕ → Option Fate) → ℕ → ℕ → Option Turn → Type 0
+Sent wants after actor event t t' s s' old new before now told first requests None = (wants t.machine ≡ None) × (t' ≡ t) × (s' ≡ s)
+    × (now ≡ before) × (new ≡ old)
 Sent wants after actor event t t' s s' old new before now told first requests (Some turn) = (e : Entry)
     × IsSent wants actor event t s e s'
     × (new ≡ old ++ e ∷ [])
@@ -56,7 +71,8 @@ standing_after true x = Faulted
 standing_after false x = x
 
 -- the machine is where these entries lead, and asks nothing more
-pub record IsOver {M : Type 0} (wants : M → Option Request) (after : M → Item → M) (ready : M → Scene → Bool → Type 0) (standing : M → Standing) (t : Retrying M) (part : List Entry) (t' : Retrying M) (s' : Scene) (worn : Bool) : Type 0 where
+pub record IsOver {M : Type 0} (wants : M → Option Request) (after : M → Item → M) (ready : M → Scene → Bool → Type 0)
+    (standing : M → Standing) (t : Retrying M) (part : List Entry) (t' : Retrying M) (s' : Scene) (worn : Bool) : Type 0 where
   pub there : retried t' ≡ run (step t.retries after) (retried t) part
   pub retries : t'.retries ≡ t.retries
   pub over : wants t'.machine ≡ None
@@ -71,7 +87,9 @@ Ended over before now (Err StoreFault) = over true × (before < now)
 Ended over before now (Err NoMemory) = Unit {0}
 
 -- from t, s and the entries `old`, a machine that was alone was driven to t', s' and the entries `new`
-pub record Drove {M T : Type 0} (wants : M → Option Request) (after : M → Item → M) (ready : M → Scene → Bool → Type 0) (standing : M → Standing) (actor : Actor) (event : ℕ) (t t' : Retrying M) (s s' : Scene) (old new : List Entry) (before now : ℕ) (told : ℕ → Option Fate) (first : ℕ) (result : Result T DriveStop) : Type 0 where
+pub record Drove {M T : Type 0} (wants : M → Option Request) (after : M → Item → M) (ready : M → Scene → Bool → Type 0)
+    (standing : M → Standing) (actor : Actor) (event : ℕ) (t t' : Retrying M) (s s' : Scene) (old new : List Entry) (before now : ℕ)
+    (told : ℕ → Option Fate) (first : ℕ) (result : Result T DriveStop) : Type 0 where
   pub part : List Entry
   pub appended : new ≡ old ++ part
   pub is_run : IsRun wants after actor event t s part s'
@@ -82,7 +100,9 @@ pub record Drove {M T : Type 0} (wants : M → Option Request) (after : M → It
   pub ended : Ended (IsOver wants after ready standing t part t' s') before now result
 
 -- a machine that was alone, in the midst of being driven
-pub record Driving {M : Type 0} (after : M → Item → M) (wants : M → Option Request) (ready : M → Scene → Bool → Type 0) (standing : M → Standing) (actor : Actor) (event : ℕ) (t t' : Retrying M) (s s' : Scene) (old new : List Entry) (before now : ℕ) (told tells : ℕ → Option Fate) (first requests : ℕ) (worn : Bool) : Type 0 where
+pub record Driving {M : Type 0} (after : M → Item → M) (wants : M → Option Request) (ready : M → Scene → Bool → Type 0)
+    (standing : M → Standing) (actor : Actor) (event : ℕ) (t t' : Retrying M) (s s' : Scene) (old new : List Entry) (before now : ℕ)
+    (told tells : ℕ → Option Fate) (first requests : ℕ) (worn : Bool) : Type 0 where
   pub part : List Entry
   pub appended : new ≡ old ++ part
   pub is_run : IsRun wants after actor event t s part s'

@@ -1,8 +1,11 @@
 -- A run's sendings, request by request, as its journal shows them.
-use Rattle.std.specs.Prelude.{◌≡◌, ℕ, ◌+◌, ◌≤◌, Bool, true, false, ◌||◌, List, [], ◌∷◌, ◌++◌, length, Option, Some, None, Result, Ok, Err}
-use Rattle.retries.specs.Prelude.{is_unanswered, Request, Entry, WornFirst}
 use Rattle.machine.specs.declared.driving.DriveStop.{DriveStop}
-use Rattle.machine.specs.declared.driving.DriveStop.TheVariants.{StoreFault, NoMemory}
+use Rattle.machine.specs.declared.driving.DriveStop.TheVariants.{NoMemory, StoreFault}
+use Rattle.retries.specs.Worn.{WornFirst}
+use Rattle.s3_types.specs.Moment.{is_unanswered}
+use Rattle.s3_types.specs.declared.journal.Entry.{Entry}
+use Rattle.s3_types.specs.declared.request.Request.{Request}
+use Rattle.std.specs.Prelude.{Bool, Err, List, None, Ok, Option, Result, Some, false, length, true, ℕ, [], ◌++◌, ◌+◌, ◌||◌, ◌∷◌, ◌≡◌, ◌≤◌}
 
 -- sendings of this request, none of which got an answer
 abbrev pub AreUnanswered : Request → List Entry → Type 0

@@ -1,9 +1,15 @@
 -- A machine under its retries as an operation of replies, and what its sendings are for it.
-use Rattle.std.specs.Prelude.{◌≡◌, ℕ, Bool, true, false, List, [], ◌∷◌}
-use Rattle.retries.specs.Prelude.{Actor, Reply, Outcome, Answered, Entry, was_answered, Item, OutOfMemory, Retried, wears}
 use Rattle.machine.specs.declared.retrying.Retrying.{Retrying}
 use Rattle.machine.specs.declared.retrying.Turn.{Turn}
 use Rattle.machine.specs.declared.retrying.Turn.TheVariants.{Again, Moved, WornOut as Worn}
+use Rattle.retries.specs.Retries.{Item, OutOfMemory, Retried, wears}
+use Rattle.retries.specs.Worn.{was_answered}
+use Rattle.s3_types.specs.declared.journal.Entry.{Entry}
+use Rattle.s3_types.specs.declared.journal.Outcome.{Outcome}
+use Rattle.s3_types.specs.declared.journal.Outcome.TheVariants.{Answered}
+use Rattle.s3_types.specs.declared.reply.Reply.{Reply}
+use Rattle.s3_types.specs.declared.request.Actor.{Actor}
+use Rattle.std.specs.Prelude.{Bool, List, false, true, ℕ, [], ◌∷◌, ◌≡◌}
 
 -- the operation with its counter
 abbrev pub retried : {M : Type 0} → Retrying M → Retried M

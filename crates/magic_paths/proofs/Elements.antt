@@ -1,7 +1,19 @@
 -- The elements of the layout's keys.
-use Rattle.magic_paths.proofs.Common.{Bool, List, [], and_parts, ap, append_assoc, are_elements, arith, attempt_key, codes, decimal, decimal_nonempty, elements_append, false, is_element, is_id_byte, is_job_id, is_key, is_other, length, list_all, list_all-append, nat_le, nat_tests, one_part, refl, set_key, some_key, success_key, sym, true, ℕ, ◌%◌, ◌&&◌, ◌++◌, ◌+◌, ◌<◌, ◌^◌, ◌∙◌, ◌∷◌, ◌≡◌, ◌≢◌, ◌≤◌}
-use Rattle.std.proofs.lemmas.Fmt.{decimal_by_steps}
-use Rattle.basics.specs.Parts.{parts_from}
+use Rattle.basics.proofs.Pieces.{one_part}
+use Rattle.basics.specs.Parts.{is_other, parts_from}
+use Rattle.magic_paths.specs.Layout.{attempt_key, set_key, success_key}
+use Rattle.path_keys.proofs.Beneath.{elements_append}
+use Rattle.path_keys.proofs.Keys.{some_key}
+use Rattle.path_keys.specs.Paths.{is_key}
+use Rattle.s3_types.specs.Names.{are_elements, is_element, is_id_byte, is_job_id}
+use Rattle.std.proofs.Common.{Bool, List, ap, append_assoc, arith, codes, false, length, nat_le, refl, sym, true, ℕ, [], ◌%◌, ◌&&◌, ◌++◌}
+use Rattle.std.proofs.Common.{◌+◌, ◌<◌, ◌^◌, ◌∙◌, ◌∷◌, ◌≡◌, ◌≢◌, ◌≤◌}
+use Rattle.std.proofs.lemmas.Bool.{and_parts}
+use Rattle.std.proofs.lemmas.Bool.Decides.{nat_tests}
+use Rattle.std.proofs.lemmas.Fmt.{decimal_by_steps, decimal_nonempty}
+use Rattle.std.proofs.lemmas.List.Folds.{list_all-append}
+use Rattle.std.specs.Fmt.{decimal}
+use Rattle.std.specs.List.{list_all}
 
 abbrev is_digit : ℕ → Bool
 is_digit b = nat_le 48 b && nat_le b 57
@@ -23,7 +35,8 @@ digit_other s b n h = grind (arith, nat_tests)
 
 digits_others : (s : ℕ) (ds : List ℕ) → is_digit s ≡ false → list_all is_digit ds ≡ true → list_all (is_other s) ds ≡ true
 digits_others s [] n h = refl
-digits_others s (d ∷ ds) n h = let p = and_parts (is_digit d) (list_all is_digit ds) h in rw (digit_other s d n p.0, digits_others s ds n p.1) refl
+digits_others s (d ∷ ds) n h = let p = and_parts (is_digit d) (list_all is_digit ds) h in rw
+    (digit_other s d n p.0, digits_others s ds n p.1) refl
 
 -- a decimal has none of a byte that is no digit
 pub decimal_without : (s n : ℕ) → is_digit s ≡ false → n < 2 ^ 64 → list_all (is_other s) (decimal n) ≡ true
@@ -47,19 +60,23 @@ number_is_element (d ∷ ds) more some h = word_is_element d (ds ++ more) (digit
 lone_element : (word : List ℕ) → list_all (is_other 47) word ≡ true → is_element word ≡ true → are_elements word ≡ true
 lone_element word others is = ap (list_all is_element) (one_part 47 word others) ∙ rw is refl
 
-three_others : (a b c : List ℕ) → list_all (is_other 47) a ≡ true → list_all (is_other 47) b ≡ true → list_all (is_other 47) c ≡ true → list_all (is_other 47) (a ++ (b ++ c)) ≡ true
+three_others : (a b c : List ℕ) → list_all (is_other 47) a ≡ true → list_all (is_other 47) b ≡ true → list_all (is_other 47) c ≡ true
+    → list_all (is_other 47) (a ++ (b ++ c)) ≡ true
 three_others a b c x y z = list_all-append (is_other 47) a (b ++ c) ∙ rw (x, list_all-append (is_other 47) b c, y, z) refl
 
 -- the element T_A of an attempt
-attempt_elements : (task attempt : ℕ) → task < 2 ^ 64 → attempt < 2 ^ 64 → are_elements (decimal task ++ (codes "_" ++ decimal attempt)) ≡ true
+attempt_elements : (task attempt : ℕ) → task < 2 ^ 64 → attempt < 2 ^ 64
+    → are_elements (decimal task ++ (codes "_" ++ decimal attempt)) ≡ true
 attempt_elements task attempt t a =
-    lone_element (decimal task ++ (codes "_" ++ decimal attempt)) (three_others (decimal task) (codes "_") (decimal attempt) (decimal_others task t) refl (decimal_others attempt a))
+    lone_element (decimal task ++ (codes "_" ++ decimal attempt)) (three_others (decimal task) (codes "_") (decimal attempt)
+    (decimal_others task t) refl (decimal_others attempt a))
     (number_is_element (decimal task) (codes "_" ++ decimal attempt) (decimal_nonempty task t) (digits_only task t))
 
 -- the element task_T.pendingset of a set
 set_elements : (task : ℕ) → task < 2 ^ 64 → are_elements (codes "task_" ++ (decimal task ++ codes ".pendingset")) ≡ true
 set_elements task t =
-    lone_element (codes "task_" ++ (decimal task ++ codes ".pendingset")) (three_others (codes "task_") (decimal task) (codes ".pendingset") refl (decimal_others task t) refl)
+    lone_element (codes "task_" ++ (decimal task ++ codes ".pendingset")) (three_others (codes "task_") (decimal task) (codes ".pendingset")
+    refl (decimal_others task t) refl)
     (word_is_element 116 (codes "ask_" ++ (decimal task ++ codes ".pendingset")) (λ e. absurd (omega arith)))
 
 -- the element job-ID of a job
@@ -98,21 +115,29 @@ unfolding parts_from
 fixed_success = refl
 
 -- what stands below a job's magic directory
-in_job : (dest id tail : List ℕ) → are_elements dest ≡ true → is_job_id id ≡ true → are_elements tail ≡ true → are_elements (dest ++ (codes "/__magic/job-" ++ (id ++ (codes "/" ++ tail)))) ≡ true
+in_job : (dest id tail : List ℕ) → are_elements dest ≡ true → is_job_id id ≡ true → are_elements tail ≡ true
+    → are_elements (dest ++ (codes "/__magic/job-" ++ (id ++ (codes "/" ++ tail)))) ≡ true
 in_job dest id tail d h t =
     let below = elements_append (codes "job-" ++ id) tail (job_elements id h) t in
-    let assoc : (codes "job-" ++ id) ++ (codes "/" ++ tail) ≡ codes "job-" ++ (id ++ (codes "/" ++ tail)) = append_assoc (codes "job-") id (codes "/" ++ tail) in
-    let magic = elements_append (codes "__magic") (codes "job-" ++ (id ++ (codes "/" ++ tail))) fixed_magic (ap are_elements (sym assoc) ∙ below) in
+    let assoc : (codes "job-" ++ id) ++ (codes "/" ++ tail) ≡ codes "job-" ++ (id ++ (codes "/" ++ tail)) = append_assoc (codes "job-") id
+    (codes "/" ++ tail) in
+    let magic = elements_append (codes "__magic") (codes "job-" ++ (id ++ (codes "/" ++ tail))) fixed_magic
+    (ap are_elements (sym assoc) ∙ below) in
     elements_append dest (codes "__magic/job-" ++ (id ++ (codes "/" ++ tail))) d magic
 
-pub attempt_key_elements : (dest id : List ℕ) (task attempt : ℕ) → are_elements dest ≡ true → is_job_id id ≡ true → task < 2 ^ 64 → attempt < 2 ^ 64 → are_elements (attempt_key dest id task attempt) ≡ true
+pub attempt_key_elements : (dest id : List ℕ) (task attempt : ℕ) → are_elements dest ≡ true → is_job_id id ≡ true → task < 2 ^ 64
+    → attempt < 2 ^ 64 → are_elements (attempt_key dest id task attempt) ≡ true
 attempt_key_elements dest id task attempt d h t a =
     let word = decimal task ++ (codes "_" ++ decimal attempt) in
-    let behind : word ++ codes "/__base" ≡ decimal task ++ (codes "_" ++ (decimal attempt ++ codes "/__base")) = append_assoc (decimal task) (codes "_" ++ decimal attempt) (codes "/__base") in
-    let tail = elements_append (codes "tasks") (word ++ codes "/__base") fixed_tasks (elements_append word (codes "__base") (attempt_elements task attempt t a) fixed_base) in
-    in_job dest id (codes "tasks/" ++ (decimal task ++ (codes "_" ++ (decimal attempt ++ codes "/__base")))) d h (ap (λ (l : List ℕ). are_elements (codes "tasks/" ++ l)) (sym behind) ∙ tail)
+    let behind : word ++ codes "/__base" ≡ decimal task ++ (codes "_" ++ (decimal attempt ++ codes "/__base")) = append_assoc (decimal task)
+    (codes "_" ++ decimal attempt) (codes "/__base") in
+    let tail = elements_append (codes "tasks") (word ++ codes "/__base") fixed_tasks
+    (elements_append word (codes "__base") (attempt_elements task attempt t a) fixed_base) in
+    in_job dest id (codes "tasks/" ++ (decimal task ++ (codes "_" ++ (decimal attempt ++ codes "/__base")))) d h
+    (ap (λ (l : List ℕ). are_elements (codes "tasks/" ++ l)) (sym behind) ∙ tail)
 
-pub set_key_elements : (dest id : List ℕ) (task : ℕ) → are_elements dest ≡ true → is_job_id id ≡ true → task < 2 ^ 64 → are_elements (set_key dest id task) ≡ true
+pub set_key_elements : (dest id : List ℕ) (task : ℕ) → are_elements dest ≡ true → is_job_id id ≡ true → task < 2 ^ 64
+    → are_elements (set_key dest id task) ≡ true
 set_key_elements dest id task d h t =
     in_job dest id (codes "sets/task_" ++ (decimal task ++ codes ".pendingset")) d h
     (elements_append (codes "sets") (codes "task_" ++ (decimal task ++ codes ".pendingset")) fixed_sets (set_elements task t))

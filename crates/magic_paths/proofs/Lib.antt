@@ -4,4 +4,3 @@ pub mod Kept
 pub mod Lengths
 pub mod Tails
 pub mod Walked
-mod Common

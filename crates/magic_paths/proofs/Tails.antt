@@ -1,8 +1,21 @@
 -- The keys and the cluster's paths of different places are different.
-use Rattle.magic_paths.proofs.Common.{List, [], and_parts, ap, append_assoc, append_cancel_left, append_cancel_right, arith, attempt_key, begins, below, codes, cond, decimal, decimal_injective, drop, ends_with, eqb-true, false, get_or, is_job_id, length, length-append, magic_prefix, nat_eq, nat_tests, not, refl, sym, text_eq, text_equiv, true, true≢false, ℕ, ◌++◌, ◌+◌, ◌-◌, ◌<◌, ◌^◌, ◌∙◌, ◌∷◌, ◌≡◌, ◌≤◌}
-use Rattle.magic_paths.specs.Places.{Place, FilePlace, MarkerPlace, RecordPlace, SetPlace, SuccessPlace, ClusterPlace, TemporaryPlace, StagedSetPlace, key_at, path_at, is_record, IsPlace, IsClusterPlace, is_magic_place}
-use Rattle.magic_paths.proofs.Elements.{id_others, decimal_without}
 use Rattle.basics.proofs.Cuts.{Cut, cut_once}
+use Rattle.basics.specs.Order.{text_eq, text_equiv}
+use Rattle.magic_paths.proofs.Elements.{decimal_without, id_others}
+use Rattle.magic_paths.specs.Layout.{attempt_key, magic_prefix}
+use Rattle.magic_paths.specs.Places.{ClusterPlace, FilePlace, IsClusterPlace, IsPlace, MarkerPlace, Place, RecordPlace, SetPlace}
+use Rattle.magic_paths.specs.Places.{StagedSetPlace, SuccessPlace, TemporaryPlace, is_magic_place, is_record, key_at, path_at}
+use Rattle.path_keys.specs.Paths.{below}
+use Rattle.s3_types.specs.Names.{is_job_id}
+use Rattle.s3_types.specs.Pages.{begins}
+use Rattle.std.proofs.Common.{List, ap, append_assoc, arith, codes, cond, drop, false, get_or, length, length-append, nat_eq, not, refl}
+use Rattle.std.proofs.Common.{sym, true, ℕ, [], ◌++◌, ◌+◌, ◌-◌, ◌<◌, ◌^◌, ◌∙◌, ◌∷◌, ◌≡◌, ◌≤◌}
+use Rattle.std.proofs.lemmas.Bool.{and_parts, eqb-true, true≢false}
+use Rattle.std.proofs.lemmas.Bool.Decides.{nat_tests}
+use Rattle.std.proofs.lemmas.Fmt.{decimal_injective}
+use Rattle.std.proofs.lemmas.List.{append_cancel_left, append_cancel_right}
+use Rattle.std.specs.Fmt.{decimal}
+use Rattle.std.specs.List.{ends_with}
 
 nat_same : (n : ℕ) → nat_eq n n ≡ true
 nat_same n = grind (arith, nat_tests)
@@ -68,12 +81,20 @@ record SameAttempt (t a : ℕ) (p : List ℕ) (u b : ℕ) (q : List ℕ) : Type 
   pub attempt : a ≡ b
   pub path : p ≡ q
 
-attempts_apart : (t a : ℕ) (p : List ℕ) (u b : ℕ) (q : List ℕ) → t < 2 ^ 64 → a < 2 ^ 64 → u < 2 ^ 64 → b < 2 ^ 64 → attempt_in t a p ≡ attempt_in u b q → SameAttempt t a p u b q
+attempts_apart : (t a : ℕ) (p : List ℕ) (u b : ℕ) (q : List ℕ) → t < 2 ^ 64 → a < 2 ^ 64 → u < 2 ^ 64 → b < 2 ^ 64
+    → attempt_in t a p ≡ attempt_in u b q → SameAttempt t a p u b q
 attempts_apart t a p u b q ht ha hu hb e =
-    let first = cut_once 95 (decimal t) (decimal u) (decimal a ++ 47 ∷ (codes "__base/" ++ p)) (decimal b ++ 47 ∷ (codes "__base/" ++ q)) (decimal_without 95 t refl ht) (decimal_without 95 u refl hu)
+    let first = cut_once 95 (decimal t) (decimal u) (decimal a ++ 47 ∷ (codes "__base/" ++ p)) (decimal b ++ 47 ∷ (codes "__base/" ++ q))
+    (decimal_without 95 t refl ht) (decimal_without 95 u refl hu)
     (append_cancel_left (codes "tasks/") _ _ e) in
-    let second = cut_once 47 (decimal a) (decimal b) (codes "__base/" ++ p) (codes "__base/" ++ q) (decimal_without 47 a refl ha) (decimal_without 47 b refl hb) first.back in
-    record { task = decimal_injective t u ht hu first.front; attempt = decimal_injective a b ha hb second.front; path = append_cancel_left (codes "__base/") p q second.back }
+    let second = cut_once 47 (decimal a) (decimal b) (codes "__base/" ++ p) (codes "__base/" ++ q) (decimal_without 47 a refl ha)
+    (decimal_without 47 b refl hb) first.back in
+    record {
+      task = decimal_injective t u ht hu first.front;
+      attempt = decimal_injective a b ha hb second.front;
+      path = append_cancel_left
+          (codes "__base/") p q second.back;
+    }
 
 tasks_sets : (t a : ℕ) (p : List ℕ) (u : ℕ) → attempt_in t a p ≡ set_in u → ⊥
 tasks_sets t a p u e = let h : ◌≡◌ {A = ℕ} 116 115 = ap (λ l. get_or l 0 0) e in absurd (omega arith)
@@ -86,20 +107,24 @@ inner_apart (MarkerPlace t a p) SuccessPlace m n g h e = absurd (true≢false (s
 inner_apart (MarkerPlace t a p) (MarkerPlace u b q) m n g h e =
     let s = attempts_apart t a p u b q g.0 g.1 h.0 h.1 e in
     ap (λ x. MarkerPlace x a p) s.task ∙ ap (λ x. MarkerPlace u x p) s.attempt ∙ ap (MarkerPlace u b) s.path
-inner_apart (MarkerPlace t a p) (RecordPlace u b q) m n g h e = absurd (no_record p q g.2 (attempts_apart t a p u b (q ++ codes ".pending") g.0 g.1 h.0 h.1 e).path)
+inner_apart (MarkerPlace t a p) (RecordPlace u b q) m n g h e = absurd (no_record p q g.2
+    (attempts_apart t a p u b (q ++ codes ".pending") g.0 g.1 h.0 h.1 e).path)
 inner_apart (MarkerPlace t a p) (SetPlace u) m n g h e = absurd (tasks_sets t a p u e)
 inner_apart (RecordPlace t a p) (FilePlace q) m n g h e = absurd (true≢false (sym n))
 inner_apart (RecordPlace t a p) SuccessPlace m n g h e = absurd (true≢false (sym n))
-inner_apart (RecordPlace t a p) (MarkerPlace u b q) m n g h e = absurd (no_record q p h.2 (sym (attempts_apart t a (p ++ codes ".pending") u b q g.0 g.1 h.0 h.1 e).path))
+inner_apart (RecordPlace t a p) (MarkerPlace u b q) m n g h e = absurd (no_record q p h.2
+    (sym (attempts_apart t a (p ++ codes ".pending") u b q g.0 g.1 h.0 h.1 e).path))
 inner_apart (RecordPlace t a p) (RecordPlace u b q) m n g h e =
     let s = attempts_apart t a (p ++ codes ".pending") u b (q ++ codes ".pending") g.0 g.1 h.0 h.1 e in
-    ap (λ x. RecordPlace x a p) s.task ∙ ap (λ x. RecordPlace u x p) s.attempt ∙ ap (RecordPlace u b) (append_cancel_right p q (codes ".pending") s.path)
+    ap (λ x. RecordPlace x a p) s.task ∙ ap (λ x. RecordPlace u x p) s.attempt ∙ ap (RecordPlace u b)
+    (append_cancel_right p q (codes ".pending") s.path)
 inner_apart (RecordPlace t a p) (SetPlace u) m n g h e = absurd (tasks_sets t a (p ++ codes ".pending") u e)
 inner_apart (SetPlace t) (FilePlace q) m n g h e = absurd (true≢false (sym n))
 inner_apart (SetPlace t) SuccessPlace m n g h e = absurd (true≢false (sym n))
 inner_apart (SetPlace t) (MarkerPlace u b q) m n g h e = absurd (tasks_sets u b q t (sym e))
 inner_apart (SetPlace t) (RecordPlace u b q) m n g h e = absurd (tasks_sets u b (q ++ codes ".pending") t (sym e))
-inner_apart (SetPlace t) (SetPlace u) m n g h e = ap SetPlace (decimal_injective t u g h (append_cancel_right (decimal t) (decimal u) (codes ".pendingset") (append_cancel_left (codes "sets/task_") _ _ e)))
+inner_apart (SetPlace t) (SetPlace u) m n g h e = ap SetPlace (decimal_injective t u g h
+    (append_cancel_right (decimal t) (decimal u) (codes ".pendingset") (append_cancel_left (codes "sets/task_") _ _ e)))
 
 -- ---- what stands behind a destination's key
 
@@ -110,7 +135,8 @@ tail id (RecordPlace t a p) = codes "/__magic/job-" ++ (id ++ 47 ∷ attempt_in 
 tail id (SetPlace t) = codes "/__magic/job-" ++ (id ++ 47 ∷ set_in t)
 tail id SuccessPlace = codes "/_SUCCESS"
 
-in_attempt : (dest id : List ℕ) (t a : ℕ) (p : List ℕ) → 1 ≤ length dest → below (attempt_key dest id t a) p ≡ dest ++ (codes "/__magic/job-" ++ (id ++ 47 ∷ attempt_in t a p))
+in_attempt : (dest id : List ℕ) (t a : ℕ) (p : List ℕ) → 1 ≤ length dest
+    → below (attempt_key dest id t a) p ≡ dest ++ (codes "/__magic/job-" ++ (id ++ 47 ∷ attempt_in t a p))
 in_attempt dest id t a p some =
     let long : 1 ≤ length (attempt_key dest id t a) = simp length-append (omega (arith, some)) in
     let whole : attempt_key dest id t a ++ 47 ∷ p ≡ dest ++ (codes "/__magic/job-" ++ (id ++ 47 ∷ attempt_in t a p)) = simp append_assoc in
@@ -150,16 +176,21 @@ same_number : (id other : List ℕ) (p q : Place) → IsPlace p → IsPlace q �
 same_number id other p q g h e = sym (number_is id p g) ∙ ap kind_of e ∙ number_is other q h
 
 -- what stands below the magic directories of two jobs is of one job
-cut_jobs : (id other x y : List ℕ) → is_job_id id ≡ true → is_job_id other ≡ true → codes "/__magic/job-" ++ (id ++ 47 ∷ x) ≡ codes "/__magic/job-" ++ (other ++ 47 ∷ y) → Cut id other x y
-cut_jobs id other x y i o e = cut_once 47 id other x y (id_others id i) (id_others other o) (append_cancel_left (codes "/__magic/job-") (id ++ 47 ∷ x) (other ++ 47 ∷ y) e)
+cut_jobs : (id other x y : List ℕ) → is_job_id id ≡ true → is_job_id other ≡ true
+    → codes "/__magic/job-" ++ (id ++ 47 ∷ x) ≡ codes "/__magic/job-" ++ (other ++ 47 ∷ y) → Cut id other x y
+cut_jobs id other x y i o e = cut_once 47 id other x y (id_others id i) (id_others other o)
+    (append_cancel_left (codes "/__magic/job-") (id ++ 47 ∷ x) (other ++ 47 ∷ y) e)
 
-both_magic : (id other : List ℕ) (p q : Place) → is_job_id id ≡ true → is_job_id other ≡ true → is_magic_place p ≡ true → is_magic_place q ≡ true → tail id p ≡ tail other q → Cut id other (inner p) (inner q)
+both_magic : (id other : List ℕ) (p q : Place) → is_job_id id ≡ true → is_job_id other ≡ true → is_magic_place p ≡ true
+    → is_magic_place q ≡ true → tail id p ≡ tail other q → Cut id other (inner p) (inner q)
 both_magic id other p q i o m n e = cut_jobs id other (inner p) (inner q) i o (sym (tail_magic id p m) ∙ e ∙ tail_magic other q n)
 
-one_of_three : (p : Place) (A : Type 0) → ((path : List ℕ) → p ≡ FilePlace path → A) → (p ≡ SuccessPlace → A) → (is_magic_place p ≡ true → A) → A
+one_of_three : (p : Place) (A : Type 0) → ((path : List ℕ) → p ≡ FilePlace path → A) → (p ≡ SuccessPlace → A)
+    → (is_magic_place p ≡ true → A) → A
 one_of_three p A h g e = grind arith
 
-tails_apart : (id other : List ℕ) (p q : Place) → is_job_id id ≡ true → is_job_id other ≡ true → IsPlace p → IsPlace q → tail id p ≡ tail other q → p ≡ q
+tails_apart : (id other : List ℕ) (p q : Place) → is_job_id id ≡ true → is_job_id other ≡ true → IsPlace p → IsPlace q
+    → tail id p ≡ tail other q → p ≡ q
 tails_apart id other (FilePlace p) (FilePlace q) i o g h e = ap FilePlace (tails e)
 tails_apart id other SuccessPlace SuccessPlace i o g h e = refl
 tails_apart id other p q i o g h e =
@@ -173,17 +204,21 @@ tails_apart id other p q i o g h e =
     (λ more same. let x : number p ≡ 1 = ap number is in let y : number q ≡ 0 = ap number same in absurd (omega arith))
     (λ same. is ∙ sym same)
     (λ m. let x : number p ≡ 1 = ap number is in let y : number q ≡ 2 = number_magic q m in absurd (omega arith)))
-    (λ m. let k : is_magic_place q ≡ true = magic_number q (sym n ∙ number_magic p m) in inner_apart p q m k g h (both_magic id other p q i o m k e).back)
+    (λ m. let k : is_magic_place q ≡ true = magic_number q (sym n ∙ number_magic p m) in inner_apart p q m k g h
+    (both_magic id other p q i o m k e).back)
 
 -- ---- keys
 
 cancelled : (dest id other : List ℕ) (p q : Place) → 1 ≤ length dest → key_at dest id p ≡ key_at dest other q → tail id p ≡ tail other q
-cancelled dest id other p q some e = append_cancel_left dest (tail id p) (tail other q) (sym (tail_is dest id p some) ∙ e ∙ tail_is dest other q some)
+cancelled dest id other p q some e = append_cancel_left dest (tail id p) (tail other q)
+    (sym (tail_is dest id p some) ∙ e ∙ tail_is dest other q some)
 
-pub keys_apart : (dest id other : List ℕ) (p q : Place) → 1 ≤ length dest → is_job_id id ≡ true → is_job_id other ≡ true → IsPlace p → IsPlace q → key_at dest id p ≡ key_at dest other q → p ≡ q
+pub keys_apart : (dest id other : List ℕ) (p q : Place) → 1 ≤ length dest → is_job_id id ≡ true → is_job_id other ≡ true → IsPlace p
+    → IsPlace q → key_at dest id p ≡ key_at dest other q → p ≡ q
 keys_apart dest id other p q some i o g h e = tails_apart id other p q i o g h (cancelled dest id other p q some e)
 
-pub jobs_apart : (dest id other : List ℕ) (p q : Place) → 1 ≤ length dest → is_job_id id ≡ true → is_job_id other ≡ true → IsPlace p → IsPlace q → key_at dest id p ≡ key_at dest other q → is_magic_place p ≡ true → id ≡ other
+pub jobs_apart : (dest id other : List ℕ) (p q : Place) → 1 ≤ length dest → is_job_id id ≡ true → is_job_id other ≡ true → IsPlace p
+    → IsPlace q → key_at dest id p ≡ key_at dest other q → is_magic_place p ≡ true → id ≡ other
 jobs_apart dest id other p q some i o g h e m =
     let t : tail id p ≡ tail other q = cancelled dest id other p q some e in
     let n : number q ≡ 2 = sym (same_number id other p q g h t) ∙ number_magic p m in
@@ -198,12 +233,15 @@ magic_begins id l = begins_behind (codes "/__magic/job-") (id ++ codes "/") (id 
 tail_begins : (id : List ℕ) (p : Place) → IsPlace p → begins (codes "/__magic/job-" ++ (id ++ codes "/")) (tail id p) ≡ is_magic_place p
 tail_begins id p h = grind (arith, open_first, magic_begins)
 
-pub key_magic : (dest id : List ℕ) (p : Place) → 1 ≤ length dest → IsPlace p → begins (magic_prefix dest id) (key_at dest id p) ≡ is_magic_place p
+pub key_magic : (dest id : List ℕ) (p : Place) → 1 ≤ length dest → IsPlace p
+    → begins (magic_prefix dest id) (key_at dest id p) ≡ is_magic_place p
 key_magic dest id p some g = ap (begins (magic_prefix dest id)) (tail_is dest id p some) ∙ behind dest id (tail id p) ∙ tail_begins id p g
 
-pub key_strange : (dest id other : List ℕ) (p : Place) → 1 ≤ length dest → is_job_id id ≡ true → is_job_id other ≡ true → IsPlace p → begins (magic_prefix dest id) (key_at dest other p) ≡ true → id ≡ other
+pub key_strange : (dest id other : List ℕ) (p : Place) → 1 ≤ length dest → is_job_id id ≡ true → is_job_id other ≡ true → IsPlace p
+    → begins (magic_prefix dest id) (key_at dest other p) ≡ true → id ≡ other
 key_strange dest id other p some i o g h =
-    let b : begins (codes "/__magic/job-" ++ (id ++ codes "/")) (tail other p) ≡ true = sym (behind dest id (tail other p)) ∙ sym (ap (begins (magic_prefix dest id)) (tail_is dest other p some)) ∙ h in
+    let b : begins (codes "/__magic/job-" ++ (id ++ codes "/")) (tail other p) ≡ true = sym (behind dest id (tail other p)) ∙ sym
+    (ap (begins (magic_prefix dest id)) (tail_is dest other p some)) ∙ h in
     let x = begins_back (codes "/__magic/job-" ++ (id ++ codes "/")) (tail other p) b in
     let assoc : (codes "/__magic/job-" ++ (id ++ codes "/")) ++ x.0 ≡ codes "/__magic/job-" ++ (id ++ 47 ∷ x.0) = simp append_assoc in
     let e : tail other p ≡ codes "/__magic/job-" ++ (id ++ 47 ∷ x.0) = x.1 ∙ assoc in
@@ -224,13 +262,18 @@ temporary_set t a u e = let h : ◌≡◌ {A = ℕ} 116 115 = ap (λ l. get_or l
 
 rests_apart : (p q : ClusterPlace) → IsClusterPlace p → IsClusterPlace q → rest_at p ≡ rest_at q → p ≡ q
 rests_apart (TemporaryPlace t a) (TemporaryPlace u b) g h e =
-    let c = cut_once 95 (decimal t) (decimal u) (decimal a ++ codes ".pendingset") (decimal b ++ codes ".pendingset") (decimal_without 95 t refl g.0) (decimal_without 95 u refl h.0) (append_cancel_left (codes "tmp/") _ _ e) in
-    ap (λ x. TemporaryPlace x a) (decimal_injective t u g.0 h.0 c.front) ∙ ap (TemporaryPlace u) (decimal_injective a b g.1 h.1 (append_cancel_right (decimal a) (decimal b) (codes ".pendingset") c.back))
+    let c = cut_once 95 (decimal t) (decimal u) (decimal a ++ codes ".pendingset") (decimal b ++ codes ".pendingset")
+    (decimal_without 95 t refl g.0) (decimal_without 95 u refl h.0) (append_cancel_left (codes "tmp/") _ _ e) in
+    ap (λ x. TemporaryPlace x a) (decimal_injective t u g.0 h.0 c.front) ∙ ap (TemporaryPlace u)
+    (decimal_injective a b g.1 h.1 (append_cancel_right (decimal a) (decimal b) (codes ".pendingset") c.back))
 rests_apart (TemporaryPlace t a) (StagedSetPlace u) g h e = absurd (temporary_set t a u e)
 rests_apart (StagedSetPlace t) (TemporaryPlace u b) g h e = absurd (temporary_set u b t (sym e))
-rests_apart (StagedSetPlace t) (StagedSetPlace u) g h e = ap StagedSetPlace (decimal_injective t u g h (append_cancel_right (decimal t) (decimal u) (codes ".pendingset") (append_cancel_left (codes "sets/task_") _ _ e)))
+rests_apart (StagedSetPlace t) (StagedSetPlace u) g h e = ap StagedSetPlace (decimal_injective t u g h
+    (append_cancel_right (decimal t) (decimal u) (codes ".pendingset") (append_cancel_left (codes "sets/task_") _ _ e)))
 
-pub paths_apart : (id other : List ℕ) (p q : ClusterPlace) → is_job_id id ≡ true → is_job_id other ≡ true → IsClusterPlace p → IsClusterPlace q → path_at id p ≡ path_at other q → (p ≡ q) × (id ≡ other)
+pub paths_apart : (id other : List ℕ) (p q : ClusterPlace) → is_job_id id ≡ true → is_job_id other ≡ true → IsClusterPlace p
+    → IsClusterPlace q → path_at id p ≡ path_at other q → (p ≡ q) × (id ≡ other)
 paths_apart id other p q i o g h e =
-    let c = cut_once 47 id other (rest_at p) (rest_at q) (id_others id i) (id_others other o) (append_cancel_left (codes "jobs/") (id ++ 47 ∷ rest_at p) (other ++ 47 ∷ rest_at q) (sym (rest_is id p) ∙ e ∙ rest_is other q)) in
+    let c = cut_once 47 id other (rest_at p) (rest_at q) (id_others id i) (id_others other o)
+    (append_cancel_left (codes "jobs/") (id ++ 47 ∷ rest_at p) (other ++ 47 ∷ rest_at q) (sym (rest_is id p) ∙ e ∙ rest_is other q)) in
     (rests_apart p q g h c.back, c.front)

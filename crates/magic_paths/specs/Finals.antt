@@ -1,8 +1,9 @@
--- Where a file that is written below a magic directory stands in the end (modelled on the magic paths of Hadoop's S3A committer architecture; the rule itself is this project's own).
-use Rattle.std.specs.Prelude.{ℕ, ◌-◌, Bool, List, ◌++◌, length, drop, codes, bytes_eq, if◌then◌else◌}
-use Rattle.s3_types.specs.Prelude.{list_any, before_first, after_first}
+-- Where a file that is written below a magic directory stands in the end (modelled on the magic paths of Hadoop's S3A committer
+-- architecture; the rule itself is this project's own).
 use Rattle.basics.specs.Parts.{parts_of}
 use Rattle.path_keys.specs.Paths.{Path}
+use Rattle.std.specs.List.{after_first, before_first, list_any}
+use Rattle.std.specs.Prelude.{Bool, List, bytes_eq, codes, drop, if◌then◌else◌, length, ℕ, ◌++◌, ◌-◌}
 
 -- the elements of a path's key
 abbrev pub elements : Path → List (List ℕ)

@@ -1,6 +1,7 @@
--- Where the committers keep what they need: the magic committer below the key of a destination, the staging committers in the cluster's file system (Hadoop, S3A committer architecture).
-use Rattle.std.specs.Prelude.{ℕ, List, ◌++◌, codes}
-use Rattle.s3_types.specs.Prelude.{decimal}
+-- Where the committers keep what they need: the magic committer below the key of a destination, the staging committers in the cluster's
+-- file system (Hadoop, S3A committer architecture).
+use Rattle.std.specs.Fmt.{decimal}
+use Rattle.std.specs.Prelude.{List, codes, ℕ, ◌++◌}
 
 -- what the keys below a job's magic directory begin with: DEST/__magic/job-ID/
 abbrev pub magic_prefix : List ℕ → List ℕ → List ℕ
@@ -8,7 +9,8 @@ magic_prefix dest job = dest ++ (codes "/__magic/job-" ++ (job ++ codes "/"))
 
 -- the directory that an attempt of a task writes below: DEST/__magic/job-ID/tasks/T_A/__base
 abbrev pub attempt_key : List ℕ → List ℕ → ℕ → ℕ → List ℕ
-attempt_key dest job task attempt = dest ++ (codes "/__magic/job-" ++ (job ++ (codes "/tasks/" ++ (decimal task ++ (codes "_" ++ (decimal attempt ++ codes "/__base"))))))
+attempt_key dest job task attempt = dest ++ (codes "/__magic/job-" ++ (job ++
+    (codes "/tasks/" ++ (decimal task ++ (codes "_" ++ (decimal attempt ++ codes "/__base"))))))
 
 -- a committed task's set of pending uploads: DEST/__magic/job-ID/sets/task_T.pendingset
 abbrev pub set_key : List ℕ → List ℕ → ℕ → List ℕ
@@ -24,7 +26,8 @@ cluster_prefix job = codes "jobs/" ++ (job ++ codes "/")
 
 -- an attempt's temporary file in the cluster: jobs/ID/tmp/T_A.pendingset
 abbrev pub temporary_path : List ℕ → ℕ → ℕ → List ℕ
-temporary_path job task attempt = codes "jobs/" ++ (job ++ (codes "/tmp/" ++ (decimal task ++ (codes "_" ++ (decimal attempt ++ codes ".pendingset")))))
+temporary_path job task attempt = codes "jobs/" ++ (job ++
+    (codes "/tmp/" ++ (decimal task ++ (codes "_" ++ (decimal attempt ++ codes ".pendingset")))))
 
 -- a committed task's set in the cluster: jobs/ID/sets/task_T.pendingset
 abbrev pub staged_set_path : List ℕ → ℕ → List ℕ

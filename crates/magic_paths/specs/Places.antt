@@ -1,7 +1,9 @@
 -- Where a job keeps what it writes, as data: places in the store and in the cluster's file system.
-use Rattle.std.specs.Prelude.{◌≡◌, ℕ, ◌<◌, ◌≤◌, ◌^◌, Bool, true, false, not, nat_eq, List, [], ◌∷◌, ◌++◌, length, codes}
-use Rattle.s3_types.specs.Prelude.{ends_with, is_job_id, begins}
 use Rattle.path_keys.specs.Paths.{below}
+use Rattle.s3_types.specs.Names.{is_job_id}
+use Rattle.s3_types.specs.Pages.{begins}
+use Rattle.std.specs.List.{ends_with}
+use Rattle.std.specs.Prelude.{Bool, List, codes, false, length, nat_eq, not, true, ℕ, [], ◌++◌, ◌<◌, ◌^◌, ◌∷◌, ◌≡◌, ◌≤◌}
 use Rattle.magic_paths.specs.Layout as layout
 
 -- a place in the store: of a file, of its marker, of its record, of a task's set, and of the marker of a committed job
@@ -39,7 +41,8 @@ is_open (b ∷ bs) = not (nat_eq b 95)
 abbrev pub is_record : List ℕ → Bool
 is_record path = ends_with nat_eq path (codes ".pending")
 
--- the bounds of a place: numbers below 2^64, a file's path that does not begin with `_`, and none below an attempt's directory that is a record's
+-- the bounds of a place: numbers below 2^64, a file's path that does not begin with `_`, and none below an attempt's directory that is a
+-- record's
 abbrev pub IsPlace : Place → Type 0
 IsPlace (FilePlace p) = is_open p ≡ true
 IsPlace (MarkerPlace t a p) = (t < 2 ^ 64) × (a < 2 ^ 64) × (is_record p ≡ false)
@@ -61,9 +64,14 @@ is_magic_place _ = true
 -- Two keys at a destination that is no bucket's root, or two paths of the cluster, are equal only where the places are, also
 -- those of two jobs; and then both are one job's, where they are a job's own.
 pub record AreApart : Type 0 where
-  pub places : (dest job other : List ℕ) (p q : Place) → 1 ≤ length dest → is_job_id job ≡ true → is_job_id other ≡ true → IsPlace p → IsPlace q → key_at dest job p ≡ key_at dest other q → p ≡ q
-  pub jobs : (dest job other : List ℕ) (p q : Place) → 1 ≤ length dest → is_job_id job ≡ true → is_job_id other ≡ true → IsPlace p → IsPlace q → key_at dest job p ≡ key_at dest other q → is_magic_place p ≡ true → job ≡ other
-  pub cluster : (job other : List ℕ) (p q : ClusterPlace) → is_job_id job ≡ true → is_job_id other ≡ true → IsClusterPlace p → IsClusterPlace q → path_at job p ≡ path_at other q → (p ≡ q) × (job ≡ other)
+  pub places : (dest job other : List ℕ) (p q : Place) → 1 ≤ length dest → is_job_id job ≡ true → is_job_id other ≡ true → IsPlace p
+      → IsPlace q → key_at dest job p ≡ key_at dest other q → p ≡ q
+  pub jobs : (dest job other : List ℕ) (p q : Place) → 1 ≤ length dest → is_job_id job ≡ true → is_job_id other ≡ true → IsPlace p
+      → IsPlace q → key_at dest job p ≡ key_at dest other q → is_magic_place p ≡ true → job ≡ other
+  pub cluster : (job other : List ℕ) (p q : ClusterPlace) → is_job_id job ≡ true → is_job_id other ≡ true → IsClusterPlace p
+      → IsClusterPlace q → path_at job p ≡ path_at other q → (p ≡ q) × (job ≡ other)
   -- below a job's magic directory are exactly these of its places, and none of another job's
-  pub magic : (dest job : List ℕ) (p : Place) → 1 ≤ length dest → IsPlace p → begins (layout.magic_prefix dest job) (key_at dest job p) ≡ is_magic_place p
-  pub strange : (dest job other : List ℕ) (p : Place) → 1 ≤ length dest → is_job_id job ≡ true → is_job_id other ≡ true → IsPlace p → begins (layout.magic_prefix dest job) (key_at dest other p) ≡ true → job ≡ other
+  pub magic : (dest job : List ℕ) (p : Place) → 1 ≤ length dest → IsPlace p
+      → begins (layout.magic_prefix dest job) (key_at dest job p) ≡ is_magic_place p
+  pub strange : (dest job other : List ℕ) (p : Place) → 1 ≤ length dest → is_job_id job ≡ true → is_job_id other ≡ true → IsPlace p
+      → begins (layout.magic_prefix dest job) (key_at dest other p) ≡ true → job ≡ other

@@ -4,4 +4,3 @@ pub mod MissingLaws
 pub mod SameTree
 pub mod ToolLaws
 pub mod WorkLaws
-mod Common

@@ -1,10 +1,31 @@
 -- What the markers of a listing are where the objects stand that were listed.
-use Rattle.std.specs.Prelude.{◌≡◌, ℕ, ◌==◌, ◌<◌, Bool, true, false, cond, List, [], ◌∷◌, ◌++◌, map, length, Some, if◌then◌else◌}
-use Rattle.marker_tool.proofs.Common.{AreAll, HasBytes, HasMarkers, HasMore, IsBare, IsIn, IsKind, IsSurplus, Leaf, MarkerEntry, MarkerKind, Object, Objects, Odd, PageEntry, Prefix, RisesFrom, Stands, Surplus, ap, arith, begins, begins_trans, behind, below, between, eqb-true, false_true, false≢true, filter, filter_in, goes_on, in_back, in_filter, in_front, in_map, inl, inr, irrefl, is_marker, is_surplus, kind_of, lower, lt, lt_not, map_in, marker_at, markers_in, refl, some_is, sorted, subst, surplus_in, sym, text_cmp, text_in, text_total, ◌∙◌}
-use Rattle.std.specs.FinMap as fin
-use Rattle.marker_tool.proofs.Listing.{IsListing, above, rises_filter, behind_first}
+use Rattle.basics.proofs.Less.{irrefl, lt, lt_not}
+use Rattle.basics.proofs.Members.{false_true, filter_in, in_back, in_filter, in_front, in_map, map_in, some_is}
 use Rattle.basics.proofs.Naturals.{positive}
-use Rattle.s3_types.specs.declared.reply.PageEntry.TheVariants.{Object as Single}
+use Rattle.basics.specs.Members.{IsIn, RisesFrom}
+use Rattle.basics.specs.Order.{text_cmp, text_total}
+use Rattle.bucket_ops.proofs.Rising.{lower, sorted}
+use Rattle.fs_tree.proofs.Begins.{begins_trans}
+use Rattle.fs_tree.specs.MarkerTool.{AreAll, HasBytes, HasMarkers, HasMore, IsBare, IsKind, IsSurplus}
+use Rattle.fs_tree.specs.Tree.{Stands, is_marker}
+use Rattle.fs_tree.specs.declared.markers.MarkerEntry.{MarkerEntry}
+use Rattle.fs_tree.specs.declared.markers.MarkerKind.{MarkerKind}
+use Rattle.fs_tree.specs.declared.markers.MarkerKind.TheVariants.{Leaf, Odd, Surplus}
+use Rattle.marker_tool.proofs.Listing.{IsListing, above, behind_first, rises_filter}
+use Rattle.marker_tool.specs.Markers.{goes_on, is_surplus, kind_of, marker_at, markers_in, surplus_in}
+use Rattle.path_keys.specs.Paths.{below}
+use Rattle.s3_types.proofs.Begins.{between}
+use Rattle.s3_types.specs.Pages.{begins, text_in}
+use Rattle.s3_types.specs.Store.{Objects}
+use Rattle.s3_types.specs.declared.object.Object.{Object}
+use Rattle.s3_types.specs.declared.reply.PageEntry.{PageEntry}
+use Rattle.s3_types.specs.declared.reply.PageEntry.TheVariants.{Object as Single, Prefix}
+use Rattle.std.proofs.Common.{ap, arith, inl, inr, refl, subst, sym, ◌∙◌}
+use Rattle.std.proofs.lemmas.Bool.{eqb-true, false≢true}
+use Rattle.std.specs.List.{filter}
+use Rattle.std.specs.Prelude.{Bool, List, Some, cond, false, if◌then◌else◌, length, map, true, ℕ, [], ◌++◌, ◌<◌, ◌==◌, ◌∷◌, ◌≡◌}
+use Rattle.store_frame.proofs.Flat.{behind}
+use Rattle.std.specs.FinMap as fin
 
 -- ---- what a marker is
 
@@ -34,25 +55,33 @@ bytes_in (Prefix t) = 0
 
 module _ (q : List ℕ) (z : Objects) where
   -- a key that begins with it stands behind it, and so does the next one
-  next_up : (k j : List ℕ) (n : ℕ) (es : List PageEntry) → IsListing q k z es → begins k j ≡ true → IsIn (Single j n) es → goes_on k es ≡ true
+  next_up : (k j : List ℕ) (n : ℕ) (es : List PageEntry) → IsListing q k z es → begins k j ≡ true → IsIn (Single j n) es
+      → goes_on k es ≡ true
   next_up k j n [] h b i = absurd i
   next_up k j n (f ∷ fs) h b (inl i) = ap (λ e. begins k (text_in e)) (sym i) ∙ b
   next_up k j n (f ∷ fs) h b (inr i) =
       between k (text_in f) j (lt_not text_total k (text_in f) h.rises.0)
       (lt_not text_total (text_in f) j (behind (text_in f) j (map text_in fs) h.rises.1 (map_in text_in (Single j n) fs i))) b
 
-  more_next : (l k : List ℕ) (n : ℕ) (es : List PageEntry) → IsListing q l z (Single k n ∷ es) → begins q k ≡ true → HasMore z k → goes_on k es ≡ true
+  more_next : (l k : List ℕ) (n : ℕ) (es : List PageEntry) → IsListing q l z (Single k n ∷ es) → begins q k ≡ true → HasMore z k
+      → goes_on k es ≡ true
   more_next l k n es h b more =
       let rest = behind_first q l z (Single k n) es h in
-      next_up k more.0 (length more.3.0.bytes) es rest more.1 (rest.all more.0 more.3.0 more.3.1 (begins_trans q k more.0 b more.1) (above k more.0 more.1 more.2))
+      next_up k more.0 (length more.3.0.bytes) es rest more.1 (rest.all more.0 more.3.0 more.3.1 (begins_trans q k more.0 b more.1)
+      (above k more.0 more.1 more.2))
 
   next_more : (l k : List ℕ) (n : ℕ) (es : List PageEntry) → IsListing q l z (Single k n ∷ es) → goes_on k es ≡ true → HasMore z k
   next_more l k n [] h t = absurd (false≢true t)
   next_more l k n (f ∷ fs) h t =
-      let w = h.each f (inr (inl refl)) in
-      (text_in f, t, (λ e. false_true (irrefl text_total k) (ap (lt text_cmp k) (sym e) ∙ h.rises.1.0)), (w.1, ap (fin.get z) (ap text_in w.2) ∙ w.4))
+      let w = h.each f (inr (inl refl)) in (
+        text_in f,
+        t,
+        (λ e. false_true (irrefl text_total k) (ap (lt text_cmp k) (sym e) ∙ h.rises.1.0)),
+        (w.1, ap (fin.get z) (ap text_in w.2) ∙ w.4),
+      )
 
-  kind_by : (k : List ℕ) (o : Object) (n : ℕ) (b c : Bool) → fin.get z k ≡ Some o → n ≡ length o.bytes → (n == 0) ≡ b → (c ≡ true → HasMore z k) → (HasMore z k → c ≡ true)
+  kind_by : (k : List ℕ) (o : Object) (n : ℕ) (b c : Bool) → fin.get z k ≡ Some o → n ≡ length o.bytes → (n == 0) ≡ b
+      → (c ≡ true → HasMore z k) → (HasMore z k → c ≡ true)
       → IsKind z k (if b then (if c then Surplus else Leaf) else Odd)
   kind_by k o n false c g e t f h = (o, g, subst (λ n. 0 < n) e (positive n t))
   kind_by k o n true true g e t f h = ((o, g, sym e ∙ eqb-true n 0 t), f refl)
@@ -78,18 +107,21 @@ module _ (q : List ℕ) (z : Objects) where
       here : begins q k ≡ true
       here = let w = h.each (Single k n) (inl refl) in ap (begins q) (ap text_in w.2) ∙ w.3
 
-      by : (b : Bool) → is_marker k ≡ b → IsIn x (cond b (entry k (kind_of n (goes_on k es)) ∷ []) [] ++ markers_in es) → (IsIn x (markers_in es) → IsFound x) → IsFound x
+      by : (b : Bool) → is_marker k ≡ b → IsIn x (cond b (entry k (kind_of n (goes_on k es)) ∷ []) [] ++ markers_in es)
+          → (IsIn x (markers_in es) → IsFound x) → IsFound x
       by true e (inl s) old = subst IsFound (sym s) (here, e, kind_here l k n es h)
       by true e (inr i) old = old i
       by false e i old = old i
 
-  find_marker : (k : List ℕ) (kind : MarkerKind) → is_marker k ≡ true → IsKind z k kind → (l : List ℕ) (es : List PageEntry) → IsListing q l z es → (n : ℕ) → IsIn (Single k n) es
+  find_marker : (k : List ℕ) (kind : MarkerKind) → is_marker k ≡ true → IsKind z k kind → (l : List ℕ) (es : List PageEntry)
+      → IsListing q l z es → (n : ℕ) → IsIn (Single k n) es
       → IsIn (entry k kind) (markers_in es)
   find_marker k kind m g l [] h n i = absurd i
   find_marker k kind m g l (Prefix t ∷ es) h n (inl e) = absurd (cc)
   find_marker k kind m g l (Prefix t ∷ es) h n (inr i) = find_marker k kind m g t es (behind_first q l z (Prefix t) es h) n i
   find_marker k kind m g l (Single j c ∷ es) h n (inr i) =
-      in_back (entry k kind) (marker_at (Single j c) es) (markers_in es) (find_marker k kind m g j es (behind_first q l z (Single j c) es h) n i)
+      in_back (entry k kind) (marker_at (Single j c) es) (markers_in es) (find_marker k kind m g j es (behind_first q l z (Single j c) es h)
+      n i)
   find_marker k kind m g l (Single j c ∷ es) h n (inl e) =
       in_front (entry k kind) (marker_at (Single j c) es) (markers_in es)
       (subst (λ b. IsIn (entry k kind) (cond b (entry j (kind_of c (goes_on j es)) ∷ []) [])) (sym (ap is_marker (sym same) ∙ m))
@@ -104,10 +136,11 @@ module _ (q : List ℕ) (z : Objects) where
 pub markers_rise : (l : List ℕ) (es : List PageEntry) → RisesFrom l (map text_in es) → RisesFrom l (map (λ x. x.key) (markers_in es))
 markers_rise l [] h = tt
 markers_rise l (Prefix t ∷ es) h = lower l t (map (λ x. x.key) (markers_in es)) h.0 (markers_rise t es h.1)
-markers_rise l (Single k n ∷ es) h = elim (is_marker k) as (λ b. RisesFrom l (map (λ x. x.key) (cond b (entry k (kind_of n (goes_on k es)) ∷ []) [] ++ markers_in es))) [
-  | true ↦ (h.0, markers_rise k es h.1)
-  | false ↦ lower l k (map (λ x. x.key) (markers_in es)) h.0 (markers_rise k es h.1)
-]
+markers_rise l (Single k n ∷ es) h = elim (is_marker k) as (λ b. RisesFrom l
+    (map (λ x. x.key) (cond b (entry k (kind_of n (goes_on k es)) ∷ []) [] ++ markers_in es))) [
+      | true ↦ (h.0, markers_rise k es h.1)
+      | false ↦ lower l k (map (λ x. x.key) (markers_in es)) h.0 (markers_rise k es h.1)
+    ]
 
 pub some_marker : (k : List ℕ) → is_marker k ≡ true → lt text_cmp [] k ≡ true
 some_marker [] m = absurd (false≢true m)

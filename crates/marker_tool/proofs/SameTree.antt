@@ -1,19 +1,35 @@
 -- The tree without surplus markers, and with missing ones put, is the same.
-use Rattle.std.specs.Prelude.{◌≡◌, ◌⊎◌, ℕ, true, List, [], ◌∷◌, ◌++◌, length, Some, None}
-use Rattle.marker_tool.proofs.Common.{AreAll, CleansMarkers, FillsMarkers, HasDir, HasMore, IsCleaning, IsDirectory, IsFilling, IsIn, IsMissing, IsSurplus, Objects, SameTree, SomeBelow, Stands, begins, begins_trans, false_true, from_prefix, inl, inr, marker, marker_of, none_some, refl, same_or_other, subst, sym, text_here, text_left, text_other, with_markers, without, ◌∙◌}
-use Rattle.std.specs.FinMap as fin
+use Rattle.basics.proofs.Members.{false_true, none_some, same_or_other, text_here, text_left, text_other}
+use Rattle.basics.specs.Members.{IsIn}
+use Rattle.bucket_ops.proofs.Below.{gone_in, is_in, kept_out}
+use Rattle.dir_markers.specs.Markers.{marker_of}
+use Rattle.fs_tree.proofs.Begins.{begins_trans}
+use Rattle.fs_tree.specs.MarkerTool.{AreAll, CleansMarkers, FillsMarkers, HasMore, IsCleaning, IsFilling, IsMissing, IsSurplus, SameTree}
+use Rattle.fs_tree.specs.Tree.{HasDir, IsDirectory, SomeBelow, Stands, marker}
 use Rattle.marker_tool.proofs.Listing.{above}
-use Rattle.bucket_ops.proofs.Below.{is_in, gone_in, kept_out}
+use Rattle.marker_tool.specs.Works.{with_markers}
+use Rattle.s3_types.proofs.Begins.{from_prefix}
+use Rattle.s3_types.specs.Answer.{without}
+use Rattle.s3_types.specs.Pages.{begins}
+use Rattle.s3_types.specs.Store.{Objects}
+use Rattle.std.proofs.Common.{inl, inr, refl, subst, sym, ◌∙◌}
+use Rattle.std.specs.Prelude.{List, None, Some, length, true, ℕ, [], ◌++◌, ◌∷◌, ◌≡◌, ◌⊎◌}
+use Rattle.std.specs.FinMap as fin
 
 -- ---- what is kept at a moment
 
 -- where only these surplus keys are gone
-pub cleaning_of : (p : List ℕ) (z m : Objects) (ks : List (List ℕ)) → IsDirectory z p → SameTree z m → ((k : List ℕ) → IsIn k ks → IsSurplus p z k) → ((k : List ℕ) → IsIn k ks → fin.get m k ≡ None)
+pub cleaning_of : (p : List ℕ) (z m : Objects) (ks : List (List ℕ)) → IsDirectory z p → SameTree z m
+    → ((k : List ℕ) → IsIn k ks → IsSurplus p z k) → ((k : List ℕ) → IsIn k ks → fin.get m k ≡ None)
     → ((k : List ℕ) → (IsIn k ks → ⊥) → fin.get m k ≡ fin.get z k) → IsCleaning p z m
-cleaning_of p z m ks d t s g o = record { tree = t; kept = λ k. (elim (is_in k ks) [ inl i ↦ inr (g k i, d, s k i) | inr n ↦ inl (o k n) ]) }
+cleaning_of p z m ks d t s g o = record {
+  tree = t;
+  kept = λ k. (elim (is_in k ks) [ inl i ↦ inr (g k i, d, s k i) | inr n ↦ inl (o k n) ]);
+}
 
 -- where only these missing ones are put
-pub filling_of : (p : List ℕ) (z m : Objects) (ks : List (List ℕ)) → IsDirectory z p → SameTree z m → ((k : List ℕ) → IsIn k ks → IsMissing p z k) → ((k : List ℕ) → IsIn k ks → fin.get m k ≡ Some marker)
+pub filling_of : (p : List ℕ) (z m : Objects) (ks : List (List ℕ)) → IsDirectory z p → SameTree z m
+    → ((k : List ℕ) → IsIn k ks → IsMissing p z k) → ((k : List ℕ) → IsIn k ks → fin.get m k ≡ Some marker)
     → ((k : List ℕ) → (IsIn k ks → ⊥) → fin.get m k ≡ fin.get z k) → IsFilling p z m
 filling_of p z m ks d t s g o = record { tree = t; kept = λ k. (elim (is_in k ks) [ inl i ↦ inr (g k i, d, s k i) | inr n ↦ inl (o k n) ]) }
 
@@ -30,8 +46,12 @@ module _ (z : Objects) (k : List ℕ) (h : HasMore z k) where
     where
       by : (g.0 ≡ k) ⊎ (g.0 ≡ k → ⊥) → HasMore (fin.remove z k) j
       by (inl e) =
-          let b : begins j k ≡ true = subst (λ t. begins j t ≡ true) e g.1 in
-          (h.0, begins_trans j k h.0 b h.1, (λ s. g.2 (e ∙ one_text j k b (subst (λ t. begins k t ≡ true) s h.1))), (h.3.0, text_left z k h.0 h.2 ∙ h.3.1))
+          let b : begins j k ≡ true = subst (λ t. begins j t ≡ true) e g.1 in (
+            h.0,
+            begins_trans j k h.0 b h.1,
+            (λ s. g.2 (e ∙ one_text j k b (subst (λ t. begins k t ≡ true) s h.1))),
+            (h.3.0, text_left z k h.0 h.2 ∙ h.3.1),
+          )
       by (inr n) = (g.0, g.1, g.2, (g.3.0, text_left z k g.0 n ∙ g.3.1))
 
   -- and what was above one of them is above another key
@@ -41,7 +61,8 @@ module _ (z : Objects) (k : List ℕ) (h : HasMore z k) where
     | inr n ↦ (g.0, g.1, g.2, text_left z k g.0 n ∙ g.3)
   ]
 
-all_without : (ks : List (List ℕ)) (z : Objects) (t : List ℕ) → ((k : List ℕ) → IsIn k ks → HasMore z k) → SomeBelow z t → SomeBelow (without z ks) t
+all_without : (ks : List (List ℕ)) (z : Objects) (t : List ℕ) → ((k : List ℕ) → IsIn k ks → HasMore z k) → SomeBelow z t
+    → SomeBelow (without z ks) t
 all_without [] z t h g = g
 all_without (k ∷ ks) z t h g =
     all_without ks (fin.remove z k) t (λ j i. more_without z k (h k (inl refl)) j (h j (inr i))) (some_without z k (h k (inl refl)) t g)
@@ -87,7 +108,13 @@ cleans p z ks a = record {
   where
     by : (k : List ℕ) → IsSurplus p (without z ks) k → IsIn k ks ⊎ (IsIn k ks → ⊥) → ⊥
     by k s (inl i) = none_some (gone_in z ks k i) s.1.0.1
-    by k s (inr n) = n (a.all k (s.0, ((s.1.0.0, sym (kept_out z ks k n) ∙ s.1.0.1, s.1.0.2), (s.1.1.0, s.1.1.1, s.1.1.2, stood z ks s.1.1.0 s.1.1.3))))
+    by k s (inr n) = n (a.all k (
+      s.0,
+      (
+        (s.1.0.0, sym (kept_out z ks k n) ∙ s.1.0.1, s.1.0.2),
+        (s.1.1.0, s.1.1.1, s.1.1.2, stood z ks s.1.1.0 s.1.1.3),
+      ),
+    ))
 
 -- ---- markers are put
 
@@ -103,7 +130,8 @@ put_in : (z : Objects) (ks : List (List ℕ)) (k : List ℕ) → IsIn k ks → f
 put_in z [] k i = absurd i
 put_in z (x ∷ ks) k i = by i (is_in k ks) (put_in (fin.insert z x marker) ks k)
   where
-    by : (k ≡ x) ⊎ IsIn k ks → IsIn k ks ⊎ (IsIn k ks → ⊥) → (IsIn k ks → fin.get (with_markers (fin.insert z x marker) ks) k ≡ Some marker) → fin.get (with_markers (fin.insert z x marker) ks) k ≡ Some marker
+    by : (k ≡ x) ⊎ IsIn k ks → IsIn k ks ⊎ (IsIn k ks → ⊥) → (IsIn k ks → fin.get (with_markers (fin.insert z x marker) ks) k ≡ Some marker)
+        → fin.get (with_markers (fin.insert z x marker) ks) k ≡ Some marker
     by i (inl j) old = old j
     by (inl e) (inr n) old = put_out (fin.insert z x marker) ks k n ∙ text_here z x k marker e
     by (inr j) (inr n) old = absurd (n j)
@@ -115,7 +143,10 @@ module _ (p : List ℕ) (z : Objects) (ks : List (List ℕ)) (h : (k : List ℕ)
   -- what is above a key was above one before
   some_was : (t : List ℕ) → SomeBelow (with_markers z ks) t → SomeBelow z t
   some_was t g =
-      elim (is_in g.0 ks) [ inl i ↦ let s = (h g.0 i).2 in (s.0, begins_trans t g.0 s.0 g.1 s.1, s.2, s.3) | inr n ↦ (g.0, g.1, g.2, sym (put_out z ks g.0 n) ∙ g.3) ]
+      elim (is_in g.0 ks) [
+        | inl i ↦ let s = (h g.0 i).2 in (s.0, begins_trans t g.0 s.0 g.1 s.1, s.2, s.3)
+        | inr n ↦ (g.0, g.1, g.2, sym (put_out z ks g.0 n) ∙ g.3)
+      ]
 
   dirs_kept : (q : List ℕ) → HasDir z q → HasDir (with_markers z ks) q
   dirs_kept [] g = tt
@@ -144,6 +175,9 @@ fills p z ks a = record {
   number = refl;
   put = put_in z ks;
   others = put_out z ks;
-  none = λ k s. (elim (is_in k ks) [ inl i ↦ none_some s.1 (put_in z ks k i) | inr n ↦ n (a.all k (s.0, sym (put_out z ks k n) ∙ s.1, some_was p z ks a.each k s.2)) ]);
+  none = λ k s. (elim (is_in k ks) [
+    | inl i ↦ none_some s.1 (put_in z ks k i)
+    | inr n ↦ n (a.all k (s.0, sym (put_out z ks k n) ∙ s.1, some_was p z ks a.each k s.2))
+  ]);
   tree = same_with p z ks a.each;
 }

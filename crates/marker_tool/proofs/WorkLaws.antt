@@ -1,15 +1,26 @@
 -- Telling, deleting and putting markers are such works.
-use Rattle.std.specs.Prelude.{◌≡◌, ℕ, List, [], ◌∷◌, length, take, drop, Result, Ok, Err}
-use Rattle.marker_tool.proofs.Common.{AreAll, Audits, CleanSends, Cleans, FillSends, Fills, FsRefusal, IsCleaning, IsFilling, IsIn, IsMissing, IsStill, IsSurplus, IsWork, MarkerEntry, Objects, OnlyLooks, SameTree, all_below, arith, drops, in_front, inl, inr, markers_in, missing_in, prefix_of, puts, refl, subst, surplus_in, sym, take-append-drop, with_markers, without}
+use Rattle.basics.proofs.Members.{in_front}
+use Rattle.basics.specs.Members.{IsIn}
 use Rattle.bucket_ops.proofs.Batches.{batch_deletes}
-use Rattle.marker_tool.proofs.Listing.{is_listing}
-use Rattle.marker_tool.proofs.MarkerLaws.{has_markers, all_surplus}
-use Rattle.marker_tool.proofs.MissingLaws.{all_missing}
-use Rattle.marker_tool.proofs.SameTree.{without_append, with_append, cleaning_of, cleans, is_cleaning, filling_of, fills, is_filling}
-use Rattle.basics.proofs.Common.{length-take}
-use Rattle.fs_ops.specs.Places.{bucket_asks}
+use Rattle.bucket_ops.specs.Walking.{all_below}
+use Rattle.fs_ops.specs.Places.{bucket_asks, prefix_of}
+use Rattle.fs_ops.specs.code.Steps.{IsStill, OnlyLooks}
+use Rattle.fs_tree.specs.MarkerTool.{AreAll, Audits, Cleans, Fills, IsCleaning, IsFilling, IsMissing, IsSurplus, SameTree}
 use Rattle.fs_tree.specs.Tree.{IsDirectory}
-use Rattle.marker_tool.specs.Works.{IsBatch}
+use Rattle.fs_tree.specs.declared.answers.FsRefusal.{FsRefusal}
+use Rattle.fs_tree.specs.declared.markers.MarkerEntry.{MarkerEntry}
+use Rattle.marker_tool.proofs.Listing.{is_listing}
+use Rattle.marker_tool.proofs.MarkerLaws.{all_surplus, has_markers}
+use Rattle.marker_tool.proofs.MissingLaws.{all_missing}
+use Rattle.marker_tool.proofs.SameTree.{cleaning_of, cleans, filling_of, fills, is_cleaning, is_filling, with_append, without_append}
+use Rattle.marker_tool.specs.Markers.{markers_in, missing_in, surplus_in}
+use Rattle.marker_tool.specs.Works.{CleanSends, FillSends, IsBatch, drops, puts, with_markers}
+use Rattle.marker_tool.specs.code.Work.{IsWork}
+use Rattle.s3_types.specs.Answer.{without}
+use Rattle.s3_types.specs.Store.{Objects}
+use Rattle.std.proofs.Common.{arith, inl, inr, refl, subst, sym}
+use Rattle.std.proofs.lemmas.List.{length-take, take-append-drop}
+use Rattle.std.specs.Prelude.{Err, List, Ok, Result, drop, length, take, ℕ, [], ◌∷◌, ◌≡◌}
 
 same_tree : (z : Objects) → SameTree z z
 same_tree z = record { files = λ k f. refl; kept = λ q h. h; only = λ q h. h }

@@ -1,7 +1,15 @@
 -- The markers of a listing: what each is, which are surplus, and which are missing (Hadoop, S3A: directory markers, the marker tool).
-use Rattle.std.specs.Prelude.{ℕ, ◌==◌, ◌&&◌, not, Bool, true, false, cond, List, [], ◌∷◌, ◌++◌, map, if◌then◌else◌}
-use Rattle.fs_ops.specs.Prelude.{filter, trimmed, begins, text_in, PageEntry, Prefix, marker_of, keys_above, is_marker, MarkerKind, Surplus, Leaf, Odd, MarkerEntry}
-use Rattle.s3_types.specs.declared.reply.PageEntry.TheVariants.{Object as Single}
+use Rattle.dir_markers.specs.Markers.{keys_above, marker_of}
+use Rattle.fs_tree.specs.Tree.{is_marker}
+use Rattle.fs_tree.specs.declared.markers.MarkerEntry.{MarkerEntry}
+use Rattle.fs_tree.specs.declared.markers.MarkerKind.{MarkerKind}
+use Rattle.fs_tree.specs.declared.markers.MarkerKind.TheVariants.{Leaf, Odd, Surplus}
+use Rattle.s3_types.specs.Names.{trimmed}
+use Rattle.s3_types.specs.Pages.{begins, text_in}
+use Rattle.s3_types.specs.declared.reply.PageEntry.{PageEntry}
+use Rattle.s3_types.specs.declared.reply.PageEntry.TheVariants.{Object as Single, Prefix}
+use Rattle.std.specs.List.{filter}
+use Rattle.std.specs.Prelude.{Bool, List, cond, false, if◌then◌else◌, map, not, true, ℕ, [], ◌&&◌, ◌++◌, ◌==◌, ◌∷◌}
 
 -- whether the next key begins with it: those that do stand right behind it
 abbrev pub goes_on : List ℕ → List PageEntry → Bool

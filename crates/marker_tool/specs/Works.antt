@@ -1,6 +1,11 @@
 -- What the marker tool asks in a directory, beside looks.
-use Rattle.std.specs.Prelude.{◌≡◌, ◌⊎◌, ℕ, ◌≤◌, true, List, [], ◌∷◌, length, take}
-use Rattle.fs_ops.specs.Prelude.{Objects, IsIn, Ask, Put, DropAll, bucket_asks, is_look, marker, IsDirectory, IsSurplus, IsMissing}
+use Rattle.basics.specs.Members.{IsIn}
+use Rattle.bucket_ops.specs.Asks.{Ask, DropAll, Put, is_look}
+use Rattle.fs_ops.specs.Places.{bucket_asks}
+use Rattle.fs_tree.specs.MarkerTool.{IsMissing, IsSurplus}
+use Rattle.fs_tree.specs.Tree.{IsDirectory, marker}
+use Rattle.s3_types.specs.Store.{Objects}
+use Rattle.std.specs.Prelude.{List, length, take, true, ℕ, [], ◌∷◌, ◌≡◌, ◌≤◌, ◌⊎◌}
 use Rattle.std.specs.FinMap as fin
 
 -- the deletion of the first thousand keys

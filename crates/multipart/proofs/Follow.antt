@@ -1,10 +1,34 @@
 -- The listing of uploads, walked from a place on.
-use Rattle.multipart.proofs.Common.{AreOwn, Bool, Bound, Equal, Excluded, Follows, Greater, Included, IsStrictlySortedBy, Less, List, None, Option, Ordering, Some, Unbounded, UploadRef, Uploads, [], and-true, ap, append-nil, arith, begins, below, cond, entries_between, false, false≢true, filter, is_behind, is_from_start, is_gt, is_le, is_lt, keyed, keys_of, le_le, length, less_of, lt, lt_back, lt_le, map, map_sorted, nat_cmp, nat_lt, nat_tests, no_less, not, not-true, ordering_then, ref_cmp, refl, refs, sorted_head, sorted_tail, subst, sym, take, take_all, text_cmp, text_total, true, ℕ, ◌&&◌, ◌++◌, ◌∙◌, ◌∷◌, ◌≡◌, ◌≤◌}
-use Rattle.std.specs.FinMap as fin
 use Rattle.basics.proofs.Bools.{contrary}
-use Rattle.s3_types.specs.Multipart.{listed}
+use Rattle.basics.proofs.Less.{le_le, less_of, lt, lt_back, lt_le}
+use Rattle.basics.proofs.Naturals.{no_less}
+use Rattle.basics.proofs.Tree.{map_sorted}
+use Rattle.basics.specs.Order.{text_cmp, text_total}
+use Rattle.multipart.proofs.Keyed.{keyed_own, keys_keyed}
+use Rattle.multipart.specs.Index.{keyed}
+use Rattle.multipart.specs.Listing.{AreOwn, Follows, below}
 use Rattle.s3_types.proofs.Begins.{between, from_prefix}
-use Rattle.multipart.proofs.Keyed.{keys_keyed, keyed_own}
+use Rattle.s3_types.specs.Multipart.{is_behind, listed, ref_cmp, refs}
+use Rattle.s3_types.specs.Pages.{begins}
+use Rattle.s3_types.specs.Store.{Uploads}
+use Rattle.s3_types.specs.declared.request.UploadRef.{UploadRef}
+use Rattle.std.proofs.Common.{Bool, List, None, Option, Some, ap, append-nil, arith, cond, false, length, map, nat_lt, not, refl, subst}
+use Rattle.std.proofs.Common.{sym, take, true, ℕ, [], ◌&&◌, ◌++◌, ◌∙◌, ◌∷◌, ◌≡◌, ◌≤◌}
+use Rattle.std.proofs.Math.Bool.{and-true}
+use Rattle.std.proofs.lemmas.Bool.{false≢true, not-true}
+use Rattle.std.proofs.lemmas.Bool.Decides.{nat_tests}
+use Rattle.std.proofs.lemmas.List.{take_all}
+use Rattle.std.proofs.lemmas.Map.Keys.{sorted_head, sorted_tail}
+use Rattle.std.specs.BTreeMap.Range.{entries_between, is_from_start}
+use Rattle.std.specs.List.{filter}
+use Rattle.std.specs.List.Sorted.{IsStrictlySortedBy}
+use Rattle.std.specs.Map.{keys_of}
+use Rattle.std.specs.Ordering.{is_gt, is_le, is_lt, nat_cmp, ordering_then}
+use Rattle.std.specs.declared.cmp.Ordering.{Ordering}
+use Rattle.std.specs.declared.cmp.Ordering.TheVariants.{Equal, Greater, Less}
+use Rattle.std.specs.declared.ops.Bound.{Bound}
+use Rattle.std.specs.declared.ops.Bound.TheVariants.{Excluded, Included, Unbounded}
+use Rattle.std.specs.FinMap as fin
 
 -- ---- the end of a page
 
@@ -19,7 +43,8 @@ none_after p k (s ∷ rs) g n h =
     ap (λ b. cond b (s ∷ below p rs) (below p rs)) m ∙ none_after p s.key rs (le_le text_total p k s.key g h.0) m h.1
 
 -- behind a key that does not begin with p there is none that does
-pub none_left : (p : List ℕ) (rest es : List (UploadRef × List ℕ)) (e : UploadRef × List ℕ) → rest ≡ e ∷ es → Follows p (keys_of rest) → begins p e.0.key ≡ false → below p (keys_of rest) ≡ []
+pub none_left : (p : List ℕ) (rest es : List (UploadRef × List ℕ)) (e : UploadRef × List ℕ) → rest ≡ e ∷ es → Follows p (keys_of rest)
+    → begins p e.0.key ≡ false → below p (keys_of rest) ≡ []
 none_left p rest es e h g f = grind (arith, none_after)
 
 -- the page is whole
@@ -34,14 +59,16 @@ no_more n xs rest all told none l = no_less n (length xs) l ∙ ap (λ l. nat_lt
 
 -- ---- from a start on
 
-same_below : (p : List ℕ) (f g : UploadRef → Bool) (rs : List UploadRef) → ((r : UploadRef) → begins p r.key ≡ true → f r ≡ g r) → below p (filter f rs) ≡ below p (filter g rs)
+same_below : (p : List ℕ) (f g : UploadRef → Bool) (rs : List UploadRef) → ((r : UploadRef) → begins p r.key ≡ true → f r ≡ g r)
+    → below p (filter f rs) ≡ below p (filter g rs)
 same_below p f g [] h = refl
 same_below p f g (r ∷ rs) h = by (same_below p f g rs h) (begins p r.key) refl
   where
     out : (h : UploadRef → Bool) (b : Bool) → h r ≡ b → begins p r.key ≡ false → below p (filter h (r ∷ rs)) ≡ below p (filter h rs)
     out h b g e = grind arith
 
-    by : below p (filter f rs) ≡ below p (filter g rs) → (b : Bool) → begins p r.key ≡ b → below p (filter f (r ∷ rs)) ≡ below p (filter g (r ∷ rs))
+    by : below p (filter f rs) ≡ below p (filter g rs) → (b : Bool) → begins p r.key ≡ b
+        → below p (filter f (r ∷ rs)) ≡ below p (filter g (r ∷ rs))
     by ih false n = out f (f r) refl n ∙ ih ∙ sym (out g (g r) refl n)
     by ih true t =
         ap (λ b. below p (cond b (r ∷ filter f rs) (filter f rs))) (h r t)
@@ -58,7 +85,8 @@ not_falling a b h = lt_back text_total a.key b.key ∙ by (text_cmp a.key b.key)
     by Greater s h = ap is_gt h
     by _ s h = refl
 
-kept_follows : (f : UploadRef → Bool) (r : UploadRef) (rs : List UploadRef) → IsStrictlySortedBy ref_cmp (r ∷ rs) → Follows r.key (filter f rs)
+kept_follows : (f : UploadRef → Bool) (r : UploadRef) (rs : List UploadRef) → IsStrictlySortedBy ref_cmp (r ∷ rs)
+    → Follows r.key (filter f rs)
 kept_follows f r [] s = tt
 kept_follows f r (x ∷ rs) s = by (kept_follows f x rs (sorted_tail ref_cmp r (x ∷ rs) s)) (f x)
   where
@@ -73,7 +101,8 @@ kept_follows f r (x ∷ rs) s = by (kept_follows f x rs (sorted_tail ref_cmp r (
     by ih true = (less, ih)
     by ih false = lower (filter f rs) ih
 
-all_follow : (p : List ℕ) (f : UploadRef → Bool) (rs : List UploadRef) → IsStrictlySortedBy ref_cmp rs → ((r : UploadRef) → f r ≡ true → lt text_cmp r.key p ≡ false) → Follows p (filter f rs)
+all_follow : (p : List ℕ) (f : UploadRef → Bool) (rs : List UploadRef) → IsStrictlySortedBy ref_cmp rs
+    → ((r : UploadRef) → f r ≡ true → lt text_cmp r.key p ≡ false) → Follows p (filter f rs)
 all_follow p f [] s h = tt
 all_follow p f (r ∷ rs) s h = by (all_follow p f rs (sorted_tail ref_cmp r rs s) h) (f r) refl
   where
@@ -85,11 +114,14 @@ all_follow p f (r ∷ rs) s h = by (all_follow p f rs (sorted_tail ref_cmp r rs 
 abbrev from_start : Bound UploadRef → UploadRef → Bool
 from_start lo r = is_from_start ref_cmp lo r && true
 
-keys_between : (lo : Bound UploadRef) (es : List (UploadRef × List ℕ)) → keys_of (entries_between ref_cmp lo Unbounded es) ≡ filter (from_start lo) (keys_of es)
+keys_between : (lo : Bound UploadRef) (es : List (UploadRef × List ℕ))
+    → keys_of (entries_between ref_cmp lo Unbounded es) ≡ filter (from_start lo) (keys_of es)
 keys_between lo [] = refl
 keys_between lo (e ∷ es) = by (from_start lo e.0) (keys_between lo es)
   where
-    by : (b : Bool) → keys_of (entries_between ref_cmp lo Unbounded es) ≡ filter (from_start lo) (keys_of es) → keys_of (cond b (e ∷ entries_between ref_cmp lo Unbounded es) (entries_between ref_cmp lo Unbounded es)) ≡ cond b (e.0 ∷ filter (from_start lo) (keys_of es)) (filter (from_start lo) (keys_of es))
+    by : (b : Bool) → keys_of (entries_between ref_cmp lo Unbounded es) ≡ filter (from_start lo) (keys_of es)
+        → keys_of (cond b (e ∷ entries_between ref_cmp lo Unbounded es) (entries_between ref_cmp lo Unbounded es)) ≡ cond b
+        (e.0 ∷ filter (from_start lo) (keys_of es)) (filter (from_start lo) (keys_of es))
     by b h = grind arith
 
 first_in : (p : List ℕ) (r : UploadRef) → is_le (ref_cmp (record { key = p; upload = 0 }) r) ≡ not (lt text_cmp r.key p)
@@ -113,11 +145,15 @@ from_place lo m = entries_between ref_cmp lo Unbounded (fin.entries (keyed m))
 abbrev pub first_of : List ℕ → Bound UploadRef
 first_of p = Included (record { key = p; upload = 0 })
 
-follows_from : (p : List ℕ) (lo : Bound UploadRef) (m : Uploads) → ((r : UploadRef) → from_start lo r ≡ true → lt text_cmp r.key p ≡ false) → Follows p (keys_of (from_place lo m))
+follows_from : (p : List ℕ) (lo : Bound UploadRef) (m : Uploads) → ((r : UploadRef) → from_start lo r ≡ true → lt text_cmp r.key p ≡ false)
+    → Follows p (keys_of (from_place lo m))
 follows_from p lo m h =
-    subst (Follows p) (sym (keys_between lo (fin.entries (keyed m)))) (all_follow p (from_start lo) (keys_of (fin.entries (keyed m))) (map_sorted ref_cmp (keyed m)) h)
+    subst (Follows p) (sym (keys_between lo (fin.entries (keyed m)))) (all_follow p (from_start lo) (keys_of (fin.entries (keyed m)))
+    (map_sorted ref_cmp (keyed m)) h)
 
-listed_from : (p : List ℕ) (lo : Bound UploadRef) (after : Option UploadRef) (m : Uploads) → ((r : UploadRef) → begins p r.key ≡ true → from_start lo r ≡ is_behind after r) → below p (keys_of (from_place lo m)) ≡ listed p after m
+listed_from : (p : List ℕ) (lo : Bound UploadRef) (after : Option UploadRef) (m : Uploads)
+    → ((r : UploadRef) → begins p r.key ≡ true → from_start lo r ≡ is_behind after r)
+    → below p (keys_of (from_place lo m)) ≡ listed p after m
 listed_from p lo after m h = grind (arith, keys_between, same_below, keys_keyed)
 
 -- what is left from a start on, where a page of what comes behind `after` begins
@@ -128,7 +164,8 @@ pub record IsRest (p : List ℕ) (after : Option UploadRef) (m : Uploads) (rest 
 
 -- all that begin with p come behind what is less than p
 pub first_after : (p : List ℕ) (a : UploadRef) (m : Uploads) → lt text_cmp a.key p ≡ true → listed p None m ≡ listed p (Some a) m
-first_after p a m l = same_below p (is_behind None) (is_behind (Some a)) (map (λ e. e.0) (fin.entries (refs m))) (λ r b. sym (by (text_cmp a.key r.key) (nat_cmp a.upload r.upload) (lt_le text_total a.key p r.key l (from_prefix p r.key b))))
+first_after p a m l = same_below p (is_behind None) (is_behind (Some a)) (map (λ e. e.0) (fin.entries (refs m)))
+    (λ r b. sym (by (text_cmp a.key r.key) (nat_cmp a.upload r.upload) (lt_le text_total a.key p r.key l (from_prefix p r.key b))))
   where
     by : (r s : Ordering) → is_lt r ≡ true → is_lt (ordering_then r s) ≡ true
     by Less s h = refl
@@ -136,20 +173,23 @@ first_after p a m l = same_below p (is_behind None) (is_behind (Some a)) (map (�
 
 filter_own : (f : UploadRef × List ℕ → Bool) (es : List (UploadRef × List ℕ)) → AreOwn es → AreOwn (filter f es)
 filter_own f [] h = tt
-filter_own f (e ∷ es) h = (elim (f e) as (λ b. AreOwn (filter f es) → AreOwn (cond b (e ∷ filter f es) (filter f es))) [ true ↦ λ ih. (h.0, ih) | false ↦ λ ih. ih ]) (filter_own f es h.1)
+filter_own f (e ∷ es) h = (elim (f e) as (λ b. AreOwn (filter f es) → AreOwn (cond b (e ∷ filter f es) (filter f es)))
+    [ true ↦ λ ih. (h.0, ih) | false ↦ λ ih. ih ]) (filter_own f es h.1)
 
 -- each place from a start on stands with its own key
 own_from : (lo : Bound UploadRef) (m : Uploads) → AreOwn (from_place lo m)
 own_from lo m = filter_own _ (fin.entries (keyed m)) (keyed_own m)
 
-pub first_rest : (p k : List ℕ) (m : Uploads) (rest : List (UploadRef × List ℕ)) → rest ≡ from_place (first_of k) m → k ≡ p → IsRest p None m rest
+pub first_rest : (p k : List ℕ) (m : Uploads) (rest : List (UploadRef × List ℕ)) → rest ≡ from_place (first_of k) m → k ≡ p
+    → IsRest p None m rest
 first_rest p k m rest e q = subst (IsRest p None m) (sym (e ∙ ap (λ k. from_place (first_of k) m) q)) (record {
   follows = follows_from p (first_of p) m (λ r h. not-true _ (sym (first_in p r) ∙ sym (and-true _) ∙ h));
   own = own_from (first_of p) m;
   listed_all = listed_from p (first_of p) None m (λ r b. and-true _ ∙ first_in p r ∙ ap not (from_prefix p r.key b));
 })
 
-pub later_rest : (p : List ℕ) (a b : UploadRef) (m : Uploads) (rest : List (UploadRef × List ℕ)) → rest ≡ from_place (Excluded b) m → b ≡ a → lt text_cmp a.key p ≡ false → IsRest p (Some a) m rest
+pub later_rest : (p : List ℕ) (a b : UploadRef) (m : Uploads) (rest : List (UploadRef × List ℕ)) → rest ≡ from_place (Excluded b) m → b ≡ a
+    → lt text_cmp a.key p ≡ false → IsRest p (Some a) m rest
 later_rest p a b m rest e q l = subst (IsRest p (Some a) m) (sym (e ∙ ap (λ b. from_place (Excluded b) m) q)) (record {
   follows = follows_from p (Excluded a) m (λ r h. le_le text_total p a.key r.key l (not_falling a r (less_of _ (sym (and-true _) ∙ h))));
   own = own_from (Excluded a) m;

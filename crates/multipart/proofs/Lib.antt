@@ -2,4 +2,3 @@ pub mod Keyed
 pub mod Numbered
 pub mod Rows
 pub mod Follow
-mod Common

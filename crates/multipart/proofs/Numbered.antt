@@ -1,6 +1,23 @@
 -- Part numbers are 1 to 10,000, so that an upload has at most so many parts.
-use Rattle.multipart.proofs.Common.{AllByRecursion, AreNumbered, Bool, IsStrictlySortedBy, List, Option, Parts, Some, [], and_parts, ap, arith, below_is, cond, entries, eq_by_cmp, eq_by_cmp_equiv, exact_unsigned, false, false≢true, find, from_entries, get, get-entries, get-from_entries, get-insert, insert, is_part_number, is_some, keys_of, len, len-entries, length, length-keys_of, less_is, list_all, map_sorted, nat_cmp, nat_cmp_total, refl, rises, rises_from, sorted_head, sorted_tail, sym, tied, true, ℕ, ◌+◌, ◌<◌, ◌∙◌, ◌∷◌, ◌≡◌, ◌≤◌}
+use Rattle.basics.proofs.Naturals.{below_is, less_is}
+use Rattle.basics.proofs.Tree.{map_sorted, tied}
+use Rattle.multipart.specs.Numbers.{AreNumbered}
+use Rattle.s3_types.specs.Multipart.{is_part_number, rises, rises_from}
+use Rattle.s3_types.specs.Store.{Parts}
 use Rattle.s3_types.specs.declared.request.NamedPart.{NamedPart}
+use Rattle.std.proofs.Common.{Bool, List, Option, Some, ap, arith, cond, false, is_some, length, refl, sym, true, ℕ, [], ◌+◌, ◌<◌, ◌∙◌, ◌∷◌}
+use Rattle.std.proofs.Common.{◌≡◌, ◌≤◌}
+use Rattle.std.proofs.lemmas.Bool.{and_parts, false≢true}
+use Rattle.std.proofs.lemmas.Map.Entries.{length-keys_of}
+use Rattle.std.proofs.lemmas.Map.Keys.{sorted_head, sorted_tail}
+use Rattle.std.proofs.lemmas.Map.Lookups.{exact_unsigned}
+use Rattle.std.specs.Cmp.{eq_by_cmp_equiv, nat_cmp_total}
+use Rattle.std.specs.FinMap.{entries, from_entries, get, get-entries, get-from_entries, get-insert, insert, len, len-entries}
+use Rattle.std.specs.FinMap.Entries.{find}
+use Rattle.std.specs.List.{AllByRecursion, list_all}
+use Rattle.std.specs.List.Sorted.{IsStrictlySortedBy}
+use Rattle.std.specs.Map.{keys_of}
+use Rattle.std.specs.Ordering.{eq_by_cmp, nat_cmp}
 
 -- no part, so no number
 pub numbered_none : (es : List (ℕ × List ℕ)) → es ≡ [] → AreNumbered (from_entries es)
@@ -16,7 +33,8 @@ numbered_insert m k v old new n h = by (eq_by_cmp nat_cmp n k) refl
     by false e = old n (sym (ap is_some (get-insert nat_cmp_total m k v n ∙ ap (λ b. cond b (Some v) (get m n)) e)) ∙ h)
 
 -- numbers that rise from n up to 10,000
-few_from : (n : ℕ) (ns : List NamedPart) → n ≤ 10000 → rises_from n ns ≡ true → list_all (λ p. is_part_number p.number) ns ≡ true → length ns + n ≤ 10000
+few_from : (n : ℕ) (ns : List NamedPart) → n ≤ 10000 → rises_from n ns ≡ true → list_all (λ p. is_part_number p.number) ns ≡ true
+    → length ns + n ≤ 10000
 few_from n [] m r s = omega arith
 few_from n (x ∷ ns) m r s =
     let p = and_parts _ (rises_from x.number ns) r in
@@ -51,11 +69,17 @@ here k v o = ap (λ b. is_some (cond b (Some v) o)) ((eq_by_cmp_equiv nat_cmp_to
 later : (b : Bool) (v : List ℕ) (o : Option (List ℕ)) → is_some o ≡ true → is_some (cond b (Some v) o) ≡ true
 later b v o h = grind arith
 
-pub numbers : (es : List (ℕ × List ℕ)) → ((n : ℕ) → is_some (find nat_cmp n es) ≡ true → is_part_number n ≡ true) → AllByRecursion (λ k. is_part_number k ≡ true) (keys_of es)
+pub numbers : (es : List (ℕ × List ℕ)) → ((n : ℕ) → is_some (find nat_cmp n es) ≡ true → is_part_number n ≡ true)
+    → AllByRecursion (λ k. is_part_number k ≡ true) (keys_of es)
 numbers [] h = tt
-numbers (e ∷ es) h = (h e.0 (here e.0 e.1 (find nat_cmp e.0 es)), numbers es (λ n g. h n (later (eq_by_cmp nat_cmp n e.0) e.1 (find nat_cmp n es) g)))
+numbers (e ∷ es) h = (
+  h e.0 (here e.0 e.1 (find nat_cmp e.0 es)),
+  numbers es (λ n g. h n
+      (later (eq_by_cmp nat_cmp n e.0) e.1 (find nat_cmp n es) g)),
+)
 
-rising : (x : ℕ) (ks : List ℕ) → IsStrictlySortedBy nat_cmp (x ∷ ks) → is_part_number x ≡ true → AllByRecursion (λ k. is_part_number k ≡ true) ks → length ks + x ≤ 10000
+rising : (x : ℕ) (ks : List ℕ) → IsStrictlySortedBy nat_cmp (x ∷ ks) → is_part_number x ≡ true
+    → AllByRecursion (λ k. is_part_number k ≡ true) ks → length ks + x ≤ 10000
 rising x [] s h a = grind arith
 rising x (y ∷ ks) s h a =
     let up : x < y = less_is x y (sorted_head nat_cmp x (y ∷ ks) s).0 in
@@ -70,7 +94,8 @@ most (x ∷ ks) s a = let rest : length ks + x ≤ 10000 = rising x ks s a.0 a.1
 pub few_parts : (m : Parts) → AreNumbered m → len m ≤ 10000
 few_parts m h =
     let e : len m ≡ length (keys_of (entries m)) = len-entries m ∙ sym (length-keys_of (entries m)) in
-    let f : length (keys_of (entries m)) ≤ 10000 = most (keys_of (entries m)) (map_sorted nat_cmp m) (numbers (entries m) (λ n g. h n (ap is_some (get-entries m n) ∙ g))) in
+    let f : length (keys_of (entries m)) ≤ 10000 = most (keys_of (entries m)) (map_sorted nat_cmp m)
+    (numbers (entries m) (λ n g. h n (ap is_some (get-entries m n) ∙ g))) in
     omega arith
 
 -- what holds of each key, entry by entry

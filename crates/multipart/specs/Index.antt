@@ -1,8 +1,9 @@
 -- The index of a bucket's live uploads.
-use Rattle.std.specs.Prelude.{ℕ, List, map}
-use Rattle.s3_types.specs.Prelude.{Upload, Uploads, ref_cmp}
-use Rattle.std.specs.FinMap as fin
+use Rattle.s3_types.specs.Multipart.{ref_cmp}
+use Rattle.s3_types.specs.Store.{Upload, Uploads}
 use Rattle.s3_types.specs.declared.request.UploadRef.{UploadRef}
+use Rattle.std.specs.Prelude.{List, map, ℕ}
+use Rattle.std.specs.FinMap as fin
 
 -- an upload's place in the listing, and its key
 abbrev pub keyed_of : ℕ × Upload → UploadRef × List ℕ

@@ -1,7 +1,10 @@
 -- The listing of uploads as it is walked.
-use Rattle.std.specs.Prelude.{◌≡◌, ℕ, false, List, [], ◌∷◌}
-use Rattle.s3_types.specs.Prelude.{filter, AllByRecursion, is_lt, text_cmp, begins}
+use Rattle.basics.specs.Order.{text_cmp}
+use Rattle.s3_types.specs.Pages.{begins}
 use Rattle.s3_types.specs.declared.request.UploadRef.{UploadRef}
+use Rattle.std.specs.List.{AllByRecursion, filter}
+use Rattle.std.specs.Ordering.{is_lt}
+use Rattle.std.specs.Prelude.{List, false, ℕ, [], ◌∷◌, ◌≡◌}
 
 -- the uploads whose keys begin with p
 abbrev pub below : List ℕ → List UploadRef → List UploadRef

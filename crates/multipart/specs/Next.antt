@@ -1,6 +1,9 @@
 -- The entries of a map by numbers, one after another.
-use Rattle.std.specs.Prelude.{ℕ, List, Option, slice_get}
-use Rattle.s3_types.specs.Prelude.{Upload, nat_cmp, entries_between, Excluded, Unbounded}
+use Rattle.s3_types.specs.Store.{Upload}
+use Rattle.std.specs.BTreeMap.Range.{entries_between}
+use Rattle.std.specs.Ordering.{nat_cmp}
+use Rattle.std.specs.Prelude.{List, Option, slice_get, ℕ}
+use Rattle.std.specs.declared.ops.Bound.TheVariants.{Excluded, Unbounded}
 use Rattle.std.specs.FinMap as fin
 
 -- the entry of the least number that is greater than n

@@ -1,6 +1,7 @@
 -- The numbers of parts.
-use Rattle.std.specs.Prelude.{◌≡◌, ℕ, zero, suc, ◌<◌, ◌≤◌, nat_eq, Bool, true, false, List, [], ◌∷◌, is_some}
-use Rattle.s3_types.specs.Prelude.{Parts, is_part_number}
+use Rattle.s3_types.specs.Multipart.{is_part_number}
+use Rattle.s3_types.specs.Store.{Parts}
+use Rattle.std.specs.Prelude.{Bool, List, false, is_some, nat_eq, suc, true, zero, ℕ, [], ◌<◌, ◌∷◌, ◌≡◌, ◌≤◌}
 use Rattle.std.specs.FinMap as fin
 
 -- each part has a number from 1 to 10,000

@@ -2,4 +2,3 @@ pub mod Flat
 pub mod Next
 pub mod Own
 pub mod Scan
-mod Common

@@ -1,15 +1,26 @@
 -- The entries in turn.
-use Rattle.object_store.proofs.Common.{IsNext, IsStrictlySortedBy, List, None, Object, Objects, Option, Some, [], ap, filter, is_lt, keys_of, map_sorted, next_of, refl, rest_of, slice_get, subst, sym, text_cmp, text_total, ℕ, ◌∙◌, ◌∷◌, ◌≡◌}
-use Rattle.std.specs.FinMap as map
 use Rattle.basics.proofs.Rest.{after_first, after_found}
+use Rattle.basics.proofs.Tree.{map_sorted}
+use Rattle.basics.specs.Order.{text_cmp, text_total}
+use Rattle.object_store.specs.Objects.{IsNext, next_of, rest_of}
+use Rattle.s3_types.specs.Store.{Objects}
+use Rattle.s3_types.specs.declared.object.Object.{Object}
+use Rattle.std.proofs.Common.{List, None, Option, Some, ap, refl, subst, sym, ℕ, [], ◌∙◌, ◌∷◌, ◌≡◌}
+use Rattle.std.specs.List.{filter, slice_get}
+use Rattle.std.specs.List.Sorted.{IsStrictlySortedBy}
+use Rattle.std.specs.Map.{keys_of}
+use Rattle.std.specs.Ordering.{is_lt}
+use Rattle.std.specs.FinMap as map
 
 -- what comes next is followed by the rest after it
 pub is_next : (after : Option (List ℕ)) (m : Objects) → IsNext after m (next_of after m)
 is_next after m = by after (rest_of after m) refl
   where
-    with_first : (after : Option (List ℕ)) (e : List ℕ × Object) (fs : List (List ℕ × Object)) → rest_of after m ≡ e ∷ fs → fs ≡ rest_of (Some e.0) m
+    with_first : (after : Option (List ℕ)) (e : List ℕ × Object) (fs : List (List ℕ × Object)) → rest_of after m ≡ e ∷ fs
+        → fs ≡ rest_of (Some e.0) m
     with_first None e fs h =
-        after_first text_total e fs (subst (λ (l : List (List ℕ × Object)). IsStrictlySortedBy text_cmp (keys_of l)) h (map_sorted text_cmp m))
+        after_first text_total e fs (subst (λ (l : List (List ℕ × Object)). IsStrictlySortedBy text_cmp (keys_of l)) h
+        (map_sorted text_cmp m))
         ∙ ap (filter (λ f. is_lt (text_cmp e.0 f.0))) (sym h)
     with_first (Some k) e fs h = after_found text_total k (map.entries m) (map_sorted text_cmp m) e fs h
 

@@ -1,15 +1,22 @@
 -- What the walk over a text finds.
-use Rattle.object_store.proofs.Common.{Bool, List, None, Option, Some, [], and_parts, ap, append-nil, append_assoc, arith, before_slash, begins, cond, drop, drop_more, eq-eqb, false, false≢true, get_or, length, nat_eq, ne_eqb, option_map, refl, stem, sym, take, take_more, true, true≢false, ℕ, ◌&&◌, ◌++◌, ◌+◌, ◌<◌, ◌∙◌, ◌∷◌, ◌≡◌, ◌≢◌}
+use Rattle.s3_types.specs.Pages.{before_slash, begins, stem}
+use Rattle.std.proofs.Common.{Bool, List, None, Option, Some, ap, append-nil, append_assoc, arith, cond, drop, false, get_or, length}
+use Rattle.std.proofs.Common.{nat_eq, refl, sym, take, true, ℕ, [], ◌&&◌, ◌++◌, ◌+◌, ◌<◌, ◌∙◌, ◌∷◌, ◌≡◌, ◌≢◌}
+use Rattle.std.proofs.lemmas.Bool.{and_parts, eq-eqb, false≢true, ne_eqb, true≢false}
+use Rattle.std.proofs.lemmas.List.{drop_more, take_more}
+use Rattle.std.specs.Option.{option_map}
 
 pub stem_none : (p q : List ℕ) → begins p q ≡ false → stem p q ≡ None
 stem_none [] q h = absurd (true≢false h)
 stem_none (x ∷ p) [] h = refl
 stem_none (x ∷ p) (y ∷ q) h = by (nat_eq x y) h (stem_none p q)
   where
-    by : (b : Bool) → (b && begins p q) ≡ false → (begins p q ≡ false → stem p q ≡ None) → cond b (option_map (λ s. y ∷ s) (stem p q)) None ≡ None
+    by : (b : Bool) → (b && begins p q) ≡ false → (begins p q ≡ false → stem p q ≡ None)
+        → cond b (option_map (λ s. y ∷ s) (stem p q)) None ≡ None
     by b h g = grind arith
 
-map_map : (xs : List ℕ) (y : ℕ) (o : Option (List ℕ)) → option_map (λ s. y ∷ s) (option_map (λ s. xs ++ s) o) ≡ option_map (λ s. (y ∷ xs) ++ s) o
+map_map : (xs : List ℕ) (y : ℕ) (o : Option (List ℕ))
+    → option_map (λ s. y ∷ s) (option_map (λ s. xs ++ s) o) ≡ option_map (λ s. (y ∷ xs) ++ s) o
 map_map xs y o = grind arith
 
 map_nil : (o : Option (List ℕ)) → o ≡ option_map (λ s. [] ++ s) o
@@ -24,7 +31,8 @@ stem_split (x ∷ p) (y ∷ q) h =
     ∙ ap (option_map (λ s. y ∷ s)) (stem_split p q a.1)
     ∙ map_map (take (length p) q) y (before_slash (drop (length p) q))
 
-map_step : (xs : List ℕ) (y : ℕ) (o : Option (List ℕ)) → option_map (λ s. xs ++ s) (option_map (λ s. y ∷ s) o) ≡ option_map (λ s. (xs ++ y ∷ []) ++ s) o
+map_step : (xs : List ℕ) (y : ℕ) (o : Option (List ℕ))
+    → option_map (λ s. xs ++ s) (option_map (λ s. y ∷ s) o) ≡ option_map (λ s. (xs ++ y ∷ []) ++ s) o
 map_step xs y None = refl
 map_step xs y (Some s) = ap Some (sym (append_assoc xs (y ∷ []) s))
 
@@ -35,12 +43,14 @@ from q i = option_map (λ s. take i q ++ s) (before_slash (drop i q))
 pub from_more : (q : List ℕ) (i : ℕ) → i < length q → (get_or q i 0 ≢ 47) → from q i ≡ from q (i + 1)
 from_more q i l n =
     ap (λ r. option_map (λ s. take i q ++ s) (before_slash r)) (drop_more q i 0 l)
-    ∙ ap (λ b. option_map (λ s. take i q ++ s) (cond b (Some []) (option_map (λ s. get_or q i 0 ∷ s) (before_slash (drop (i + 1) q))))) (ne_eqb _ _ n)
+    ∙ ap (λ b. option_map (λ s. take i q ++ s) (cond b (Some []) (option_map (λ s. get_or q i 0 ∷ s) (before_slash (drop (i + 1) q)))))
+    (ne_eqb _ _ n)
     ∙ map_step (take i q) (get_or q i 0) (before_slash (drop (i + 1) q))
     ∙ ap (λ t. option_map (λ s. t ++ s) (before_slash (drop (i + 1) q))) (sym (take_more q i 0 l))
 
 pub from_here : (q : List ℕ) (i : ℕ) → i < length q → get_or q i 0 ≡ 47 → from q i ≡ Some (take i q)
 from_here q i l e =
     ap (λ r. option_map (λ s. take i q ++ s) (before_slash r)) (drop_more q i 0 l)
-    ∙ ap (λ b. option_map (λ s. take i q ++ s) (cond b (Some []) (option_map (λ s. get_or q i 0 ∷ s) (before_slash (drop (i + 1) q))))) (eq-eqb _ _ e)
+    ∙ ap (λ b. option_map (λ s. take i q ++ s) (cond b (Some []) (option_map (λ s. get_or q i 0 ∷ s) (before_slash (drop (i + 1) q)))))
+    (eq-eqb _ _ e)
     ∙ ap Some (append-nil (take i q))

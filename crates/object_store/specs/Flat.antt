@@ -1,8 +1,12 @@
 -- Pages of keys that are not folded.
-use Rattle.std.specs.Prelude.{◌≡◌, ℕ, false, List, [], ◌∷◌, length, map}
-use Rattle.store_frame.specs.Prelude.{filter, is_lt, text_cmp, begins, PageEntry}
+use Rattle.basics.specs.Order.{text_cmp}
 use Rattle.object_store.specs.declared.objects.Held.{Held}
+use Rattle.s3_types.specs.Pages.{begins}
+use Rattle.s3_types.specs.declared.reply.PageEntry.{PageEntry}
 use Rattle.s3_types.specs.declared.reply.PageEntry.TheVariants.{Object as Single}
+use Rattle.std.specs.List.{filter}
+use Rattle.std.specs.Ordering.{is_lt}
+use Rattle.std.specs.Prelude.{List, false, length, map, ℕ, [], ◌∷◌, ◌≡◌}
 
 -- a key by itself, with the length of the bytes that it holds
 abbrev pub single : List ℕ → Held → PageEntry

@@ -1,7 +1,8 @@
 -- What the tree of a bucket's objects holds.
-use Rattle.std.specs.Prelude.{◌≡◌, ℕ, List, map}
-use Rattle.store_frame.specs.Prelude.{AllByRecursion, Object}
 use Rattle.object_store.specs.declared.objects.Held.{Held}
+use Rattle.s3_types.specs.declared.object.Object.{Object}
+use Rattle.std.specs.List.{AllByRecursion}
+use Rattle.std.specs.Prelude.{List, map, ℕ, ◌≡◌}
 
 -- the objects by the texts of their keys
 abbrev pub contents : List (List ℕ × Held) → List (List ℕ × Object)

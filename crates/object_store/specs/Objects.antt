@@ -1,8 +1,12 @@
 -- Single objects of a bucket.
-use Rattle.std.specs.Prelude.{◌≡◌, ℕ, List, [], ◌∷◌, Option, Some, None, length, slice_get}
-use Rattle.store_frame.specs.Prelude.{filter, is_lt, text_cmp, Objects, Object}
-use Rattle.std.specs.FinMap as map
+use Rattle.basics.specs.Order.{text_cmp}
+use Rattle.s3_types.specs.Store.{Objects}
 use Rattle.s3_types.specs.declared.object.Head.{Head}
+use Rattle.s3_types.specs.declared.object.Object.{Object}
+use Rattle.std.specs.List.{filter}
+use Rattle.std.specs.Ordering.{is_lt}
+use Rattle.std.specs.Prelude.{List, None, Option, Some, length, slice_get, ℕ, [], ◌∷◌, ◌≡◌}
+use Rattle.std.specs.FinMap as map
 
 -- the length of an object's bytes, and its header (Amazon S3 API, HeadObject)
 abbrev pub head_of : Object → Head

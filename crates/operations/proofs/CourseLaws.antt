@@ -1,13 +1,28 @@
 -- The laws of a machine, for any operation that is a course.
-use Rattle.std.specs.Prelude.{◌≡◌, ℕ, ◌+◌, ◌<◌, ◌≤◌, Bool, true, false, Some}
-use Rattle.operations.proofs.Common.{End, Falls, Fine, Goes, IsCalm, IsCourse, IsReady, Kept, Laws, Next, On, Over, Reply, Request, Scene, Stage, Step, after, answer, any_reply, apply, arith, got, led, left, refl, standing, subst, unlost, wanted}
 use Rattle.machine.proofs.Keeping.{Keeps}
+use Rattle.machine.specs.Laws.{Laws}
+use Rattle.machine.specs.Standing.{Fine}
+use Rattle.operations.specs.Courses.{IsCalm, IsCourse, unlost}
+use Rattle.operations.specs.Operations.{IsReady, Kept, after, any_reply, got, led, left, standing, wanted}
+use Rattle.operations.specs.Plans.{Falls, Goes}
+use Rattle.operations.specs.declared.operation.Stage.{Stage}
+use Rattle.operations.specs.declared.operation.Stage.TheVariants.{On, Over}
+use Rattle.operations.specs.declared.plan.Step.{Step}
+use Rattle.operations.specs.declared.plan.Step.TheVariants.{End, Next}
+use Rattle.s3_types.specs.Answer.{answer, apply}
+use Rattle.s3_types.specs.Store.{Scene}
+use Rattle.s3_types.specs.declared.reply.Reply.{Reply}
+use Rattle.s3_types.specs.declared.request.Request.{Request}
+use Rattle.std.proofs.Common.{arith, refl, subst}
+use Rattle.std.specs.Prelude.{Bool, Some, false, true, ℕ, ◌+◌, ◌<◌, ◌≡◌, ◌≤◌}
 
 fine_led : {P A : Type 0} (x : Step P A) → standing (led x) ≡ Fine
 fine_led (Next p) = refl
 fine_led (End a) = refl
 
-module _ {P A : Type 0} {starts : P → Type 0} {asks : P → Request} {goes : P → Reply → Bool → Step P A} {holds : P → Scene → P → Scene → Bool → Type 0} {gives : P → Scene → A → Scene → Type 0} {always : P → Scene → Scene → Type 0} {more : P → Scene → ℕ} (c : IsCourse starts asks goes holds gives always more) where
+module _ {P A : Type 0} {starts : P → Type 0} {asks : P → Request} {goes : P → Reply → Bool → Step P A}
+    {holds : P → Scene → P → Scene → Bool → Type 0} {gives : P → Scene → A → Scene → Type 0} {always : P → Scene → Scene → Type 0}
+    {more : P → Scene → ℕ} (c : IsCourse starts asks goes holds gives always more) where
   standing_on : (m : Stage P A) (r : Request) (a : Reply) (b : Bool) → wanted asks m ≡ Some r → standing (got goes m a b) ≡ standing m
   standing_on (On p) r a b w = fine_led (goes p a b)
   standing_on _ r a b w = absurd (cc)
@@ -28,8 +43,10 @@ module _ {P A : Type 0} {starts : P → Type 0} {asks : P → Request} {goes : P
     kept_led (Next p) s h = h
     kept_led (End a) s h = h
 
-    took : (m : Stage P A) (s : Scene) (r : Request) (b : Bool) → wanted asks m ≡ Some r → K m s b → K (got goes m (answer s r) b) (apply s r) false
-    took (On p) s r b w h = let e : asks p ≡ r = cc in subst (λ v. K (led (goes p (answer s v) b)) (apply s v) false) e (kept_led _ _ (c.goes_on o z p s b h))
+    took : (m : Stage P A) (s : Scene) (r : Request) (b : Bool) → wanted asks m ≡ Some r → K m s b
+        → K (got goes m (answer s r) b) (apply s r) false
+    took (On p) s r b w h = let e : asks p ≡ r = cc in subst (λ v. K (led (goes p (answer s v) b)) (apply s v) false) e
+        (kept_led _ _ (c.goes_on o z p s b h))
     took _ s r b w h = absurd (cc)
 
     pub at_any : (m : Stage P A) (s : Scene) (b : Bool) → K m s b → always o z s
@@ -51,12 +68,14 @@ module _ {P A : Type 0} {starts : P → Type 0} {asks : P → Request} {goes : P
 
     pub falls : (m : Stage P A) (s : Scene) (r : Request) (b : Bool) → wanted asks m ≡ Some r → K m s b
         → left more (got goes m (answer s r) b) (apply s r) < left more m s
-    falls (On p) s r b w h = let e : asks p ≡ r = cc in subst (λ v. left more (led (goes p (answer s v) b)) (apply s v) < 1 + more p s) e (less_led _ _ _ (c.falls o z p s b h))
+    falls (On p) s r b w h = let e : asks p ≡ r = cc in subst (λ v. left more (led (goes p (answer s v) b)) (apply s v) < 1 + more p s) e
+        (less_led _ _ _ (c.falls o z p s b h))
     falls _ s r b w h = absurd (cc)
 
     pub no_rise : (m : Stage P A) (s : Scene) (r : Request) (b : Bool) → wanted asks m ≡ Some r → K m s b
         → left more m (apply s r) ≤ left more m s
-    no_rise (On p) s r b w h = let e : asks p ≡ r = cc in let n = subst (λ v. more p (apply s v) ≤ more p s) e (c.no_rise o z p s b h) in omega (arith, n)
+    no_rise (On p) s r b w h = let e : asks p ≡ r = cc in let n = subst (λ v. more p (apply s v) ≤ more p s) e (c.no_rise o z p s b h) in
+        omega (arith, n)
     no_rise _ s r b w h = absurd (cc)
 
   pub some_left : (m : Stage P A) (s : Scene) (r : Request) → wanted asks m ≡ Some r → 0 < left more m s

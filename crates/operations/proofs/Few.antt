@@ -1,15 +1,27 @@
 -- How many requests an operation sends that is alone: each of its phases asks one, and each is sent at most so many times.
-use Rattle.std.specs.Prelude.{◌≡◌, ℕ, zero, suc, ◌+◌, ◌-◌, ◌*◌, ◌<◌, ◌≤◌, Bool, true, false, List, [], ◌∷◌, ◌++◌, length, Some}
-use Rattle.operations.proofs.Common.{Answered, AreHonest, Entry, Follows, IsCourse, IsHonestOutcome, Kept, On, Outcome, Reply, Request}
-use Rattle.operations.proofs.Common.{Retried, Retrying, Scene, Slow, Stage, Step, after, answer, ap, apply, arith, effect, fresh, got, left}
-use Rattle.operations.proofs.Common.{refl, retried, step, subst, sym, wanted, wants_of, ◌∙◌}
-use Rattle.retries.specs.Retries.{unanswered_by}
-use Rattle.s3_types.specs.declared.journal.Outcome.TheVariants.{RequestLost, ReplyLost}
-use Rattle.std.proofs.Math.Nat.{mul-le-mul_right}
-use Rattle.std.proofs.Common.{length-append}
-use Rattle.std.proofs.lemmas.List.{append_cancel_left}
 use Rattle.machine.proofs.Keeps.{kept_run}
+use Rattle.machine.specs.Turns.{retried}
+use Rattle.machine.specs.declared.retrying.Retrying.{Retrying}
 use Rattle.operations.proofs.CourseLaws.{falls, keeps, no_rise, some_left}
+use Rattle.operations.specs.Courses.{IsCourse}
+use Rattle.operations.specs.Operations.{Kept, after, got, left, wanted}
+use Rattle.operations.specs.declared.operation.Stage.{Stage}
+use Rattle.operations.specs.declared.operation.Stage.TheVariants.{On}
+use Rattle.operations.specs.declared.plan.Step.{Step}
+use Rattle.retries.specs.Operation.{Follows}
+use Rattle.retries.specs.Retries.{Retried, fresh, step, unanswered_by, wants_of}
+use Rattle.s3_types.specs.Answer.{answer, apply}
+use Rattle.s3_types.specs.Moment.{AreHonest, IsHonestOutcome, effect}
+use Rattle.s3_types.specs.Store.{Scene}
+use Rattle.s3_types.specs.declared.journal.Entry.{Entry}
+use Rattle.s3_types.specs.declared.journal.Outcome.{Outcome}
+use Rattle.s3_types.specs.declared.journal.Outcome.TheVariants.{Answered, ReplyLost, RequestLost, Slow}
+use Rattle.s3_types.specs.declared.reply.Reply.{Reply}
+use Rattle.s3_types.specs.declared.request.Request.{Request}
+use Rattle.std.proofs.Common.{ap, arith, length-append, refl, subst, sym, ◌∙◌}
+use Rattle.std.proofs.Math.Nat.{mul-le-mul_right}
+use Rattle.std.proofs.lemmas.List.{append_cancel_left}
+use Rattle.std.specs.Prelude.{Bool, List, Some, false, length, suc, true, zero, ℕ, [], ◌*◌, ◌++◌, ◌+◌, ◌-◌, ◌<◌, ◌∷◌, ◌≡◌, ◌≤◌}
 
 module _ {P A : Type 0} {starts : P → Type 0} {asks : P → Request} {goes : P → Reply → Bool → Step P A}
     {holds : P → Scene → P → Scene → Bool → Type 0} {gives : P → Scene → A → Scene → Type 0} {always : P → Scene → Scene → Type 0}

@@ -1,8 +1,18 @@
 -- An operation whose requests may all be made again is a course.
-use Rattle.std.specs.Prelude.{◌≡◌, ℕ, ◌≤◌}
-use Rattle.operations.proofs.Common.{End, Falls, Goes, IsCourse, IsPlan, MaySend, Next, Reached, Reply, Request, Scene, Step, answer, ap, apply, arith, inl, inr, once, reached, refl, subst, sym, ◌∙◌}
+use Rattle.operations.specs.Courses.{IsCourse, MaySend, Reached, once, reached}
+use Rattle.operations.specs.Plans.{Falls, Goes, IsPlan}
+use Rattle.operations.specs.declared.plan.Step.{Step}
+use Rattle.operations.specs.declared.plan.Step.TheVariants.{End, Next}
+use Rattle.s3_types.specs.Answer.{answer, apply}
+use Rattle.s3_types.specs.Store.{Scene}
+use Rattle.s3_types.specs.declared.reply.Reply.{Reply}
+use Rattle.s3_types.specs.declared.request.Request.{Request}
+use Rattle.std.proofs.Common.{ap, arith, inl, inr, refl, subst, sym, ◌∙◌}
+use Rattle.std.specs.Prelude.{ℕ, ◌≡◌, ◌≤◌}
 
-module _ {P A : Type 0} {starts : P → Type 0} {asks : P → Request} {goes : P → Reply → Step P A} {holds : P → Scene → P → Scene → Type 0} {gives : P → Scene → A → Scene → Type 0} {always : P → Scene → Scene → Type 0} {more : P → Scene → ℕ} (plan : IsPlan starts asks goes holds gives always more) where
+module _ {P A : Type 0} {starts : P → Type 0} {asks : P → Request} {goes : P → Reply → Step P A} {holds : P → Scene → P → Scene → Type 0}
+    {gives : P → Scene → A → Scene → Type 0} {always : P → Scene → Scene → Type 0} {more : P → Scene → ℕ}
+    (plan : IsPlan starts asks goes holds gives always more) where
   module _ (o : P) (z : Scene) where
     always_led : (x : Step P A) (s : Scene) → Goes (holds o z) (gives o z) x s → always o z s
     always_led (Next p) s h = plan.during o z p s h
@@ -40,13 +50,16 @@ module _ {P A : Type 0} {starts : P → Type 0} {asks : P → Request} {goes : P
     settle (Next p) s h = record { settled = s; phase = h; seen = inl refl }
     settle (End a) s h = h
 
-    took_reached : (p : P) (s : Scene) (h : Reached asks (holds o z) p s) → Goes (λ p s. Reached asks (holds o z) p s) (gives o z) (goes p (answer s (asks p))) (apply s (asks p))
+    took_reached : (p : P) (s : Scene) (h : Reached asks (holds o z) p s)
+        → Goes (λ p s. Reached asks (holds o z) p s) (gives o z) (goes p (answer s (asks p))) (apply s (asks p))
     took_reached p s h =
         subst (λ v. Goes (λ p s. Reached asks (holds o z) p s) (gives o z) (goes p v) (apply s (asks p))) (sym (same_reply p s h))
-        (subst (λ v. Goes (λ p s. Reached asks (holds o z) p s) (gives o z) (goes p (answer h.settled (asks p))) v) (sym (same_effect p s h))
+        (subst (λ v. Goes (λ p s. Reached asks (holds o z) p s) (gives o z) (goes p (answer h.settled (asks p))) v)
+        (sym (same_effect p s h))
         (settle _ _ (plan.goes_on o z p h.settled h.phase)))
 
-    falls_reached : (p : P) (s : Scene) (h : Reached asks (holds o z) p s) → Falls more (goes p (answer s (asks p))) (apply s (asks p)) (more p s)
+    falls_reached : (p : P) (s : Scene) (h : Reached asks (holds o z) p s)
+        → Falls more (goes p (answer s (asks p))) (apply s (asks p)) (more p s)
     falls_reached p s h =
         subst (λ v. Falls more (goes p v) (apply s (asks p)) (more p s)) (sym (same_reply p s h))
         (subst (λ v. Falls more (goes p (answer h.settled (asks p))) v (more p s)) (sym (same_effect p s h))
@@ -70,5 +83,6 @@ module _ {P A : Type 0} {starts : P → Type 0} {asks : P → Request} {goes : P
   }
 
 -- and it may send what its phases ask
-pub sends_of : {P : Type 0} (asks : P → Request) (holds : P → Scene → P → Scene → Type 0) (sends : P → Scene → Request → Type 0) → ((o : P) (z : Scene) (p : P) (s : Scene) → holds o z p s → sends o z (asks p)) → MaySend asks (reached asks holds) sends
+pub sends_of : {P : Type 0} (asks : P → Request) (holds : P → Scene → P → Scene → Type 0) (sends : P → Scene → Request → Type 0)
+    → ((o : P) (z : Scene) (p : P) (s : Scene) → holds o z p s → sends o z (asks p)) → MaySend asks (reached asks holds) sends
 sends_of asks holds sends f o z p s b h = f o z p h.settled h.phase

@@ -1,19 +1,27 @@
--- What an operation owes, told by its phases, where a request may not be made twice alike: a phase says what holds where a sending was lost.
-use Rattle.std.specs.Prelude.{◌≡◌, ℕ, ◌≤◌, ◌⊎◌, Bool, true, false}
-use Rattle.machine.specs.Prelude.{Scene, answer, apply, Request, Reply}
+-- What an operation owes, told by its phases, where a request may not be made twice alike: a phase says what holds where a sending was
+-- lost.
+use Rattle.operations.specs.Plans.{Falls, Goes}
 use Rattle.operations.specs.declared.plan.Step.{Step}
-use Rattle.operations.specs.Plans.{Goes, Falls}
+use Rattle.s3_types.specs.Answer.{answer, apply}
+use Rattle.s3_types.specs.Store.{Scene}
+use Rattle.s3_types.specs.declared.reply.Reply.{Reply}
+use Rattle.s3_types.specs.declared.request.Request.{Request}
+use Rattle.std.specs.Prelude.{Bool, false, true, ℕ, ◌≡◌, ◌≤◌, ◌⊎◌}
 
 -- what an operation owes whose requests may not all be made twice alike
-pub record IsCourse {P A : Type 0} (starts : P → Type 0) (asks : P → Request) (goes : P → Reply → Bool → Step P A) (holds : P → Scene → P → Scene → Bool → Type 0) (gives : P → Scene → A → Scene → Type 0) (always : P → Scene → Scene → Type 0) (more : P → Scene → ℕ) : Type 0 where
+pub record IsCourse {P A : Type 0} (starts : P → Type 0) (asks : P → Request) (goes : P → Reply → Bool → Step P A)
+    (holds : P → Scene → P → Scene → Bool → Type 0) (gives : P → Scene → A → Scene → Type 0) (always : P → Scene → Scene → Type 0)
+    (more : P → Scene → ℕ) : Type 0 where
   pub begin : (p : P) (s : Scene) → starts p → holds p s p s false
   -- its phase still holds where a sending is lost before its effect, and after it
   pub lost : (o : P) (z : Scene) (p : P) (s : Scene) (b : Bool) → holds o z p s b → holds o z p s true
   pub hidden : (o : P) (z : Scene) (p : P) (s : Scene) (b : Bool) → holds o z p s b → holds o z p (apply s (asks p)) true
   -- the answer that is due leads on
-  pub goes_on : (o : P) (z : Scene) (p : P) (s : Scene) (b : Bool) → holds o z p s b → Goes (λ p s. holds o z p s false) (gives o z) (goes p (answer s (asks p)) b) (apply s (asks p))
+  pub goes_on : (o : P) (z : Scene) (p : P) (s : Scene) (b : Bool) → holds o z p s b
+      → Goes (λ p s. holds o z p s false) (gives o z) (goes p (answer s (asks p)) b) (apply s (asks p))
   -- what is left falls by it, and does not rise by its effect alone
-  pub falls : (o : P) (z : Scene) (p : P) (s : Scene) (b : Bool) → holds o z p s b → Falls more (goes p (answer s (asks p)) b) (apply s (asks p)) (more p s)
+  pub falls : (o : P) (z : Scene) (p : P) (s : Scene) (b : Bool) → holds o z p s b
+      → Falls more (goes p (answer s (asks p)) b) (apply s (asks p)) (more p s)
   pub no_rise : (o : P) (z : Scene) (p : P) (s : Scene) (b : Bool) → holds o z p s b → more p (apply s (asks p)) ≤ more p s
   -- what is so in each phase and at the end is so always
   pub during : (o : P) (z : Scene) (p : P) (s : Scene) (b : Bool) → holds o z p s b → always o z s
@@ -24,9 +32,11 @@ abbrev pub MaySend : {P : Type 0} → (P → Request) → (P → Scene → P →
 MaySend {P = P} asks holds sends = (o : P) (z : Scene) (p : P) (s : Scene) (b : Bool) → holds o z p s b → sends o z (asks p)
 
 -- what holds of it where each sending was answered, and what it leaves then
-pub record IsCalm {P A : Type 0} (starts : P → Type 0) (asks : P → Request) (goes : P → Reply → Bool → Step P A) (calm : P → Scene → P → Scene → Type 0) (leaves : P → Scene → A → Scene → Type 0) : Type 0 where
+pub record IsCalm {P A : Type 0} (starts : P → Type 0) (asks : P → Request) (goes : P → Reply → Bool → Step P A)
+    (calm : P → Scene → P → Scene → Type 0) (leaves : P → Scene → A → Scene → Type 0) : Type 0 where
   pub begin : (p : P) (s : Scene) → starts p → calm p s p s
-  pub goes_on : (o : P) (z : Scene) (p : P) (s : Scene) → calm o z p s → Goes (calm o z) (leaves o z) (goes p (answer s (asks p)) false) (apply s (asks p))
+  pub goes_on : (o : P) (z : Scene) (p : P) (s : Scene) → calm o z p s
+      → Goes (calm o z) (leaves o z) (goes p (answer s (asks p)) false) (apply s (asks p))
 
 -- nothing was lost of its present request
 abbrev pub unlost : {P : Type 0} → (P → Scene → P → Scene → Bool → Type 0) → P → Scene → P → Scene → Type 0

@@ -1,10 +1,14 @@
 -- An operation as a machine.
-use Rattle.std.specs.Prelude.{ℕ, ◌+◌, Bool, Option, Some, None}
-use Rattle.machine.specs.Prelude.{Scene, Request, Reply, Item, Got, WornOut, OutOfMemory, Standing, Fine, Faulted, Broken}
-use Rattle.operations.specs.declared.plan.Step.{Step}
-use Rattle.operations.specs.declared.plan.Step.TheVariants.{Next, End}
+use Rattle.machine.specs.Standing.{Broken, Faulted, Fine, Standing}
 use Rattle.operations.specs.declared.operation.Stage.{Stage}
-use Rattle.operations.specs.declared.operation.Stage.TheVariants.{On, Over, StoreFault, NoMemory}
+use Rattle.operations.specs.declared.operation.Stage.TheVariants.{NoMemory, On, Over, StoreFault}
+use Rattle.operations.specs.declared.plan.Step.{Step}
+use Rattle.operations.specs.declared.plan.Step.TheVariants.{End, Next}
+use Rattle.retries.specs.Retries.{Got, Item, OutOfMemory, WornOut}
+use Rattle.s3_types.specs.Store.{Scene}
+use Rattle.s3_types.specs.declared.reply.Reply.{Reply}
+use Rattle.s3_types.specs.declared.request.Request.{Request}
+use Rattle.std.specs.Prelude.{Bool, None, Option, Some, ℕ, ◌+◌}
 
 -- a phase asks its request, and an end asks nothing
 abbrev pub wanted : {P A : Type 0} → (P → Request) → Stage P A → Option Request
@@ -51,7 +55,8 @@ Kept holds gives always (Over a) s b = gives a s
 Kept holds gives always _ s b = always s
 
 -- it was begun somewhere, and went on well since
-pub record IsReady {P A : Type 0} (holds : P → Scene → P → Scene → Bool → Type 0) (gives : P → Scene → A → Scene → Type 0) (always : P → Scene → Scene → Type 0) (m : Stage P A) (s : Scene) (b : Bool) : Type 0 where
+pub record IsReady {P A : Type 0} (holds : P → Scene → P → Scene → Bool → Type 0) (gives : P → Scene → A → Scene → Type 0)
+    (always : P → Scene → Scene → Type 0) (m : Stage P A) (s : Scene) (b : Bool) : Type 0 where
   pub first : P
   pub opening : Scene
   pub kept : Kept (holds first opening) (gives first opening) (always first opening) m s b

@@ -1,7 +1,17 @@
 -- What performing an operation has done.
-use Rattle.std.specs.Prelude.{◌≡◌, ℕ, ◌+◌, List, ◌++◌, take, Option, Result}
-use Rattle.machine.specs.Prelude.{AllByRecursion, Scene, AreHonest, after_all, AreForetold, Fate, Actor, Request, Entry, Counted, AreBy, Tried, IsFaultBy}
+use Rattle.machine.specs.Counted.{Counted}
+use Rattle.machine.specs.Tries.{IsFaultBy, Tried}
+use Rattle.machine.specs.Turns.{AreBy}
 use Rattle.machine.specs.declared.driving.DriveStop.{DriveStop}
+use Rattle.s3_types.specs.Foretold.{AreForetold}
+use Rattle.s3_types.specs.Moment.{AreHonest, after_all}
+use Rattle.s3_types.specs.Store.{Scene}
+use Rattle.s3_types.specs.declared.fates.Fate.{Fate}
+use Rattle.s3_types.specs.declared.journal.Entry.{Entry}
+use Rattle.s3_types.specs.declared.request.Actor.{Actor}
+use Rattle.s3_types.specs.declared.request.Request.{Request}
+use Rattle.std.specs.List.{AllByRecursion}
+use Rattle.std.specs.Prelude.{List, Option, Result, take, ℕ, ◌++◌, ◌+◌, ◌≡◌}
 
 -- a store and the journal beside it
 pub record Seen : Type 0 where
@@ -13,10 +23,17 @@ pub record Seen : Type 0 where
 
 -- as what a kind of store shows of one has it
 abbrev pub seen : {S : Type 0} → (S → Scene) → (S → ℕ) → (S → ℕ) → (S → ℕ → Option Fate) → S → List Entry → Seen
-seen scene requests losses foretold store entries = record { scene = scene store; requests = requests store; losses = losses store; foretold = foretold store; entries = entries }
+seen scene requests losses foretold store entries = record {
+  scene = scene store;
+  requests = requests store;
+  losses = losses store;
+  foretold = foretold store;
+  entries = entries;
+}
 
 -- a journal gained entries of this actor and event, which lead from one scene to the other
-pub record Performed {A : Type 0} (actor : Actor) (event retries : ℕ) (always : Scene → Type 0) (sends : Request → Type 0) (old new : Seen) (result : Result A DriveStop) : Type 0 where
+pub record Performed {A : Type 0} (actor : Actor) (event retries : ℕ) (always : Scene → Type 0) (sends : Request → Type 0) (old new : Seen)
+    (result : Result A DriveStop) : Type 0 where
   pub part : List Entry
   pub appended : new.entries ≡ old.entries ++ part
   pub by : AreBy actor event part

@@ -1,8 +1,11 @@
 -- What an operation owes, told by its phases, of which each request may be made twice.
-use Rattle.std.specs.Prelude.{◌≡◌, ℕ, ◌<◌}
-use Rattle.machine.specs.Prelude.{Scene, answer, apply, Request, Reply}
 use Rattle.operations.specs.declared.plan.Step.{Step}
-use Rattle.operations.specs.declared.plan.Step.TheVariants.{Next, End}
+use Rattle.operations.specs.declared.plan.Step.TheVariants.{End, Next}
+use Rattle.s3_types.specs.Answer.{answer, apply}
+use Rattle.s3_types.specs.Store.{Scene}
+use Rattle.s3_types.specs.declared.reply.Reply.{Reply}
+use Rattle.s3_types.specs.declared.request.Request.{Request}
+use Rattle.std.specs.Prelude.{ℕ, ◌<◌, ◌≡◌}
 
 -- a request that is made again changes nothing more, and is answered the same
 pub record Repeats (r : Request) : Type 0 where
@@ -20,14 +23,18 @@ Falls left (Next p) s n = left p s < n
 Falls left (End a) s n = Unit {0}
 
 -- what an operation owes each of whose requests may be made twice
-pub record IsPlan {P A : Type 0} (starts : P → Type 0) (asks : P → Request) (goes : P → Reply → Step P A) (holds : P → Scene → P → Scene → Type 0) (gives : P → Scene → A → Scene → Type 0) (always : P → Scene → Scene → Type 0) (left : P → Scene → ℕ) : Type 0 where
+pub record IsPlan {P A : Type 0} (starts : P → Type 0) (asks : P → Request) (goes : P → Reply → Step P A)
+    (holds : P → Scene → P → Scene → Type 0) (gives : P → Scene → A → Scene → Type 0) (always : P → Scene → Scene → Type 0)
+    (left : P → Scene → ℕ) : Type 0 where
   pub begin : (p : P) (s : Scene) → starts p → holds p s p s
   -- each of its requests may be made again
   pub repeats : (p : P) → Repeats (asks p)
   -- the answer that is due leads on
-  pub goes_on : (o : P) (z : Scene) (p : P) (s : Scene) → holds o z p s → Goes (holds o z) (gives o z) (goes p (answer s (asks p))) (apply s (asks p))
+  pub goes_on : (o : P) (z : Scene) (p : P) (s : Scene) → holds o z p s
+      → Goes (holds o z) (gives o z) (goes p (answer s (asks p))) (apply s (asks p))
   -- what is left falls by it, and by its effect alone stays
-  pub falls : (o : P) (z : Scene) (p : P) (s : Scene) → holds o z p s → Falls left (goes p (answer s (asks p))) (apply s (asks p)) (left p s)
+  pub falls : (o : P) (z : Scene) (p : P) (s : Scene) → holds o z p s
+      → Falls left (goes p (answer s (asks p))) (apply s (asks p)) (left p s)
   pub stays : (o : P) (z : Scene) (p : P) (s : Scene) → holds o z p s → left p (apply s (asks p)) ≡ left p s
   -- what is so in each phase and at the end is so always
   pub during : (o : P) (z : Scene) (p : P) (s : Scene) → holds o z p s → always o z s

@@ -1,5 +1,9 @@
 -- A text that ends without a `/`.
-use Rattle.path_keys.proofs.Common.{Bool, List, [], and_parts, arith, eqb-true, false, last_is, length, nat_lt, refl, slice_index, take, trimmed, true, ℕ, ◌&&◌, ◌++◌, ◌-◌, ◌<◌, ◌==◌, ◌∷◌, ◌≡◌, ◌≢◌}
+use Rattle.basics.proofs.Lists.{last_is}
+use Rattle.s3_types.specs.Names.{trimmed}
+use Rattle.std.proofs.Common.{Bool, List, arith, false, length, nat_lt, refl, slice_index, take, true, ℕ, [], ◌&&◌, ◌++◌, ◌-◌, ◌<◌, ◌==◌}
+use Rattle.std.proofs.Common.{◌∷◌, ◌≡◌, ◌≢◌}
+use Rattle.std.proofs.lemmas.Bool.{and_parts, eqb-true}
 use borrow.Author.Tests.{ltb-true}
 
 pub no_end : (bs : List ℕ) → ((front : List ℕ) → bs ≢ front ++ 47 ∷ []) → bs ≡ trimmed bs

@@ -1,11 +1,19 @@
 -- Faults of a key's elements.
-use Rattle.path_keys.proofs.Common.{Bool, Err, List, None, Ok, Option, Some, [], ap, arith, false, is_element, join_parts, length, list_all, option_or, parts_of, refl, sym, true, ℕ, ◌<◌, ◌==◌, ◌∙◌, ◌∷◌, ◌≡◌, ◌≤◌, if◌then◌else◌}
-use Rattle.path_keys.specs.declared.fault.PathFault.{PathFault}
-use Rattle.path_keys.specs.declared.fault.PathFault.TheVariants.{EmptyElement, DotElement, TooLong}
-use Rattle.path_keys.specs.Paths.{first_fault, checked, key_of, is_key}
+use Rattle.basics.proofs.Pieces.{join_parts}
+use Rattle.basics.specs.Parts.{parts_of}
 use Rattle.path_keys.proofs.Keys.{key_from}
+use Rattle.path_keys.specs.Paths.{checked, first_fault, is_key, key_of}
+use Rattle.path_keys.specs.declared.fault.PathFault.{PathFault}
+use Rattle.path_keys.specs.declared.fault.PathFault.TheVariants.{DotElement, EmptyElement, TooLong}
+use Rattle.s3_types.specs.Names.{is_element}
+use Rattle.std.proofs.Common.{Bool, Err, List, None, Ok, Option, Some, ap, arith, false, if◌then◌else◌, length, refl, sym, true, ℕ, [], ◌<◌}
+use Rattle.std.proofs.Common.{◌==◌, ◌∙◌, ◌∷◌, ◌≡◌, ◌≤◌}
+use Rattle.std.specs.List.{list_all}
+use Rattle.std.specs.Option.{option_or}
 
-picked : (empty sound : Bool) (other : Option PathFault) → option_or (if empty then Some EmptyElement else if sound then None else Some DotElement) other ≡ None → (sound ≡ true) × (other ≡ None)
+picked : (empty sound : Bool) (other : Option PathFault)
+    → option_or (if empty then Some EmptyElement else if sound then None else Some DotElement) other ≡ None → (sound ≡ true)
+    × (other ≡ None)
 picked true sound other h = absurd (cc)
 picked false true other h = (refl, h)
 picked false false other h = absurd (cc)

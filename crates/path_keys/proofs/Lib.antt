@@ -3,4 +3,3 @@ pub mod Keys
 pub mod Faults
 pub mod Last
 pub mod Beneath
-pub mod Common

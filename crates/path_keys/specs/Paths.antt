@@ -1,10 +1,14 @@
 -- Paths `s3a://BUCKET/KEY` (Hadoop FileSystem specification, paths; Amazon S3, object key names).
-use Rattle.std.specs.Prelude.{ℕ, ◌==◌, ◌&&◌, nat_le, nat_eq, Bool, true, false, List, [], ◌∷◌, ◌++◌, length, drop, codes, Option, Some, None, Result, Ok, Err, if◌then◌else◌}
-use Rattle.s3_types.specs.Prelude.{starts_with, join_with_byte, option_or, need, are_elements, is_element, is_bucket, trimmed, ◌>>=◌}
-use Rattle.basics.specs.Reading as reading
 use Rattle.basics.specs.Parts.{parts_of}
+use Rattle.basics.specs.Reading.{need, ◌>>=◌}
 use Rattle.path_keys.specs.declared.fault.PathFault.{PathFault}
-use Rattle.path_keys.specs.declared.fault.PathFault.TheVariants.{BadScheme, BadBucket, EmptyElement, DotElement, TooLong, NoMemory}
+use Rattle.path_keys.specs.declared.fault.PathFault.TheVariants.{BadBucket, BadScheme, DotElement, EmptyElement, NoMemory, TooLong}
+use Rattle.s3_types.specs.Names.{are_elements, is_bucket, is_element, trimmed}
+use Rattle.std.specs.List.{join_with_byte, starts_with}
+use Rattle.std.specs.Option.{option_or}
+use Rattle.std.specs.Prelude.{Bool, Err, List, None, Ok, Option, Result, Some, codes, drop, false, if◌then◌else◌, length, nat_eq, nat_le}
+use Rattle.std.specs.Prelude.{true, ℕ, [], ◌&&◌, ◌++◌, ◌==◌, ◌∷◌}
+use Rattle.basics.specs.Reading as reading
 
 -- a path by its bucket and its key, which is empty at the root
 pub record Path : Type 0 where
@@ -76,7 +80,8 @@ without_last _ = []
 
 -- the path without its last element; a root has none
 abbrev pub parent_of : Path → Option Path
-parent_of p = if length p.key == 0 then None else Some (record { bucket = p.bucket; key = join_with_byte 47 (without_last (parts_of 47 p.key)) })
+parent_of p = if length p.key == 0 then None else Some (record
+    { bucket = p.bucket; key = join_with_byte 47 (without_last (parts_of 47 p.key)) })
 
 -- what follows a path's key and a `/` in a text that begins so; at the root, all of it
 abbrev pub relative_in : List ℕ → List ℕ → Option (List ℕ)

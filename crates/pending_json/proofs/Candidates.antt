@@ -1,8 +1,17 @@
 -- What a quick look makes of a text may be a record.
-use Rattle.pending_json.proofs.Common.{AllByRecursion, Err, IfOk, IfSome, List, Ok, Result, Some, Spelled, [], ap, are_tags, arith, bytes_eq-Decides, cond_some, is_count, is_plain_tag, is_tag_text, is_utf8, leb, length, list_all, list_all-append, list_any, refl, subst, tag_of, true, ℕ, ◌++◌, ◌∙◌, ◌∷◌, ◌≡◌}
+use Rattle.pending_json.proofs.Values.{counted}
+use Rattle.pending_json.specs.Fields.{is_count, is_tag_text, tag_of}
+use Rattle.pending_json.specs.Pending.{are_tags}
+use Rattle.s3_types.specs.Tags.{Spelled, is_plain_tag}
+use Rattle.std.proofs.Common.{Err, IfOk, IfSome, List, Ok, Result, Some, ap, arith, leb, length, refl, subst, true, ℕ, [], ◌++◌, ◌∙◌, ◌∷◌}
+use Rattle.std.proofs.Common.{◌≡◌}
+use Rattle.std.proofs.lemmas.List.Folds.{list_all-append}
+use Rattle.std.proofs.lemmas.Option.{cond_some}
+use Rattle.std.proofs.lemmas.Slice.Eq.{bytes_eq-Decides}
+use Rattle.std.specs.List.{AllByRecursion, list_all, list_any}
 use Rattle.std.specs.Prelude.{bytes_eq}
 use Rattle.std.specs.Result.{result_ok}
-use Rattle.pending_json.proofs.Values.{counted}
+use Rattle.std.specs.Str.{is_utf8}
 
 -- one more of which P holds
 pub all_more : {X : Type 0} (P : X → Type 0) (xs : List X) (x : X) → AllByRecursion P xs → P x → AllByRecursion P (xs ++ x ∷ [])
@@ -11,9 +20,11 @@ all_more P (y ∷ xs) x h p = (h.0, all_more P xs x h.1 p)
 
 -- the tag that a text spells is one of a part
 pub plain_tag : (s : List ℕ) (t : Spelled) → tag_of s ≡ Some t → is_plain_tag t ≡ true
-plain_tag s t e = let p = cond_some (is_tag_text s) (record { digits = s; parts = 0 }) t e in subst (λ x. is_plain_tag x ≡ true) p.1 (rw p.0 refl)
+plain_tag s t e = let p = cond_some (is_tag_text s) (record { digits = s; parts = 0 }) t e in subst (λ x. is_plain_tag x ≡ true) p.1
+    (rw p.0 refl)
 
-pub plain_more : (ts : List Spelled) (t : Spelled) → list_all is_plain_tag ts ≡ true → is_plain_tag t ≡ true → list_all is_plain_tag (ts ++ t ∷ []) ≡ true
+pub plain_more : (ts : List Spelled) (t : Spelled) → list_all is_plain_tag ts ≡ true → is_plain_tag t ≡ true
+    → list_all is_plain_tag (ts ++ t ∷ []) ≡ true
 plain_more ts t h p = list_all-append is_plain_tag ts (t ∷ []) ∙ rw (h, p) refl
 
 -- 1 to 10,000 such tags
@@ -21,7 +32,8 @@ pub tags_are : (ts : List Spelled) → is_count ts ≡ true → list_all is_plai
 tags_are ts h p = counted (leb 1 (length ts)) (leb (length ts) 10000) _ h p
 
 -- a copy of a text is one
-pub copied_text : {E : Type 0} (copy : Result (List ℕ) E) (text : List ℕ) → IfOk copy (λ x. x ≡ text) → is_utf8 text ≡ true → IfSome (result_ok copy) (λ x. is_utf8 x ≡ true)
+pub copied_text : {E : Type 0} (copy : Result (List ℕ) E) (text : List ℕ) → IfOk copy (λ x. x ≡ text) → is_utf8 text ≡ true
+    → IfSome (result_ok copy) (λ x. is_utf8 x ≡ true)
 copied_text (Ok x) text same h = ap is_utf8 same ∙ h
 copied_text (Err fault) text same h = tt
 

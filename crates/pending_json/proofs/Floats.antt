@@ -1,5 +1,11 @@
 -- No record has a float.
-use Rattle.pending_json.proofs.Common.{List, None, Option, Pending, PendingSet, Some, SuccessMark, [], ap, false, has_float, items_have_float, items_of, map, pending_tree, refl, set_tree, success_tree, tag_digits, texts, wholes, ℕ, ◌||◌, ◌∙◌, ◌∷◌, ◌≡◌}
+use Rattle.pending_json.specs.Pending.{Pending}
+use Rattle.pending_json.specs.Trees.{pending_tree, set_tree, success_tree, tag_digits, texts, wholes}
+use Rattle.pending_json.specs.declared.records.PendingSet.{PendingSet}
+use Rattle.pending_json.specs.declared.records.SuccessMark.{SuccessMark}
+use Rattle.serde_json.specs.View.{items_of}
+use Rattle.serde_json.specs.Written.{has_float, items_have_float}
+use Rattle.std.proofs.Common.{List, None, Option, Some, ap, false, map, refl, ℕ, [], ◌||◌, ◌∙◌, ◌∷◌, ◌≡◌}
 
 texts_have_none : (all : List (List ℕ)) → items_have_float (texts all) ≡ false
 texts_have_none [] = refl

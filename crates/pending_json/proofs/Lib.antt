@@ -12,4 +12,3 @@ pub mod PartLengths
 pub mod RoundTrip
 pub mod Values
 pub mod Whole
-mod Common

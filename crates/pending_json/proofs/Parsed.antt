@@ -1,5 +1,11 @@
 -- What serde_json reads as a tree, and what it refuses.
-use Rattle.pending_json.proofs.Common.{Bool, Data, Err, IsUtf8, IsUtf8-from_is_utf8, List, None, NotJson, Ok, Option, Some, ap, cond, false, is_utf8, is_utf8-from_IsUtf8, parsed, read, refl, tree_read, true, ℕ, ◌≡◌}
+use Rattle.pending_json.specs.Reading.{parsed, tree_read}
+use Rattle.pending_json.specs.declared.fault.RecordFault.TheVariants.{NotJson}
+use Rattle.serde_json.specs.Data.{Data}
+use Rattle.serde_json.specs.Read.{read}
+use Rattle.std.proofs.Common.{Bool, Err, List, None, Ok, Option, Some, ap, cond, false, refl, true, ℕ, ◌≡◌}
+use Rattle.std.proofs.lemmas.Str.{IsUtf8-from_is_utf8, is_utf8-from_IsUtf8}
+use Rattle.std.specs.Str.{IsUtf8, is_utf8}
 
 -- what is read of UTF-8 text
 pub tree_is : (bytes : List ℕ) (d : Data) → IsUtf8 bytes → read bytes ≡ Some d → tree_read bytes ≡ Some d

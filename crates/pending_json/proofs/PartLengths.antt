@@ -1,6 +1,9 @@
 -- Each part of a file is at most as long as the file.
-use Rattle.pending_json.proofs.Common.{AllByRecursion, List, [], and_parts, arith, eqb-true, fit, length, sum, true, ℕ, ◌<◌, ◌==◌, ◌^◌, ◌∷◌, ◌≡◌, ◌≤◌}
 use Rattle.basics.proofs.Lists.{sum_first}
+use Rattle.pending_json.specs.Pending.{fit}
+use Rattle.std.proofs.Common.{List, arith, length, true, ℕ, [], ◌<◌, ◌==◌, ◌^◌, ◌∷◌, ◌≡◌, ◌≤◌}
+use Rattle.std.proofs.lemmas.Bool.{and_parts, eqb-true}
+use Rattle.std.specs.List.{AllByRecursion, sum}
 
 -- none is more than what all are at most
 below_all : (ns : List ℕ) (most : ℕ) → sum ns ≤ most → most < 2 ^ 64 → AllByRecursion (λ n. n < 2 ^ 64) ns

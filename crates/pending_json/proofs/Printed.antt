@@ -1,14 +1,25 @@
 -- What is printed of a tree of numbers and texts is read as that tree.
-use Rattle.pending_json.proofs.Common.{Bool, Data, IsUtf8, IsUtf8-append, IsUtf8-are_ascii, IsUtf8-from_ascii, IsUtf8-quoted, Items, Members, Some, [], ap, append-nil, array, boolean, comma_if, compact_text, decimal, false, float, item, items_outline, items_text, max_depth, member, members_outline, members_text, negative, no_items, no_members, null, number, object, of_json, option_and_then, outline, refl, string, sym, tokens, tree_read, true, unsigned, ℕ, ⊤, ◌++◌, ◌<◌, ◌^◌, ◌∙◌, ◌∷◌, ◌≡◌, ◌≤◌}
-use Rattle.std.proofs.lemmas.Fmt.{IsAscii-decimal}
-use Rattle.json.specs.Json as js
-use Rattle.json.specs.Print.{quoted}
-use Rattle.json.specs.Tree as tr
 use Rattle.json.proofs.Printed.Decimals.{IsNumber-decimal}
 use Rattle.json.proofs.Printed.Tokens.{tokens-print}
-use Rattle.json.proofs.Printed.Trees.{value-json_tokens, ArePrintable-json_tokens}
-use Rattle.serde_json.proofs.Texts.{print-outline}
+use Rattle.json.proofs.Printed.Trees.{ArePrintable-json_tokens, value-json_tokens}
+use Rattle.json.proofs.Printed.Utf8.{IsUtf8-are_ascii, IsUtf8-quoted}
+use Rattle.json.specs.Lex.{tokens}
+use Rattle.json.specs.Print.{quoted}
 use Rattle.pending_json.proofs.Parsed.{tree_is}
+use Rattle.pending_json.specs.Reading.{tree_read}
+use Rattle.serde_json.proofs.Texts.{print-outline}
+use Rattle.serde_json.specs.Data.{Data, Items, Members, array, boolean, float, item, member, negative, no_items, no_members, null, number}
+use Rattle.serde_json.specs.Data.{object, string, unsigned}
+use Rattle.serde_json.specs.Read.{max_depth, of_json}
+use Rattle.serde_json.specs.Written.{comma_if, compact_text, items_outline, items_text, members_outline, members_text, outline}
+use Rattle.std.proofs.Common.{Bool, Some, ap, decimal, false, option_and_then, refl, sym, true, ℕ, [], ◌++◌, ◌<◌, ◌^◌, ◌∙◌, ◌∷◌, ◌≡◌, ◌≤◌}
+use Rattle.std.proofs.lemmas.Fmt.{IsAscii-decimal}
+use Rattle.std.proofs.lemmas.List.{append-nil}
+use Rattle.std.proofs.lemmas.Str.{IsUtf8-append, IsUtf8-from_ascii}
+use Rattle.std.specs.Prelude.{⊤}
+use Rattle.std.specs.Str.{IsUtf8}
+use Rattle.json.specs.Json as js
+use Rattle.json.specs.Tree as tr
 
 -- whole numbers of 64 bits and texts alone
 abbrev mutual
@@ -69,18 +80,24 @@ mutual
 
   items_utf8 : (later : Bool) (ds : Items) → PlainItems ds → IsUtf8 (items_text later ds)
   items_utf8 later no_items h = IsUtf8-are_ascii (93 ∷ []) refl
-  items_utf8 later (item d ds) h = IsUtf8-append (comma_if later) (compact_text d ++ items_text true ds) (comma_utf8 later) (IsUtf8-append (compact_text d) (items_text true ds) (text_utf8 d h.0) (items_utf8 true ds h.1))
+  items_utf8 later (item d ds) h = IsUtf8-append (comma_if later) (compact_text d ++ items_text true ds) (comma_utf8 later)
+      (IsUtf8-append (compact_text d) (items_text true ds) (text_utf8 d h.0) (items_utf8 true ds h.1))
 
   members_utf8 : (later : Bool) (ms : Members) → PlainMembers ms → IsUtf8 (members_text later ms)
   members_utf8 later no_members h = IsUtf8-are_ascii (125 ∷ []) refl
-  members_utf8 later (member k d ms) h = IsUtf8-append (comma_if later) (quoted k ++ 58 ∷ (compact_text d ++ members_text true ms)) (comma_utf8 later)
+  members_utf8 later (member k d ms) h = IsUtf8-append (comma_if later) (quoted k ++ 58 ∷ (compact_text d ++ members_text true ms))
+      (comma_utf8 later)
       (IsUtf8-append (quoted k) (58 ∷ (compact_text d ++ members_text true ms)) (IsUtf8-quoted k h.0)
       (IsUtf8-append (58 ∷ []) (compact_text d ++ members_text true ms) (IsUtf8-are_ascii (58 ∷ []) refl)
       (IsUtf8-append (compact_text d) (members_text true ms) (text_utf8 d h.1) (members_utf8 true ms h.2))))
 
-pub printed_is_read : (d : Data) → Plain d → tr.depth (outline d) ≤ max_depth → of_json (outline d) ≡ Some d → tree_read (compact_text d) ≡ Some d
+pub printed_is_read : (d : Data) → Plain d → tr.depth (outline d) ≤ max_depth → of_json (outline d) ≡ Some d
+    → tree_read (compact_text d) ≡ Some d
 printed_is_read d plain deep back =
     let j = outline d in
-    let same : tokens (compact_text d) ≡ tr.json_tokens j = ap tokens (sym (print-outline d)) ∙ tokens-print (tr.json_tokens j) (ArePrintable-json_tokens j (numbers d plain)) in
-    let taken : js.value max_depth (tokens (compact_text d)) ≡ Some (j, []) = ap (js.value max_depth) (same ∙ sym (append-nil (tr.json_tokens j))) ∙ value-json_tokens j max_depth [] deep in
-    tree_is (compact_text d) d (text_utf8 d plain) (ap (λ o. option_and_then of_json (option_and_then (λ q. js.if_last q.0 q.1) o)) taken ∙ back)
+    let same : tokens (compact_text d) ≡ tr.json_tokens j = ap tokens (sym (print-outline d)) ∙ tokens-print (tr.json_tokens j)
+    (ArePrintable-json_tokens j (numbers d plain)) in
+    let taken : js.value max_depth (tokens (compact_text d)) ≡ Some (j, []) = ap (js.value max_depth)
+    (same ∙ sym (append-nil (tr.json_tokens j))) ∙ value-json_tokens j max_depth [] deep in
+    tree_is (compact_text d) d (text_utf8 d plain) (ap (λ o. option_and_then of_json (option_and_then (λ q. js.if_last q.0 q.1) o)) taken ∙
+    back)

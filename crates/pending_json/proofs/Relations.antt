@@ -1,11 +1,32 @@
 -- What is read is the one tree of its value, and the tree of a value is read as that value.
-use Rattle.pending_json.proofs.Common.{AllByRecursion, Data, Err, IsPending, IsSet, Items, List, Members, None, NotJson, Ok, Option, Pending, PendingSet, RecordFault, Result, Some, Spell, SuccessMark, [], ap, ap₂, are_sizes, array, as_array, as_bucket, as_committer, as_key, as_object, as_str, as_tags, as_texts, as_u32, as_whole, as_word, codes, committer_word, field, get, get_member, is_bucket, is_field_of, is_key, is_some, item, items_of, length, lt-ltb, map, member, members_in, needed, no_items, no_members, object, of_kind, only_fields, option_map, parsed, parted, pending_tree, refl, same_ok, set_tree, sizes_in, string, subst, success_tree, sym, tag_digits, texts, tree_read, true, version_of, whole, wholes, with_stamp, ℕ, ◌>>=◌, ◌^◌, ◌∙◌, ◌∷◌, ◌≡◌}
+use Rattle.basics.proofs.Reading.{needed, parted, same_ok}
+use Rattle.basics.specs.Reading.{◌>>=◌}
+use Rattle.pending_json.proofs.Members.{Rising, inside, one_table, rising_by}
+use Rattle.pending_json.proofs.Ordered.{ItemsOrdered, Ordered, field_ordered, tree_ordered}
+use Rattle.pending_json.proofs.Values.{committer_again, field_ok, is_an_object, is_array, is_committer, is_kept, is_number, is_string}
+use Rattle.pending_json.proofs.Values.{is_tags, is_texts, is_u32, is_word, of_kind_ok, sized_ok, sizes_again, sizes_ok, tags_again}
+use Rattle.pending_json.proofs.Values.{texts_again, version_ok}
+use Rattle.pending_json.specs.Committers.{committer_word}
+use Rattle.pending_json.specs.Fields.{as_bucket, as_committer, as_key, as_tags, as_texts, as_u32, as_whole, as_word, field, is_sized}
+use Rattle.pending_json.specs.Fields.{members_in, of_kind, of_kind_if, only_fields, sizes_in, version_in}
+use Rattle.pending_json.specs.Pending.{Pending, are_sizes}
+use Rattle.pending_json.specs.Reading.{field_names, is_field_of, parsed, pending_in, pending_of, pending_table, pendings_in, set_in, set_of}
+use Rattle.pending_json.specs.Reading.{success_in, success_of, tree_read}
+use Rattle.pending_json.specs.Records.{IsPending, IsSet, Spell}
+use Rattle.pending_json.specs.Trees.{pending_tree, set_tree, success_tree, tag_digits, texts, version_of, whole, wholes, with_stamp}
+use Rattle.pending_json.specs.declared.fault.RecordFault.{RecordFault}
+use Rattle.pending_json.specs.declared.fault.RecordFault.TheVariants.{NotJson}
+use Rattle.pending_json.specs.declared.records.PendingSet.{PendingSet}
+use Rattle.pending_json.specs.declared.records.SuccessMark.{SuccessMark}
+use Rattle.s3_types.specs.Names.{is_bucket, is_key}
+use Rattle.serde_json.specs.Data.{Data, Items, Members, array, item, member, no_items, no_members, object, string}
+use Rattle.serde_json.specs.Find.{as_array, as_object, as_str, get, get_member}
+use Rattle.serde_json.specs.View.{items_of}
+use Rattle.std.proofs.Common.{Err, List, None, Ok, Option, Result, Some, ap, ap₂, codes, is_some, length, map, option_map, refl, subst, sym}
+use Rattle.std.proofs.Common.{true, ℕ, [], ◌^◌, ◌∙◌, ◌∷◌, ◌≡◌}
+use Rattle.std.proofs.lemmas.Bool.{lt-ltb}
+use Rattle.std.specs.List.{AllByRecursion}
 use Rattle.pending_json.specs.declared.table.Table.TheVariants as tables
-use Rattle.pending_json.specs.Fields.{of_kind_if, version_in, is_sized}
-use Rattle.pending_json.specs.Reading.{field_names, pending_table, pending_in, pendings_in, set_in, success_in, pending_of, set_of, success_of}
-use Rattle.pending_json.proofs.Members.{Rising, one_table, rising_by, inside}
-use Rattle.pending_json.proofs.Ordered.{Ordered, ItemsOrdered, field_ordered, tree_ordered}
-use Rattle.pending_json.proofs.Values.{of_kind_ok, field_ok, is_number, is_string, is_array, is_an_object, is_u32, is_word, is_kept, is_committer, is_tags, is_texts, tags_again, sizes_again, texts_again, committer_again, version_ok, sized_ok, sizes_ok}
 
 -- a field of an object
 at : (name : List ℕ) (d : Data) (ms : Members) (v w : Data) → d ≡ object ms → get name d ≡ Some v → v ≡ w → get_member name ms ≡ Some w
@@ -17,7 +38,8 @@ at name d ms v w is h same = ap (get name) (sym is) ∙ h ∙ ap Some same
 abbrev uploaded : Pending → Option (List ℕ) → Members
 uploaded p sizes = inside (pending_tree (record p { sizes = sizes }))
 
-pending_members : (p : Pending) (sizes : Option (List ℕ)) → p.sizes ≡ sizes → (ms : Members) → Rising ms → only_fields (is_field_of (pending_table (is_some sizes))) ms ≡ Ok tt
+pending_members : (p : Pending) (sizes : Option (List ℕ)) → p.sizes ≡ sizes → (ms : Members) → Rising ms
+    → only_fields (is_field_of (pending_table (is_some sizes))) ms ≡ Ok tt
     → get_member (codes "attempt") ms ≡ Some (whole p.attempt)
     → get_member (codes "bucket") ms ≡ Some (string p.bucket)
     → get_member (codes "destination") ms ≡ Some (string p.destination)
@@ -29,9 +51,13 @@ pending_members : (p : Pending) (sizes : Option (List ℕ)) → p.sizes ≡ size
     → get_member (codes "upload") ms ≡ Some (whole p.upload)
     → get_member (codes "version") ms ≡ Some (whole (version_of (is_some sizes)))
     → object ms ≡ pending_tree p
-pending_members p None is ms rising only attempt bucket destination tags kind long sizes task upload version = rw is (ap object (one_table (field_names tables.Pending) ms (uploaded p None) rising (rising_by (uploaded p None) (refl {a = true})) only (refl {a = Ok tt})
+pending_members p None is ms rising only attempt bucket destination tags kind long sizes task upload version = rw is
+    (ap object (one_table (field_names tables.Pending) ms (uploaded p None) rising (rising_by (uploaded p None) (refl {a = true})) only
+    (refl {a = Ok tt})
     (attempt, (bucket, (destination, (tags, (kind, (long, (task, (upload, (version, tt)))))))))))
-pending_members p (Some ns) is ms rising only attempt bucket destination tags kind long sizes task upload version = rw is (ap object (one_table (field_names tables.SizedPending) ms (uploaded p (Some ns)) rising (rising_by (uploaded p (Some ns)) (refl {a = true})) only (refl {a = Ok tt})
+pending_members p (Some ns) is ms rising only attempt bucket destination tags kind long sizes task upload version = rw is
+    (ap object (one_table (field_names tables.SizedPending) ms (uploaded p (Some ns)) rising
+    (rising_by (uploaded p (Some ns)) (refl {a = true})) only (refl {a = Ok tt})
     (attempt, (bucket, (destination, (tags, (kind, (long, (sizes ns refl, (task, (upload, (version, tt))))))))))))
 
 pub pending_is : (d : Data) (p : Pending) → Ordered d → pending_in d ≡ Ok p → d ≡ pending_tree p
@@ -59,34 +85,64 @@ pending_is d p o e =
     let task_at = field_ok as_u32 (codes "task") d task.value task.first in
     let upload_at = field_ok as_whole (codes "upload") d upload.value upload.first in
     let is : d ≡ object ms.value = is_an_object d ms.value (of_kind_ok [] (as_object d) ms.value ms.first) in
-    let made : Pending = record { task = task.value; attempt = attempt.value; bucket = bucket.value; destination = destination.value; upload = upload.value; length = long.value; tags = tags.value; sizes = sizes.value } in
+    let made : Pending = record {
+      task = task.value;
+      attempt = attempt.value;
+      bucket = bucket.value;
+      destination = destination.value;
+      upload = upload.value;
+      length = long.value;
+      tags = tags.value;
+      sizes = sizes.value;
+    } in
     let rising : Rising ms.value = (subst Ordered is o).0 in
     let only = subst (λ b. only_fields (is_field_of (pending_table b)) ms.value ≡ Ok tt) (sym sizes_at.0) rest.first in
     let same : object ms.value ≡ pending_tree made = pending_members made sizes.value refl ms.value rising only
     (at (codes "attempt") d ms.value _ (whole attempt.value) is attempt_at.1 (is_u32 attempt_at.0 attempt.value attempt_at.2).0)
     (at (codes "bucket") d ms.value _ (string bucket.value) is bucket_at.1 (is_kept is_bucket bucket_at.0 bucket.value bucket_at.2).0)
-    (at (codes "destination") d ms.value _ (string destination.value) is destination_at.1 (is_kept is_key destination_at.0 destination.value destination_at.2).0)
+    (at (codes "destination") d ms.value _ (string destination.value) is destination_at.1
+    (is_kept is_key destination_at.0 destination.value destination_at.2).0)
     (at (codes "etags") d ms.value _ (array (texts (map tag_digits tags.value))) is tags_at.1 (is_tags tags_at.0 tags.value tags_at.2).0)
     (at (codes "kind") d ms.value _ (string (codes "pending")) is kind_at.1 (is_word (codes "pending") kind_at.0 kind_at.2))
     (at (codes "length") d ms.value _ (whole long.value) is long_at.1 (is_number long_at.0 long.value long_at.2))
     (λ ns h. ap (get (codes "sizes")) (sym is) ∙ sizes_at.1 ns h)
     (at (codes "task") d ms.value _ (whole task.value) is task_at.1 (is_u32 task_at.0 task.value task_at.2).0)
     (at (codes "upload") d ms.value _ (whole upload.value) is upload_at.1 (is_number upload_at.0 upload.value upload_at.2))
-    (at (codes "version") d ms.value _ (whole (version_of (is_some sizes.value))) is (sized_ok d sized.value sized.first) (ap (λ b. whole (version_of b)) (sym sizes_at.0))) in
+    (at (codes "version") d ms.value _ (whole (version_of (is_some sizes.value))) is (sized_ok d sized.value sized.first)
+    (ap (λ b. whole (version_of b)) (sym sizes_at.0))) in
     subst (λ (q : Pending). d ≡ pending_tree q) (same_ok made p rest.next) (is ∙ same)
 
-pending_again_at : (p : Pending) (sizes : Option (List ℕ)) → p.sizes ≡ sizes → are_sizes sizes p.tags p.length ≡ true → IsPending p → pending_in (pending_tree p) ≡ Ok p
+pending_again_at : (p : Pending) (sizes : Option (List ℕ)) → p.sizes ≡ sizes → are_sizes sizes p.tags p.length ≡ true → IsPending p
+    → pending_in (pending_tree p) ≡ Ok p
 unfolding pending_in is_sized
-pending_again_at p None is told f = rw (is, lt-ltb p.attempt (2 ^ 32) f.attempt, f.bucket, f.destination, tags_again p.tags f.tags, lt-ltb p.task (2 ^ 32) f.task) refl
-pending_again_at p (Some ns) is told f = rw (is, lt-ltb p.attempt (2 ^ 32) f.attempt, f.bucket, f.destination, tags_again p.tags f.tags, sizes_again ns (length p.tags) p.length told, lt-ltb p.task (2 ^ 32) f.task) refl
+pending_again_at p None is told f = rw (
+  is,
+  lt-ltb p.attempt (2 ^ 32) f.attempt,
+  f.bucket,
+  f.destination,
+  tags_again p.tags f.tags,
+  lt-ltb
+      p.task (2 ^ 32) f.task,
+) refl
+pending_again_at p (Some ns) is told f = rw (
+  is,
+  lt-ltb p.attempt (2 ^ 32) f.attempt,
+  f.bucket,
+  f.destination,
+  tags_again p.tags f.tags,
+  sizes_again ns (length p.tags) p.length told,
+  lt-ltb p.task (2 ^ 32) f.task,
+) refl
 
 pub pending_again : (p : Pending) → IsPending p → pending_in (pending_tree p) ≡ Ok p
 pending_again p f = pending_again_at p p.sizes refl f.sizes f
 
 -- ---- sets
 
-pendings_are_at : (d : Data) (ds : Items) (ps : List Pending) → (r : Result Pending RecordFault) → pending_in d ≡ r → (rs : Result (List Pending) RecordFault) → (r >>= λ p. rs >>= λ others. Ok (p ∷ others)) ≡ Ok ps
-    → ((p : Pending) → r ≡ Ok p → d ≡ pending_tree p) → ((others : List Pending) → rs ≡ Ok others → ds ≡ items_of (map pending_tree others)) → item d ds ≡ items_of (map pending_tree ps)
+pendings_are_at : (d : Data) (ds : Items) (ps : List Pending) → (r : Result Pending RecordFault) → pending_in d ≡ r
+    → (rs : Result (List Pending) RecordFault) → (r >>= λ p. rs >>= λ others. Ok (p ∷ others)) ≡ Ok ps
+    → ((p : Pending) → r ≡ Ok p → d ≡ pending_tree p) → ((others : List Pending) → rs ≡ Ok others → ds ≡ items_of (map pending_tree others))
+    → item d ds ≡ items_of (map pending_tree ps)
 pendings_are_at d ds ps (Err fault) is rs e here later = absurd cc
 pendings_are_at d ds ps (Ok p) is (Err fault) e here later = absurd cc
 pendings_are_at d ds ps (Ok p) is (Ok others) e here later =
@@ -96,7 +152,8 @@ pendings_are_at d ds ps (Ok p) is (Ok others) e here later =
 pub pendings_are : (ds : Items) (ps : List Pending) → ItemsOrdered ds → pendings_in ds ≡ Ok ps → ds ≡ items_of (map pending_tree ps)
 unfolding pendings_in
 pendings_are no_items ps o e = let same : [] ≡ ps = cc in subst (λ (x : List Pending). no_items ≡ items_of (map pending_tree x)) same refl
-pendings_are (item d ds) ps o e = pendings_are_at d ds ps (pending_in d) refl (pendings_in ds) e (λ p h. pending_is d p o.0 h) (λ others h. pendings_are ds others o.1 h)
+pendings_are (item d ds) ps o e = pendings_are_at d ds ps (pending_in d) refl (pendings_in ds) e (λ p h. pending_is d p o.0 h)
+    (λ others h. pendings_are ds others o.1 h)
 
 array_ordered : (v : Data) (ds : Items) → v ≡ array ds → Ordered v → ItemsOrdered ds
 array_ordered v ds is o = subst Ordered is o
@@ -122,11 +179,14 @@ set_is d s o e =
     let made : PendingSet = record { job = job.value; task = task.value; attempt = attempt.value; commits = commits.value } in
     let rising : Rising ms.value = (subst Ordered is o).0 in
     let items : list_at.0 ≡ array list.value = is_array list_at.0 list.value list_at.2 in
-    let ordered : ItemsOrdered list.value = array_ordered list_at.0 list.value items (field_ordered (codes "commits") d list_at.0 o list_at.1) in
-    let same : ms.value ≡ inside (set_tree made) = one_table (field_names tables.Set) ms.value (inside (set_tree made)) rising (rising_by (inside (set_tree made)) (refl {a = true})) rest.first (refl {a = Ok tt}) (
+    let ordered : ItemsOrdered list.value = array_ordered list_at.0 list.value items
+    (field_ordered (codes "commits") d list_at.0 o list_at.1) in
+    let same : ms.value ≡ inside (set_tree made) = one_table (field_names tables.Set) ms.value (inside (set_tree made)) rising
+    (rising_by (inside (set_tree made)) (refl {a = true})) rest.first (refl {a = Ok tt}) (
       at (codes "attempt") d ms.value _ (whole attempt.value) is attempt_at.1 (is_u32 attempt_at.0 attempt.value attempt_at.2).0,
       (
-        at (codes "commits") d ms.value _ (array (items_of (map pending_tree commits.value))) is list_at.1 (items ∙ ap array (pendings_are list.value commits.value ordered commits.first)),
+        at (codes "commits") d ms.value _ (array (items_of (map pending_tree commits.value))) is list_at.1
+            (items ∙ ap array (pendings_are list.value commits.value ordered commits.first)),
         (
           at (codes "job") d ms.value _ (string job.value) is job_at.1 (is_string job_at.0 job.value job_at.2),
           (
@@ -167,7 +227,8 @@ marked m stamp = member (codes "committer") (string (committer_word m.committer)
     (member (codes "kind") (string (codes "success"))
     (with_stamp stamp (member (codes "version") (whole 1) no_members)))))
 
-mark_members : (m : SuccessMark) (stamp : Option ℕ) → m.stamp ≡ stamp → (ms : Members) → Rising ms → only_fields (is_field_of tables.Success) ms ≡ Ok tt
+mark_members : (m : SuccessMark) (stamp : Option ℕ) → m.stamp ≡ stamp → (ms : Members) → Rising ms
+    → only_fields (is_field_of tables.Success) ms ≡ Ok tt
     → get_member (codes "committer") ms ≡ Some (string (committer_word m.committer))
     → get_member (codes "files") ms ≡ Some (array (texts m.files))
     → get_member (codes "job") ms ≡ Some (string m.job)
@@ -175,8 +236,12 @@ mark_members : (m : SuccessMark) (stamp : Option ℕ) → m.stamp ≡ stamp → 
     → get_member (codes "stamp") ms ≡ option_map whole stamp
     → get_member (codes "version") ms ≡ Some (whole 1)
     → object ms ≡ success_tree m
-mark_members m None is ms rising only committer files job kind at_stamp version = rw is (ap object (one_table (field_names tables.Success) ms (marked m None) rising (rising_by (marked m None) (refl {a = true})) only (refl {a = Ok tt}) (committer, (files, (job, (kind, (at_stamp, (version, tt))))))))
-mark_members m (Some n) is ms rising only committer files job kind at_stamp version = rw is (ap object (one_table (field_names tables.Success) ms (marked m (Some n)) rising (rising_by (marked m (Some n)) (refl {a = true})) only (refl {a = Ok tt}) (committer, (files, (job, (kind, (at_stamp, (version, tt))))))))
+mark_members m None is ms rising only committer files job kind at_stamp version = rw is
+    (ap object (one_table (field_names tables.Success) ms (marked m None) rising (rising_by (marked m None) (refl {a = true})) only
+    (refl {a = Ok tt}) (committer, (files, (job, (kind, (at_stamp, (version, tt))))))))
+mark_members m (Some n) is ms rising only committer files job kind at_stamp version = rw is
+    (ap object (one_table (field_names tables.Success) ms (marked m (Some n)) rising (rising_by (marked m (Some n)) (refl {a = true})) only
+    (refl {a = Ok tt}) (committer, (files, (job, (kind, (at_stamp, (version, tt))))))))
 
 pub success_is : (d : Data) (m : SuccessMark) → Ordered d → success_in d ≡ Ok m → d ≡ success_tree m
 unfolding success_in
@@ -197,7 +262,8 @@ success_is d m o e =
     let made : SuccessMark = record { job = job.value; committer = committer.value; files = files.value; stamp = stamp.value } in
     let rising : Rising ms.value = (subst Ordered is o).0 in
     let same : object ms.value ≡ success_tree made = mark_members made stamp.value refl ms.value rising rest.first
-    (at (codes "committer") d ms.value _ (string (committer_word committer.value)) is committer_at.1 (is_committer committer_at.0 committer.value committer_at.2))
+    (at (codes "committer") d ms.value _ (string (committer_word committer.value)) is committer_at.1
+    (is_committer committer_at.0 committer.value committer_at.2))
     (at (codes "files") d ms.value _ (array (texts files.value)) is files_at.1 (is_texts files_at.0 files.value files_at.2))
     (at (codes "job") d ms.value _ (string job.value) is job_at.1 (is_string job_at.0 job.value job_at.2))
     (at (codes "kind") d ms.value _ (string (codes "success")) is kind_at.1 (is_word (codes "success") kind_at.0 kind_at.2))
@@ -216,7 +282,8 @@ success_again m = success_again_at m m.stamp refl
 -- ---- of bytes
 
 -- a value that is read is what the bytes spell
-spelled : {A : Type 0} (reads : Data → Result A RecordFault) (tree : A → Data) → ((d : Data) (x : A) → Ordered d → reads d ≡ Ok x → d ≡ tree x)
+spelled : {A : Type 0} (reads : Data → Result A RecordFault) (tree : A → Data)
+    → ((d : Data) (x : A) → Ordered d → reads d ≡ Ok x → d ≡ tree x)
     → (bytes : List ℕ) (x : A) → (parsed (tree_read bytes) >>= reads) ≡ Ok x → Spell bytes (tree x)
 spelled reads tree is bytes x e =
     let p = parted (parsed (tree_read bytes)) reads x e in

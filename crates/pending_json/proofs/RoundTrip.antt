@@ -1,11 +1,33 @@
 -- What is printed of a record is read as that record.
-use Rattle.pending_json.proofs.Common.{AllByRecursion, Committer, IsMark, IsPending, IsSet, IsStamp, IsUtf8, IsUtf8-are_ascii, IsUtf8-from_is_utf8, List, Magic, Members, None, Ok, Option, Pending, PendingSet, Some, Spelled, SuccessMark, [], and_parts, are_ascii, are_sizes, arith, codes, committer_word, compact_text, is_count, is_plain_tag, is_some, is_utf8, items_of, items_outline, length, list_all, lit<, lit≤, map, max_depth, member, no_members, of_items, of_json, outline, pending_of, pending_tree, refl, set_of, set_tree, subst, success_of, success_tree, sym, tag_digits, texts, true, version_of, whole, wholes, with_sizes, with_stamp, ℕ, ◌<◌, ◌^◌, ◌∷◌, ◌≡◌, ◌≤◌}
-use Rattle.json.specs.Tree as tr
-use Rattle.serde_json.proofs.Numbers.{number_of-decimal}
-use Rattle.s3_types.proofs.Utf8.{bucket_utf8, hex_utf8}
+use Rattle.json.proofs.Printed.Utf8.{IsUtf8-are_ascii, are_ascii}
+use Rattle.pending_json.proofs.PartLengths.{each_below}
 use Rattle.pending_json.proofs.Printed.{Plain, PlainItems, PlainMembers, printed_is_read}
 use Rattle.pending_json.proofs.Relations.{pending_only, set_only, success_only}
-use Rattle.pending_json.proofs.PartLengths.{each_below}
+use Rattle.pending_json.specs.Committers.{committer_word}
+use Rattle.pending_json.specs.Fields.{is_count}
+use Rattle.pending_json.specs.Pending.{Pending, are_sizes}
+use Rattle.pending_json.specs.Reading.{pending_of, set_of, success_of}
+use Rattle.pending_json.specs.Records.{IsMark, IsPending, IsSet, IsStamp}
+use Rattle.pending_json.specs.Trees.{pending_tree, set_tree, success_tree, tag_digits, texts, version_of, whole, wholes, with_sizes}
+use Rattle.pending_json.specs.Trees.{with_stamp}
+use Rattle.pending_json.specs.declared.records.PendingSet.{PendingSet}
+use Rattle.pending_json.specs.declared.records.SuccessMark.{SuccessMark}
+use Rattle.s3_types.proofs.Utf8.{bucket_utf8, hex_utf8}
+use Rattle.s3_types.specs.Tags.{Spelled, is_plain_tag}
+use Rattle.s3_types.specs.declared.request.Committer.{Committer}
+use Rattle.s3_types.specs.declared.request.Committer.TheVariants.{Magic}
+use Rattle.serde_json.proofs.Numbers.{number_of-decimal}
+use Rattle.serde_json.specs.Data.{Members, member, no_members}
+use Rattle.serde_json.specs.Read.{max_depth, of_items, of_json}
+use Rattle.serde_json.specs.View.{items_of}
+use Rattle.serde_json.specs.Written.{compact_text, items_outline, outline}
+use Rattle.std.proofs.Common.{List, None, Ok, Option, Some, arith, codes, is_some, length, lit<, lit≤, map, refl, subst, sym, true, ℕ, []}
+use Rattle.std.proofs.Common.{◌<◌, ◌^◌, ◌∷◌, ◌≡◌, ◌≤◌}
+use Rattle.std.proofs.lemmas.Bool.{and_parts}
+use Rattle.std.proofs.lemmas.Str.{IsUtf8-from_is_utf8}
+use Rattle.std.specs.List.{AllByRecursion, list_all}
+use Rattle.std.specs.Str.{IsUtf8, is_utf8}
+use Rattle.json.specs.Tree as tr
 
 small : (n : ℕ) → n < 2 ^ 32 → n < 2 ^ 64
 small n h = omega arith
@@ -52,12 +74,24 @@ key k h = IsUtf8-are_ascii k h
 
 -- the members after a file's length
 abbrev later : Pending → Option (List ℕ) → Members
-later p sizes = with_sizes sizes (member (codes "task") (whole p.task) (member (codes "upload") (whole p.upload) (member (codes "version") (whole (version_of (is_some sizes))) no_members)))
+later p sizes = with_sizes sizes (member (codes "task") (whole p.task) (member (codes "upload") (whole p.upload)
+    (member (codes "version") (whole (version_of (is_some sizes))) no_members)))
 
 later_plain : (p : Pending) (sizes : Option (List ℕ)) → are_sizes sizes p.tags p.length ≡ true → IsPending p → PlainMembers (later p sizes)
-later_plain p None h f = (key (codes "task") refl, small _ f.task, (key (codes "upload") refl, f.upload, (key (codes "version") refl, lit< tt, tt)))
-later_plain p (Some ns) h f =
-    (key (codes "sizes") refl, wholes_plain ns (each_below ns (length p.tags) p.length h f.length), (key (codes "task") refl, small _ f.task, (key (codes "upload") refl, f.upload, (key (codes "version") refl, lit< tt, tt))))
+later_plain p None h f = (
+  key (codes "task") refl,
+  small _ f.task,
+  (
+    key (codes "upload") refl,
+    f.upload,
+    (key (codes "version") refl, lit< tt, tt),
+  ),
+)
+later_plain p (Some ns) h f = (
+  key (codes "sizes") refl,
+  wholes_plain ns (each_below ns (length p.tags) p.length h f.length),
+  (key (codes "task") refl, small _ f.task, (key (codes "upload") refl, f.upload, (key (codes "version") refl, lit< tt, tt))),
+)
 
 pending_plain : (p : Pending) → IsPending p → Plain (pending_tree p)
 pending_plain p f = (
@@ -89,9 +123,29 @@ pending_depth_at p (Some ns) is = rw (is, texts_depth (map tag_digits p.tags), w
 pending_depth : (p : Pending) → tr.depth (outline (pending_tree p)) ≡ 2
 pending_depth p = pending_depth_at p p.sizes refl
 
-pending_back_at : (p : Pending) (sizes : Option (List ℕ)) → p.sizes ≡ sizes → are_sizes sizes p.tags p.length ≡ true → IsPending p → of_json (outline (pending_tree p)) ≡ Some (pending_tree p)
-pending_back_at p None is told f = rw (is, number_of-decimal p.attempt (small _ f.attempt), texts_back (map tag_digits p.tags), number_of-decimal p.length f.length, number_of-decimal p.task (small _ f.task), number_of-decimal p.upload f.upload, number_of-decimal 1 (lit< tt)) refl
-pending_back_at p (Some ns) is told f = rw (is, number_of-decimal p.attempt (small _ f.attempt), texts_back (map tag_digits p.tags), number_of-decimal p.length f.length, wholes_back ns (each_below ns (length p.tags) p.length told f.length), number_of-decimal p.task (small _ f.task), number_of-decimal p.upload f.upload, number_of-decimal 2 (lit< tt)) refl
+pending_back_at : (p : Pending) (sizes : Option (List ℕ)) → p.sizes ≡ sizes → are_sizes sizes p.tags p.length ≡ true → IsPending p
+    → of_json (outline (pending_tree p)) ≡ Some (pending_tree p)
+pending_back_at p None is told f = rw (
+  is,
+  number_of-decimal p.attempt (small _ f.attempt),
+  texts_back (map tag_digits p.tags),
+  number_of-decimal p.length f.length,
+  number_of-decimal p.task (small _ f.task),
+  number_of-decimal p.upload f.upload,
+  number_of-decimal 1
+      (lit< tt),
+) refl
+pending_back_at p (Some ns) is told f = rw (
+  is,
+  number_of-decimal p.attempt (small _ f.attempt),
+  texts_back (map tag_digits p.tags),
+  number_of-decimal p.length f.length,
+  wholes_back ns (each_below ns (length p.tags) p.length told f.length),
+  number_of-decimal p.task
+      (small _ f.task),
+  number_of-decimal p.upload f.upload,
+  number_of-decimal 2 (lit< tt),
+) refl
 
 pending_back : (p : Pending) → IsPending p → of_json (outline (pending_tree p)) ≡ Some (pending_tree p)
 pending_back p f = pending_back_at p p.sizes refl f.sizes f
@@ -100,7 +154,8 @@ at_most : (n k : ℕ) → n ≡ k → k ≤ max_depth → n ≤ max_depth
 at_most n k e h = subst (λ m. m ≤ max_depth) (sym e) h
 
 pub pending_text : (p : Pending) → IsPending p → pending_of (compact_text (pending_tree p)) ≡ Ok p
-pending_text p f = pending_only _ p f (printed_is_read (pending_tree p) (pending_plain p f) (at_most _ 2 (pending_depth p) (lit≤ tt)) (pending_back p f))
+pending_text p f = pending_only _ p f (printed_is_read (pending_tree p) (pending_plain p f) (at_most _ 2 (pending_depth p) (lit≤ tt))
+    (pending_back p f))
 
 -- ---- sets
 
@@ -108,7 +163,8 @@ pendings_plain : (ps : List Pending) → AllByRecursion IsPending ps → PlainIt
 pendings_plain [] h = tt
 pendings_plain (p ∷ ps) h = (pending_plain p h.0, pendings_plain ps h.1)
 
-pendings_back : (ps : List Pending) → AllByRecursion IsPending ps → of_items (items_outline (items_of (map pending_tree ps))) ≡ Some (items_of (map pending_tree ps))
+pendings_back : (ps : List Pending) → AllByRecursion IsPending ps
+    → of_items (items_outline (items_of (map pending_tree ps))) ≡ Some (items_of (map pending_tree ps))
 pendings_back [] h = refl
 pendings_back (p ∷ ps) h = rw (pending_back p h.0, pendings_back ps h.1) refl
 
@@ -144,7 +200,13 @@ set_depth s [] e = rw e (lit≤ tt)
 set_depth s (p ∷ ps) e = rw (e, pendings_depth p ps) (lit≤ tt)
 
 set_back : (s : PendingSet) → IsSet s → of_json (outline (set_tree s)) ≡ Some (set_tree s)
-set_back s f = rw (number_of-decimal s.attempt (small _ f.attempt), pendings_back s.commits f.commits, number_of-decimal s.task (small _ f.task), number_of-decimal 1 (lit< tt)) refl
+set_back s f = rw (
+  number_of-decimal s.attempt (small _ f.attempt),
+  pendings_back s.commits f.commits,
+  number_of-decimal s.task
+      (small _ f.task),
+  number_of-decimal 1 (lit< tt),
+) refl
 
 pub set_text : (s : PendingSet) → IsSet s → set_of (compact_text (set_tree s)) ≡ Ok s
 set_text s f = set_only _ s f (printed_is_read (set_tree s) (set_plain s f) (set_depth s s.commits refl) (set_back s f))
@@ -178,9 +240,11 @@ mark_depth : (m : SuccessMark) (stamp : Option ℕ) → m.stamp ≡ stamp → tr
 mark_depth m None e = rw (e, texts_depth m.files) (lit≤ tt)
 mark_depth m (Some n) e = rw (e, texts_depth m.files) (lit≤ tt)
 
-mark_back : (m : SuccessMark) (stamp : Option ℕ) → m.stamp ≡ stamp → IsStamp stamp → of_json (outline (success_tree m)) ≡ Some (success_tree m)
+mark_back : (m : SuccessMark) (stamp : Option ℕ) → m.stamp ≡ stamp → IsStamp stamp
+    → of_json (outline (success_tree m)) ≡ Some (success_tree m)
 mark_back m None e h = rw (e, texts_back m.files, number_of-decimal 1 (lit< tt)) refl
 mark_back m (Some n) e h = rw (e, texts_back m.files, number_of-decimal n h, number_of-decimal 1 (lit< tt)) refl
 
 pub success_text : (m : SuccessMark) → IsMark m → success_of (compact_text (success_tree m)) ≡ Ok m
-success_text m f = success_only _ m (printed_is_read (success_tree m) (mark_plain m f) (mark_depth m m.stamp refl) (mark_back m m.stamp refl f.stamp))
+success_text m f = success_only _ m (printed_is_read (success_tree m) (mark_plain m f) (mark_depth m m.stamp refl)
+    (mark_back m m.stamp refl f.stamp))

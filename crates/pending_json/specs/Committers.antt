@@ -1,8 +1,8 @@
 -- The committers by word and by number.
-use Rattle.std.specs.Prelude.{◌≡◌, ℕ, zero, suc, refl, List, [], ◌∷◌, Option, Some, None, codes, bytes_eq, if◌then◌else◌}
-use Rattle.s3_types.specs.Prelude.{Coded, code_by, coded_ℕ}
 use Rattle.s3_types.specs.declared.request.Committer.{Committer}
-use Rattle.s3_types.specs.declared.request.Committer.TheVariants.{Magic, Directory, Partitioned}
+use Rattle.s3_types.specs.declared.request.Committer.TheVariants.{Directory, Magic, Partitioned}
+use Rattle.std.specs.Coded.{Coded, code_by, coded_ℕ}
+use Rattle.std.specs.Prelude.{List, None, Option, Some, bytes_eq, codes, if◌then◌else◌, refl, suc, zero, ℕ, [], ◌∷◌, ◌≡◌}
 
 -- all of them
 abbrev pub committers : List Committer

@@ -1,14 +1,18 @@
 -- The fields of a JSON object and their kinds.
-use Rattle.std.specs.Prelude.{ℕ, ◌^◌, ◌==◌, ◌&&◌, nat_lt, nat_le, List, [], ◌∷◌, length, Bool, true, false, Option, Some, None, Result, Ok, Err, option_map, option_and_then, codes, bytes_eq, ⊤, if◌then◌else◌}
-use Rattle.s3_types.specs.Prelude.{list_all, list_any, ◌>>=◌, is_bucket, is_key, Spelled, is_hex}
-use Rattle.serde_json.specs.Data.{Data, Items, no_items, item, Members, no_members, member}
-use Rattle.serde_json.specs.Find.{get, as_number, as_u64, as_str, as_array, as_object}
+use Rattle.basics.specs.Reading.{◌>>=◌}
+use Rattle.pending_json.specs.Committers.{committer_of}
+use Rattle.pending_json.specs.Pending.{fit}
+use Rattle.pending_json.specs.declared.fault.RecordFault.{RecordFault}
+use Rattle.pending_json.specs.declared.fault.RecordFault.TheVariants.{ExtraField, MissingField, WrongKind, WrongVersion}
+use Rattle.s3_types.specs.Names.{is_bucket, is_key}
+use Rattle.s3_types.specs.Tags.{Spelled, is_hex}
 use Rattle.s3_types.specs.declared.limits.TheConstants.{MOST_PARTS}
 use Rattle.s3_types.specs.declared.request.Committer.{Committer}
-use Rattle.pending_json.specs.declared.fault.RecordFault.{RecordFault}
-use Rattle.pending_json.specs.declared.fault.RecordFault.TheVariants.{MissingField, WrongKind, WrongVersion, ExtraField}
-use Rattle.pending_json.specs.Pending.{fit}
-use Rattle.pending_json.specs.Committers.{committer_of}
+use Rattle.serde_json.specs.Data.{Data, Items, Members, item, member, no_items, no_members}
+use Rattle.serde_json.specs.Find.{as_array, as_number, as_object, as_str, as_u64, get}
+use Rattle.std.specs.List.{list_all, list_any}
+use Rattle.std.specs.Prelude.{Bool, Err, List, None, Ok, Option, Result, Some, bytes_eq, codes, false, if◌then◌else◌, length, nat_le}
+use Rattle.std.specs.Prelude.{nat_lt, option_and_then, option_map, true, ℕ, [], ⊤, ◌&&◌, ◌==◌, ◌^◌, ◌∷◌}
 
 -- a value that is of its field's kind
 abbrev pub of_kind : {A : Type 0} → List ℕ → Option A → Result A RecordFault

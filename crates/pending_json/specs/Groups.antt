@@ -1,18 +1,20 @@
--- Reading a record in groups of fields, as the code does: each group ends at its first fault. What `Reading` says of the whole record is the same.
-use Rattle.s3_types.specs.Prelude.{◌>>=◌}
-use Rattle.std.specs.Prelude.{ℕ, Bool, List, length, Option, Result, Ok, codes}
-use Rattle.serde_json.specs.Data.{Data, Members}
-use Rattle.serde_json.specs.Find.{get, as_str, as_array}
+-- Reading a record in groups of fields, as the code does: each group ends at its first fault. What `Reading` says of the whole record is
+-- the same.
+use Rattle.basics.specs.Reading.{◌>>=◌}
+use Rattle.pending_json.specs.Fields.{as_bucket, as_committer, as_key, as_tags, as_texts, as_u32, as_whole, as_word, field, is_sized}
+use Rattle.pending_json.specs.Fields.{members_in, of_kind_if, only_fields, sizes_in, version_in}
+use Rattle.pending_json.specs.Pending.{Pending}
+use Rattle.pending_json.specs.Reading.{is_field_of, pending_table, pendings_in}
 use Rattle.pending_json.specs.declared.fault.RecordFault.{RecordFault}
-use Rattle.pending_json.specs.declared.groups.Target.{Target}
-use Rattle.pending_json.specs.declared.groups.Parts.{Parts}
 use Rattle.pending_json.specs.declared.groups.Numbers.{Numbers}
-use Rattle.pending_json.specs.declared.table.Table.TheVariants as tables
+use Rattle.pending_json.specs.declared.groups.Parts.{Parts}
+use Rattle.pending_json.specs.declared.groups.Target.{Target}
 use Rattle.pending_json.specs.declared.records.PendingSet.{PendingSet}
 use Rattle.pending_json.specs.declared.records.SuccessMark.{SuccessMark}
-use Rattle.pending_json.specs.Pending.{Pending}
-use Rattle.pending_json.specs.Fields.{field, of_kind_if, as_whole, as_u32, as_word, as_bucket, as_key, as_committer, as_texts, as_tags, sizes_in, members_in, version_in, is_sized, only_fields}
-use Rattle.pending_json.specs.Reading.{is_field_of, pending_table, pendings_in}
+use Rattle.serde_json.specs.Data.{Data, Members}
+use Rattle.serde_json.specs.Find.{as_array, as_str, get}
+use Rattle.std.specs.Prelude.{Bool, List, Ok, Option, Result, codes, length, ℕ}
+use Rattle.pending_json.specs.declared.table.Table.TheVariants as tables
 
 -- whose a pending upload is, and where its file will be
 unfoldable pub target_in : Data → Result Target RecordFault
@@ -47,7 +49,17 @@ pending_by d = do
   target ← target_in d
   parts ← parts_in sized d
   numbers ← numbers_in sized members d
-  Ok (record { task = numbers.task; attempt = target.attempt; bucket = target.bucket; destination = target.destination; upload = numbers.upload; length = parts.length; tags = parts.tags; sizes = parts.sizes })
+  Ok (record {
+    task = numbers.task;
+    attempt = target.attempt;
+    bucket = target.bucket;
+    destination = target.destination;
+    upload =
+        numbers.upload;
+    length = parts.length;
+    tags = parts.tags;
+    sizes = parts.sizes;
+  })
 
 -- a set's version, and its attempt
 unfoldable pub attempt_in : Data → Result ℕ RecordFault

@@ -7,4 +7,3 @@ pub mod Records
 pub mod Committers
 pub mod Trees
 pub mod Sending
-pub mod Prelude

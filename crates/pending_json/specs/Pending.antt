@@ -1,7 +1,8 @@
 -- A pending upload (Hadoop, S3A committer architecture: SinglePendingCommit).
-use Rattle.std.specs.Prelude.{ℕ, ◌&&◌, ◌==◌, nat_le, Bool, true, List, length, Option, Some, None}
-use Rattle.s3_types.specs.Prelude.{list_all, sum, Spelled, is_plain_tag}
+use Rattle.s3_types.specs.Tags.{Spelled, is_plain_tag}
 use Rattle.s3_types.specs.declared.limits.TheConstants.{MOST_PARTS}
+use Rattle.std.specs.List.{list_all, sum}
+use Rattle.std.specs.Prelude.{Bool, List, None, Option, Some, length, nat_le, true, ℕ, ◌&&◌, ◌==◌}
 
 -- whose upload it is, where its file will be, what completes it, and the lengths of its parts where they are told
 pub record Pending : Type 0 where

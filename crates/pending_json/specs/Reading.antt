@@ -1,22 +1,26 @@
 -- Reading a JSON tree as a record: the first fault in the order of the checks, or the record.
-use Rattle.std.specs.Prelude.{ℕ, Bool, true, false, List, [], ◌∷◌, length, Option, None, Result, Ok, codes, if◌then◌else◌}
-use Rattle.s3_types.specs.Prelude.{is_utf8, need, ◌>>=◌}
-use Rattle.serde_json.specs.Data.{Data, Items, no_items, item}
-use Rattle.serde_json.specs.Find.{get, as_str, as_array}
-use Rattle.serde_json.specs.Read as json
+use Rattle.basics.specs.Reading.{need, ◌>>=◌}
+use Rattle.pending_json.specs.Fields.{as_bucket, as_committer, as_key, as_tags, as_texts, as_u32, as_whole, as_word, field, is_one_of}
+use Rattle.pending_json.specs.Fields.{is_sized, members_in, of_kind_if, only_fields, sizes_in, version_in}
+use Rattle.pending_json.specs.Pending.{Pending}
 use Rattle.pending_json.specs.declared.fault.RecordFault.{RecordFault}
 use Rattle.pending_json.specs.declared.fault.RecordFault.TheVariants.{NotJson}
-use Rattle.pending_json.specs.declared.table.Table.{Table}
-use Rattle.pending_json.specs.declared.table.Table.TheVariants as tables
 use Rattle.pending_json.specs.declared.records.PendingSet.{PendingSet}
 use Rattle.pending_json.specs.declared.records.SuccessMark.{SuccessMark}
-use Rattle.pending_json.specs.Pending.{Pending}
-use Rattle.pending_json.specs.Fields.{field, of_kind_if, as_whole, as_u32, as_word, as_bucket, as_key, as_committer, as_texts, as_tags, sizes_in, members_in, version_in, is_sized, is_one_of, only_fields}
+use Rattle.pending_json.specs.declared.table.Table.{Table}
+use Rattle.serde_json.specs.Data.{Data, Items, item, no_items}
+use Rattle.serde_json.specs.Find.{as_array, as_str, get}
+use Rattle.std.specs.Prelude.{Bool, List, None, Ok, Option, Result, codes, false, if◌then◌else◌, length, true, ℕ, [], ◌∷◌}
+use Rattle.std.specs.Str.{is_utf8}
+use Rattle.serde_json.specs.Read as json
+use Rattle.pending_json.specs.declared.table.Table.TheVariants as tables
 
 -- the names of each record's fields
 abbrev pub field_names : Table → List (List ℕ)
-field_names tables.Pending = codes "attempt" ∷ codes "bucket" ∷ codes "destination" ∷ codes "etags" ∷ codes "kind" ∷ codes "length" ∷ codes "task" ∷ codes "upload" ∷ codes "version" ∷ []
-field_names tables.SizedPending = codes "attempt" ∷ codes "bucket" ∷ codes "destination" ∷ codes "etags" ∷ codes "kind" ∷ codes "length" ∷ codes "sizes" ∷ codes "task" ∷ codes "upload" ∷ codes "version" ∷ []
+field_names tables.Pending = codes "attempt" ∷ codes "bucket" ∷ codes "destination" ∷ codes "etags" ∷ codes "kind" ∷ codes "length" ∷ codes
+    "task" ∷ codes "upload" ∷ codes "version" ∷ []
+field_names tables.SizedPending = codes "attempt" ∷ codes "bucket" ∷ codes "destination" ∷ codes "etags" ∷ codes "kind" ∷ codes "length" ∷
+    codes "sizes" ∷ codes "task" ∷ codes "upload" ∷ codes "version" ∷ []
 field_names tables.Set = codes "attempt" ∷ codes "commits" ∷ codes "job" ∷ codes "kind" ∷ codes "task" ∷ codes "version" ∷ []
 field_names tables.Success = codes "committer" ∷ codes "files" ∷ codes "job" ∷ codes "kind" ∷ codes "stamp" ∷ codes "version" ∷ []
 
@@ -44,7 +48,16 @@ pending_in d = do
   task ← field as_u32 (codes "task") d
   upload ← field as_whole (codes "upload") d
   others ← only_fields (is_field_of (pending_table sized)) members
-  Ok (record { task = task; attempt = attempt; bucket = bucket; destination = destination; upload = upload; length = total; tags = tags; sizes = sizes })
+  Ok (record {
+    task = task;
+    attempt = attempt;
+    bucket = bucket;
+    destination = destination;
+    upload = upload;
+    length = total;
+    tags = tags;
+    sizes = sizes;
+  })
 
 -- pending uploads, of which the first with a fault gives it
 unfoldable pub pendings_in : Items → Result (List Pending) RecordFault

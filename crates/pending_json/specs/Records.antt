@@ -1,13 +1,17 @@
 -- What records may hold, and what bytes spell one.
-use Rattle.std.specs.Prelude.{◌≡◌, ℕ, ◌<◌, ◌^◌, List, Option, Some, None, true, false, ⊤}
-use Rattle.s3_types.specs.Prelude.{AllByRecursion, is_le, is_utf8, text_cmp, is_bucket, is_key}
-use Rattle.serde_json.specs.Data.{Data}
-use Rattle.serde_json.specs.Find.{get}
-use Rattle.pending_json.specs.declared.table.Table.{Table}
+use Rattle.basics.specs.Order.{text_cmp}
+use Rattle.pending_json.specs.Pending.{Pending, are_sizes, are_tags}
+use Rattle.pending_json.specs.Reading.{is_field_of, tree_read}
 use Rattle.pending_json.specs.declared.records.PendingSet.{PendingSet}
 use Rattle.pending_json.specs.declared.records.SuccessMark.{SuccessMark}
-use Rattle.pending_json.specs.Pending.{Pending, are_tags, are_sizes}
-use Rattle.pending_json.specs.Reading.{is_field_of, tree_read}
+use Rattle.pending_json.specs.declared.table.Table.{Table}
+use Rattle.s3_types.specs.Names.{is_bucket, is_key}
+use Rattle.serde_json.specs.Data.{Data}
+use Rattle.serde_json.specs.Find.{get}
+use Rattle.std.specs.List.{AllByRecursion}
+use Rattle.std.specs.Ordering.{is_le}
+use Rattle.std.specs.Prelude.{List, None, Option, Some, false, true, ℕ, ⊤, ◌<◌, ◌^◌, ◌≡◌}
+use Rattle.std.specs.Str.{is_utf8}
 
 -- a pending upload whose numbers have their widths, whose names and tags are such, and whose parts' lengths fit
 pub record IsPending (p : Pending) : Type 0 where

@@ -1,12 +1,12 @@
 -- The records as JSON, each object's members in the byte order of their names (Hadoop, S3A committer architecture).
-use Rattle.std.specs.Prelude.{ℕ, Bool, true, false, List, map, codes, Option, Some, None, is_some}
-use Rattle.s3_types.specs.Prelude.{Spelled}
-use Rattle.serde_json.specs.Data.{unsigned, Data, number, string, array, object, Items, Members, no_members, member}
-use Rattle.serde_json.specs.View.{items_of}
 use Rattle.pending_json.specs.Committers.{committer_word}
 use Rattle.pending_json.specs.Pending.{Pending}
 use Rattle.pending_json.specs.declared.records.PendingSet.{PendingSet}
 use Rattle.pending_json.specs.declared.records.SuccessMark.{SuccessMark}
+use Rattle.s3_types.specs.Tags.{Spelled}
+use Rattle.serde_json.specs.Data.{Data, Items, Members, array, member, no_members, number, object, string, unsigned}
+use Rattle.serde_json.specs.View.{items_of}
+use Rattle.std.specs.Prelude.{Bool, List, None, Option, Some, codes, false, is_some, map, true, ℕ}
 
 -- a number as JSON
 abbrev pub whole : ℕ → Data

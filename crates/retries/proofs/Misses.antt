@@ -1,10 +1,14 @@
 -- the count of the last misses, and somewhere a row of them
-use Rattle.std.proofs.Common.{◌≡◌, ℕ, ◌+◌, ◌-◌, ◌<◌, ◌≤◌, zero, suc, Some, refl, ap, sym, subst, ◌∙◌, ◌⊎◌, inl, inr, Bool, true, false, cond, arith, List, [], ◌∷◌, ◌++◌, length, slice_get, length-append, append-nil}
-use Rattle.basics.proofs.Common.{slice_get_within, cases_lt}
-use Rattle.basics.proofs.Members.{true_or_false}
-use Rattle.retries.specs.Prelude.{Request, Entry, same_request, answers, was_answered, IsWorn, streak}
-use Rattle.retries.specs.Worn.{trail}
 use Rattle.basics.proofs.Lists.{get_before, get_left}
+use Rattle.basics.proofs.Members.{true_or_false}
+use Rattle.retries.specs.Same.{same_request}
+use Rattle.retries.specs.Worn.{IsWorn, answers, streak, trail, was_answered}
+use Rattle.s3_types.specs.declared.journal.Entry.{Entry}
+use Rattle.s3_types.specs.declared.request.Request.{Request}
+use Rattle.std.proofs.Common.{Bool, List, Some, ap, append-nil, arith, cond, false, inl, inr, length, length-append, refl, slice_get, subst}
+use Rattle.std.proofs.Common.{suc, sym, true, zero, ℕ, [], ◌++◌, ◌+◌, ◌-◌, ◌<◌, ◌∙◌, ◌∷◌, ◌≡◌, ◌≤◌, ◌⊎◌}
+use Rattle.std.proofs.lemmas.Bool.{cases_lt}
+use Rattle.std.proofs.lemmas.Option.{slice_get_within}
 
 -- ---- lists of answers
 
@@ -18,7 +22,8 @@ trail_row : (r n : ℕ) (bs : List Bool) → r < trail n bs → Row r bs ⊎ ((i
 trail_row r n [] h = inr (λ i le. absurd (omega arith))
 trail_row r n (true ∷ bs) h = elim (trail_row r 0 bs h) [
   | inl w ↦ inl (row_later r true bs w)
-  | inr w ↦ let x : Row r bs = (0, λ i le. let e : 0 + i ≡ i = omega arith in ap (slice_get bs) e ∙ w i (omega arith)) in inl (row_later r true bs x)
+  | inr w ↦ let x : Row r bs = (0, λ i le. let e : 0 + i ≡ i = omega arith in ap (slice_get bs) e ∙ w i (omega arith)) in inl
+      (row_later r true bs x)
 ]
 trail_row r n (false ∷ bs) h = elim (trail_row r (n + 1) bs h) [
   | inl w ↦ inl (row_later r false bs w)
@@ -29,7 +34,10 @@ trail_row r n (false ∷ bs) h = elim (trail_row r (n + 1) bs h) [
     starts h i g = grind arith
 
 pub row_of_trail : (r : ℕ) (bs : List Bool) → r < trail 0 bs → Row r bs
-row_of_trail r bs h = elim (trail_row r 0 bs h) [ inl w ↦ w | inr w ↦ (0, λ i le. let e : 0 + i ≡ i = omega arith in ap (slice_get bs) e ∙ w i (omega arith)) ]
+row_of_trail r bs h = elim (trail_row r 0 bs h) [
+  | inl w ↦ w
+  | inr w ↦ (0, λ i le. let e : 0 + i ≡ i = omega arith in ap (slice_get bs) e ∙ w i (omega arith))
+]
 
 all_missed : (n : ℕ) (bs : List Bool) → ((i : ℕ) → i < length bs → slice_get bs i ≡ Some false) → trail n bs ≡ n + length bs
 all_missed n [] h = omega arith
@@ -42,7 +50,8 @@ missed_from : (n k : ℕ) (bs : List Bool) → ((i : ℕ) → k ≤ i → i < le
 missed_from n zero bs h = let e : trail n bs ≡ n + length bs = all_missed n bs (λ i le. h i (omega arith) le) in omega arith
 missed_from n (suc k) [] h = omega arith
 missed_from n (suc k) (b ∷ bs) h =
-    let e : length bs ≤ trail (cond b 0 (n + 1)) bs + k = missed_from (cond b 0 (n + 1)) k bs (λ i low le. h (suc i) (omega arith) (omega arith)) in omega arith
+    let e : length bs ≤ trail (cond b 0 (n + 1)) bs + k = missed_from (cond b 0 (n + 1)) k bs
+    (λ i low le. h (suc i) (omega arith) (omega arith)) in omega arith
 
 pub row_grows : (r : ℕ) (bs : List Bool) (b : Bool) → Row r (bs ++ b ∷ []) → Row r bs ⊎ (r < trail 0 (bs ++ b ∷ []))
 row_grows r bs b w =
@@ -50,11 +59,14 @@ row_grows r bs b w =
     let top : w.0 + r < length (bs ++ b ∷ []) = slice_get_within _ _ _ (w.1 r (omega arith)) in
     elim (cases_lt (w.0 + r) (length bs)) [
       | inl low ↦ inl (w.0, λ i le. get_before bs (b ∷ []) (w.0 + i) false (omega arith) (w.1 i le))
-      | inr high ↦ let m : length (bs ++ b ∷ []) ≤ trail 0 (bs ++ b ∷ []) + w.0 = missed_from 0 w.0 (bs ++ b ∷ []) (λ i low le. spot i low le l top high) in inr (omega arith)
+      | inr high ↦ let m : length (bs ++ b ∷ []) ≤ trail 0 (bs ++ b ∷ []) + w.0 = missed_from 0 w.0 (bs ++ b ∷ [])
+          (λ i low le. spot i low le l top high) in inr (omega arith)
     ]
   where
-    spot : (i : ℕ) → w.0 ≤ i → i < length (bs ++ b ∷ []) → length (bs ++ b ∷ []) ≡ length bs + 1 → w.0 + r < length (bs ++ b ∷ []) → length bs ≤ w.0 + r → slice_get (bs ++ b ∷ []) i ≡ Some false
-    spot i low le l top high = let e : w.0 + (i - w.0) ≡ i = omega arith in ap (slice_get (bs ++ b ∷ [])) (sym e) ∙ w.1 (i - w.0) (omega arith)
+    spot : (i : ℕ) → w.0 ≤ i → i < length (bs ++ b ∷ []) → length (bs ++ b ∷ []) ≡ length bs + 1 → w.0 + r < length (bs ++ b ∷ [])
+        → length bs ≤ w.0 + r → slice_get (bs ++ b ∷ []) i ≡ Some false
+    spot i low le l top high = let e : w.0 + (i - w.0) ≡ i = omega arith in ap (slice_get (bs ++ b ∷ [])) (sym e) ∙ w.1 (i - w.0)
+        (omega arith)
 
 trail_append : (n : ℕ) (bs cs : List Bool) → trail n (bs ++ cs) ≡ trail (trail n bs) cs
 trail_append n [] cs = refl
@@ -69,13 +81,16 @@ answers_append q (x ∷ xs) ys = elim (true_or_false (same_request q x.request))
   | inr h ↦ rw (h, answers_append q xs ys) refl
 ]
 
-answers_same : (q : Request) (es : List Entry) (e : Entry) → same_request q e.request ≡ true → answers q (es ++ e ∷ []) ≡ answers q es ++ was_answered e.outcome ∷ []
+answers_same : (q : Request) (es : List Entry) (e : Entry) → same_request q e.request ≡ true
+    → answers q (es ++ e ∷ []) ≡ answers q es ++ was_answered e.outcome ∷ []
 answers_same q es e h = answers_append q es (e ∷ []) ∙ ap (λ b. answers q es ++ cond b (was_answered e.outcome ∷ []) []) h
 
 answers_other : (q : Request) (es : List Entry) (e : Entry) → same_request q e.request ≡ false → answers q (es ++ e ∷ []) ≡ answers q es
-answers_other q es e h = answers_append q es (e ∷ []) ∙ ap (λ b. answers q es ++ cond b (was_answered e.outcome ∷ []) []) h ∙ append-nil (answers q es)
+answers_other q es e h = answers_append q es (e ∷ []) ∙ ap (λ b. answers q es ++ cond b (was_answered e.outcome ∷ []) []) h ∙ append-nil
+    (answers q es)
 
-pub streak_same : (q : Request) (es : List Entry) (e : Entry) → same_request q e.request ≡ true → streak q (es ++ e ∷ []) ≡ cond (was_answered e.outcome) 0 (streak q es + 1)
+pub streak_same : (q : Request) (es : List Entry) (e : Entry) → same_request q e.request ≡ true
+    → streak q (es ++ e ∷ []) ≡ cond (was_answered e.outcome) 0 (streak q es + 1)
 streak_same q es e h = ap (trail 0) (answers_same q es e h) ∙ trail_append 0 (answers q es) (was_answered e.outcome ∷ [])
 
 pub streak_other : (q : Request) (es : List Entry) (e : Entry) → same_request q e.request ≡ false → streak q (es ++ e ∷ []) ≡ streak q es
@@ -85,15 +100,21 @@ pub worn_now : (r : ℕ) (q : Request) (es : List Entry) → r < streak q es →
 worn_now r q es h = row_of_trail r (answers q es) h
 
 pub worn_more : (r : ℕ) (q : Request) (es fs : List Entry) → IsWorn r q es → IsWorn r q (es ++ fs)
-worn_more r q es fs w = (w.0, λ i le. ap (λ v. slice_get v (w.0 + i)) (answers_append q es fs) ∙ get_left (answers q es) (answers q fs) (w.0 + i) false (w.1 i le))
+worn_more r q es fs w = (
+  w.0,
+  λ i le. ap (λ v. slice_get v (w.0 + i)) (answers_append q es fs) ∙ get_left (answers q es) (answers q fs)
+      (w.0 + i) false (w.1 i le),
+)
 
 -- one more sending wears a request only if it is one of it
-pub worn_grows : (r : ℕ) (q : Request) (es : List Entry) (e : Entry) → IsWorn r q (es ++ e ∷ []) → IsWorn r q es ⊎ ((same_request q e.request ≡ true) × (r < streak q (es ++ e ∷ [])))
+pub worn_grows : (r : ℕ) (q : Request) (es : List Entry) (e : Entry) → IsWorn r q (es ++ e ∷ []) → IsWorn r q es
+    ⊎ ((same_request q e.request ≡ true) × (r < streak q (es ++ e ∷ [])))
 worn_grows r q es e w = elim (true_or_false (same_request q e.request)) [
   | inl h ↦ let R : List Bool → Type 0 = λ v. Row r v in
       elim (row_grows r (answers q es) (was_answered e.outcome) (subst R (answers_same q es e h) w)) [
         | inl i ↦ inl i
-        | inr i ↦ let t : trail 0 (answers q es ++ was_answered e.outcome ∷ []) ≡ streak q (es ++ e ∷ []) = ap (trail 0) (sym (answers_same q es e h)) in inr (h, omega arith)
+        | inr i ↦ let t : trail 0 (answers q es ++ was_answered e.outcome ∷ []) ≡ streak q (es ++ e ∷ []) = ap (trail 0)
+            (sym (answers_same q es e h)) in inr (h, omega arith)
       ]
   | inr h ↦ let R : List Bool → Type 0 = λ v. Row r v in inl (subst R (answers_other q es e h) w)
 ]

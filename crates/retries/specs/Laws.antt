@@ -21,12 +21,16 @@ pub record WornOnce : Type 0 where
 -- an operation of replies under retries: its counter finds the first request that wore out by the entries alone
 pub record CounterIsLiteral (M : Type 0) : Type 0 where
   pub first : (retries : ℕ) (asks : M → Option Request) (after : M → Item → M) (m : M) (es : List Entry)
-      → Follows (wants_of asks) (step retries after) (fresh retries m) es → WornFirst retries es (worn_in retries after (fresh retries m) es)
+      → Follows (wants_of asks) (step retries after) (fresh retries m) es
+      → WornFirst retries es (worn_in retries after (fresh retries m) es)
   pub some : (retries : ℕ) (after : M → Item → M) (m : M) (es : List Entry)
       → has_worn retries after (fresh retries m) es ≡ is_some (worn_in retries after (fresh retries m) es)
   -- so it wears out exactly where some request did
-  pub exactly : (retries : ℕ) (asks : M → Option Request) (after : M → Item → M) (m : M) (es : List Entry) → Follows (wants_of asks) (step retries after) (fresh retries m) es
-      → (has_worn retries after (fresh retries m) es ≡ true → (r : Request) × IsWorn retries r es) × ((r : Request) → IsWorn retries r es → has_worn retries after (fresh retries m) es ≡ true)
+  pub exactly : (retries : ℕ) (asks : M → Option Request) (after : M → Item → M) (m : M) (es : List Entry)
+      → Follows (wants_of asks) (step retries after) (fresh retries m) es
+      → (has_worn retries after (fresh retries m) es ≡ true → (r : Request) × IsWorn retries r es)
+      × ((r : Request) → IsWorn retries r es → has_worn retries after (fresh retries m) es ≡ true)
   -- and the same of every operation that counts one request at a time
-  pub counts : (retries : ℕ) (wants : M → Option Request) (tells : M → Outcome → M) (spare : M → ℕ) (holds : M → Bool) → Counting retries wants tells spare holds → (m : M) → holds m ≡ true → spare m ≡ retries → (es : List Entry)
+  pub counts : (retries : ℕ) (wants : M → Option Request) (tells : M → Outcome → M) (spare : M → ℕ) (holds : M → Bool)
+      → Counting retries wants tells spare holds → (m : M) → holds m ≡ true → spare m ≡ retries → (es : List Entry)
       → Follows wants tells m es → WornFirst retries es (spent_in tells spare m es)

@@ -3,4 +3,3 @@ pub mod Operation
 pub mod Worn
 pub mod Retries
 pub mod Laws
-pub mod Prelude

@@ -1,4 +1,5 @@
--- An operation of replies under retries: a request is sent again until it is answered or all its sendings are used up (Hadoop, S3A: fs.s3a.retry.limit; Amazon S3, error responses: SlowDown).
+-- An operation of replies under retries: a request is sent again until it is answered or all its sendings are used up (Hadoop, S3A:
+-- fs.s3a.retry.limit; Amazon S3, error responses: SlowDown).
 use Rattle.std.specs.Prelude.{◌≡◌, ℕ, zero, suc, ◌&&◌, ◌||◌, not, Bool, true, false, cond, List, [], ◌∷◌, Option, Some, None}
 use Rattle.s3_types.specs.declared.request.Request.{Request}
 use Rattle.s3_types.specs.declared.reply.Reply.{Reply}
@@ -69,12 +70,15 @@ worn_in retries after t (e ∷ es) = cond (wears t e.outcome) (Some e.request) (
 
 -- An operation counts so while this test holds of it: after an answer all sendings are spare; without one, where some are, there is
 -- one less and the same request is wanted.
-pub record Counting {M : Type 0} (retries : ℕ) (wants : M → Option Request) (tells : M → Outcome → M) (spare : M → ℕ) (holds : M → Bool) : Type 0 where
+pub record Counting {M : Type 0} (retries : ℕ) (wants : M → Option Request) (tells : M → Outcome → M) (spare : M → ℕ) (holds : M → Bool) :
+    Type 0 where
   pub kept : (m : M) (o : Outcome) → holds m ≡ true → holds (tells m o) ≡ true
   pub answered : (m : M) (o : Outcome) → holds m ≡ true → was_answered o ≡ true → spare (tells m o) ≡ retries
-  pub again : (m : M) (o : Outcome) (n : ℕ) → holds m ≡ true → was_answered o ≡ false → spare m ≡ suc n → (spare (tells m o) ≡ n) × (wants (tells m o) ≡ wants m)
+  pub again : (m : M) (o : Outcome) (n : ℕ) → holds m ≡ true → was_answered o ≡ false → spare m ≡ suc n → (spare (tells m o) ≡ n)
+      × (wants (tells m o) ≡ wants m)
 
 -- the first request of which nothing was spare when it got no answer, or none
 abbrev pub spent_in : {M : Type 0} → (M → Outcome → M) → (M → ℕ) → M → List Entry → Option Request
 spent_in tells spare m [] = None
-spent_in tells spare m (e ∷ es) = cond (is_zero (spare m) && not (was_answered e.outcome)) (Some e.request) (spent_in tells spare (tells m e.outcome) es)
+spent_in tells spare m (e ∷ es) = cond (is_zero (spare m) && not (was_answered e.outcome)) (Some e.request)
+    (spent_in tells spare (tells m e.outcome) es)

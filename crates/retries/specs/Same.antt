@@ -1,10 +1,13 @@
 -- Whether two requests are the very same.
-use Rattle.std.specs.Prelude.{◌&&◌, nat_eq, Bool, true, false, List, [], ◌∷◌, Option, Some, None}
-use Rattle.s3_types.specs.Prelude.{text_eq}
+use Rattle.basics.specs.Order.{text_eq}
 use Rattle.s3_types.specs.declared.request.NamedPart.{NamedPart}
-use Rattle.s3_types.specs.declared.request.UploadRef.{UploadRef}
 use Rattle.s3_types.specs.declared.request.Request.{Request}
-use Rattle.s3_types.specs.declared.request.Request.TheVariants.{MakeBucket, PutObject, GetObject, HeadObject, DeleteObject, DeleteObjects, CopyObject, ListPage, CreateUpload, UploadPart, CompleteUpload, AbortUpload, ListParts, ListUploads, ClusterPut, ClusterRename, ClusterGet, ClusterDelete, ClusterList}
+use Rattle.s3_types.specs.declared.request.Request.TheVariants.{AbortUpload, ClusterDelete, ClusterGet, ClusterList, ClusterPut}
+use Rattle.s3_types.specs.declared.request.Request.TheVariants.{ClusterRename, CompleteUpload, CopyObject, CreateUpload, DeleteObject}
+use Rattle.s3_types.specs.declared.request.Request.TheVariants.{DeleteObjects, GetObject, HeadObject, ListPage, ListParts, ListUploads}
+use Rattle.s3_types.specs.declared.request.Request.TheVariants.{MakeBucket, PutObject, UploadPart}
+use Rattle.s3_types.specs.declared.request.UploadRef.{UploadRef}
+use Rattle.std.specs.Prelude.{Bool, List, None, Option, Some, false, nat_eq, true, [], ◌&&◌, ◌∷◌}
 
 -- lists whose members are the same one by one
 abbrev pub same_list : {X : Type 0} → (X → X → Bool) → List X → List X → Bool

@@ -53,7 +53,8 @@ streak r es = trail 0 (answers r es)
 -- the first request that wore out, behind these entries
 abbrev pub first_worn_after : ℕ → List Entry → List Entry → Option Request
 first_worn_after retries done [] = None
-first_worn_after retries done (e ∷ es) = cond (nat_lt retries (streak e.request (done ++ e ∷ []))) (Some e.request) (first_worn_after retries (done ++ e ∷ []) es)
+first_worn_after retries done (e ∷ es) = cond (nat_lt retries (streak e.request (done ++ e ∷ []))) (Some e.request)
+    (first_worn_after retries (done ++ e ∷ []) es)
 
 -- the first request of these entries that wore out, or none
 abbrev pub first_worn : ℕ → List Entry → Option Request

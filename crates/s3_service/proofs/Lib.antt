@@ -2,4 +2,3 @@ pub mod Below
 pub mod Changed
 pub mod Stores
 pub mod Next
-mod Common

@@ -1,7 +1,13 @@
 -- A request that names a bucket.
-use Rattle.s3_service.proofs.Common.{ClusterDelete, ClusterGet, ClusterList, ClusterPut, ClusterRename, Content, List, MakeBucket, Request, Some, answer_at, answer_store, ap, apply_at, apply_store, bucket_of, get, refl, sym, ℕ, ◌∙◌, ◌≡◌}
 use Rattle.s3_service.specs.Named.{named}
+use Rattle.s3_types.specs.Answer.{answer_at, answer_store, apply_at, apply_store, bucket_of}
+use Rattle.s3_types.specs.Store.{Content}
+use Rattle.s3_types.specs.declared.request.Request.{Request}
+use Rattle.s3_types.specs.declared.request.Request.TheVariants.{ClusterDelete, ClusterGet, ClusterList, ClusterPut, ClusterRename}
+use Rattle.s3_types.specs.declared.request.Request.TheVariants.{MakeBucket}
+use Rattle.std.proofs.Common.{List, Some, ap, refl, sym, ℕ, ◌∙◌, ◌≡◌}
 use Rattle.std.proofs.lemmas.Option.{same_Some}
+use Rattle.std.specs.FinMap.{get}
 
 -- what the store answers and leaves, where a request names a bucket
 pub record GoesTo (c : Content) (r : Request) (n : List ℕ) : Type 0 where
@@ -9,7 +15,9 @@ pub record GoesTo (c : Content) (r : Request) (n : List ℕ) : Type 0 where
   pub answers : answer_store c r ≡ answer_at (get c.buckets n) c.next c.minimum r
   pub leaves : apply_store c r ≡ apply_at (get c.buckets n) c r
 
-same : (c : Content) (r : Request) (n : List ℕ) → bucket_of r ≡ n → answer_store c r ≡ answer_at (get c.buckets (bucket_of r)) c.next c.minimum r → apply_store c r ≡ apply_at (get c.buckets (bucket_of r)) c r → GoesTo c r n
+same : (c : Content) (r : Request) (n : List ℕ) → bucket_of r ≡ n
+    → answer_store c r ≡ answer_at (get c.buckets (bucket_of r)) c.next c.minimum r
+    → apply_store c r ≡ apply_at (get c.buckets (bucket_of r)) c r → GoesTo c r n
 same c r n e a l = record {
   bucket = e;
   answers = a ∙ ap (λ k. answer_at (get c.buckets k) c.next c.minimum r) e;

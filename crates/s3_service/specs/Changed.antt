@@ -1,6 +1,6 @@
 -- Buckets of which one is changed.
-use Rattle.std.specs.Prelude.{List, ℕ, Option, Some, None}
-use Rattle.s3_types.specs.Prelude.{BucketContent, Buckets}
+use Rattle.s3_types.specs.Store.{BucketContent, Buckets}
+use Rattle.std.specs.Prelude.{List, None, Option, Some, ℕ}
 use Rattle.std.specs.FinMap as fin
 
 -- a bucket is changed, if it is there

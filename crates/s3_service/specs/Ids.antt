@@ -1,7 +1,7 @@
 -- The ids of uploads are below the next one.
-use Rattle.std.specs.Prelude.{◌≡◌, ℕ, ◌≤◌, List, Some, None}
-use Rattle.s3_types.specs.Prelude.{Uploads, BucketContent, Buckets}
+use Rattle.s3_types.specs.Store.{BucketContent, Buckets, Uploads}
 use Rattle.s3_types.specs.declared.limits.TheConstants.{MOST_MINIMUM}
+use Rattle.std.specs.Prelude.{List, None, Some, ℕ, ◌≡◌, ◌≤◌}
 use Rattle.std.specs.FinMap as fin
 
 -- no upload has an id from n on

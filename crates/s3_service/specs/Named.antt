@@ -1,7 +1,9 @@
 -- Which bucket a request names.
-use Rattle.std.specs.Prelude.{ℕ, List, Option, Some, None}
 use Rattle.s3_types.specs.declared.request.Request.{Request}
-use Rattle.s3_types.specs.declared.request.Request.TheVariants.{PutObject, GetObject, HeadObject, DeleteObject, DeleteObjects, CopyObject, ListPage, CreateUpload, UploadPart, CompleteUpload, AbortUpload, ListParts, ListUploads}
+use Rattle.s3_types.specs.declared.request.Request.TheVariants.{AbortUpload, CompleteUpload, CopyObject, CreateUpload, DeleteObject}
+use Rattle.s3_types.specs.declared.request.Request.TheVariants.{DeleteObjects, GetObject, HeadObject, ListPage, ListParts, ListUploads}
+use Rattle.s3_types.specs.declared.request.Request.TheVariants.{PutObject, UploadPart}
+use Rattle.std.specs.Prelude.{List, None, Option, Some, ℕ}
 
 -- the bucket that a request names, if it names one
 abbrev pub named : Request → Option (List ℕ)

@@ -1,6 +1,9 @@
 -- The buckets one after another.
-use Rattle.std.specs.Prelude.{◌≡◌, ℕ, List, [], ◌∷◌, Option, Some, None, slice_get}
-use Rattle.s3_types.specs.Prelude.{filter, is_lt, text_cmp, BucketContent, Buckets}
+use Rattle.basics.specs.Order.{text_cmp}
+use Rattle.s3_types.specs.Store.{BucketContent, Buckets}
+use Rattle.std.specs.List.{filter}
+use Rattle.std.specs.Ordering.{is_lt}
+use Rattle.std.specs.Prelude.{List, None, Option, Some, slice_get, ℕ, [], ◌∷◌, ◌≡◌}
 use Rattle.std.specs.FinMap as fin
 
 -- the buckets whose names are greater than a name, or all

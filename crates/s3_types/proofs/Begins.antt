@@ -1,5 +1,13 @@
 -- Texts in order, and what begins with what.
-use Rattle.s3_types.proofs.Common.{Bool, List, Ordering, [], ap, arith, begins, false, false≢true, is_lt, lt, nat_cmp, nat_eq, nat_tests, ordering_then, refl, starts_with, text_cmp, true, true≢false, ℕ, ◌&&◌, ◌∷◌, ◌≡◌}
+use Rattle.basics.proofs.Less.{lt}
+use Rattle.basics.specs.Order.{text_cmp}
+use Rattle.s3_types.specs.Pages.{begins}
+use Rattle.std.proofs.Common.{Bool, List, ap, arith, false, nat_eq, refl, true, ℕ, [], ◌&&◌, ◌∷◌, ◌≡◌}
+use Rattle.std.proofs.lemmas.Bool.{false≢true, true≢false}
+use Rattle.std.proofs.lemmas.Bool.Decides.{nat_tests}
+use Rattle.std.specs.List.{starts_with}
+use Rattle.std.specs.Ordering.{is_lt, nat_cmp, ordering_then}
+use Rattle.std.specs.declared.cmp.Ordering.{Ordering}
 
 pub begins_is : (p q : List ℕ) → starts_with nat_eq q p ≡ begins p q
 begins_is [] q = refl
@@ -7,7 +15,8 @@ begins_is (x ∷ p) [] = refl
 begins_is (x ∷ p) (y ∷ q) = ap (λ b. nat_eq x y && b) (begins_is p q)
 
 step_between : (y z w : ℕ) (r s : Ordering) (b c : Bool) → (is_lt r ≡ false → is_lt s ≡ false → b ≡ true → c ≡ true)
-    → is_lt (ordering_then (nat_cmp z y) r) ≡ false → is_lt (ordering_then (nat_cmp w z) s) ≡ false → (nat_eq y w && b) ≡ true → (nat_eq y z && c) ≡ true
+    → is_lt (ordering_then (nat_cmp z y) r) ≡ false → is_lt (ordering_then (nat_cmp w z) s) ≡ false → (nat_eq y w && b) ≡ true
+    → (nat_eq y z && c) ≡ true
 step_between y z w r s b c ih h g k = grind (arith, nat_tests)
 
 -- what lies between a text and a key that begins with it begins with it too
@@ -17,7 +26,8 @@ between (y ∷ t) [] q h g k = absurd (true≢false h)
 between (y ∷ t) (z ∷ x) [] h g k = absurd (false≢true k)
 between (y ∷ t) (z ∷ x) (w ∷ q) h g k = step_between y z w (text_cmp x t) (text_cmp q x) (begins t q) (begins t x) (between t x q) h g k
 
-step_from : (y w : ℕ) (r : Ordering) (b : Bool) → (b ≡ true → is_lt r ≡ false) → (nat_eq y w && b) ≡ true → is_lt (ordering_then (nat_cmp w y) r) ≡ false
+step_from : (y w : ℕ) (r : Ordering) (b : Bool) → (b ≡ true → is_lt r ≡ false) → (nat_eq y w && b) ≡ true
+    → is_lt (ordering_then (nat_cmp w y) r) ≡ false
 step_from y w r b ih k = grind (arith, nat_tests)
 
 -- a key is not less than what it begins with

@@ -1,10 +1,15 @@
 -- The laws of a file's parts: how many there are, how long each is, and that they are the file again.
-use Rattle.s3_types.proofs.Common.{Bool, List, Some, [], add-one, ap, arith, cond, drop, drop-drop, false, flat_map, greater, inl, inr, length, length-append, length-drop, length-take-le, map, mul-le-mul_right, nat_lt, nat_tests, quotient_up, refl, same_Some, slice_get, subst, suc, sum, sym, take, take-append-drop, take_all, true, zero, ℕ, ◌*◌, ◌++◌, ◌+◌, ◌-◌, ◌/◌, ◌<◌, ◌∙◌, ◌∷◌, ◌≡◌, ◌≤◌, ◌⊎◌}
-use Rattle.basics.proofs.Common.{mul-le-mul_left, nil_from_length}
-use Rattle.std.proofs.Math.Nat.{mul-suc, suc-mul, mul_comm, div-lt_iff_lt-mul, le_trans}
-use Rattle.basics.proofs.Options.{none_some}
-use Rattle.s3_types.specs.Blocks.{block_of, blocks, parts_of}
 use Rattle.basics.proofs.Lists.{sum_first}
+use Rattle.basics.proofs.Options.{none_some}
+use Rattle.s3_types.specs.Blocks.{block_of, blocks, greater, parts_of, quotient_up}
+use Rattle.std.proofs.Common.{Bool, List, Some, add-one, ap, arith, cond, drop, false, inl, inr, length, length-append, length-drop}
+use Rattle.std.proofs.Common.{length-take-le, map, nat_lt, refl, slice_get, subst, suc, sym, take, true, zero, ℕ, [], ◌*◌, ◌++◌, ◌+◌, ◌-◌}
+use Rattle.std.proofs.Common.{◌/◌, ◌<◌, ◌∙◌, ◌∷◌, ◌≡◌, ◌≤◌, ◌⊎◌}
+use Rattle.std.proofs.Math.Nat.{div-lt_iff_lt-mul, le_trans, mul-le-mul_left, mul-le-mul_right, mul-suc, mul_comm, suc-mul}
+use Rattle.std.proofs.lemmas.Bool.Decides.{nat_tests}
+use Rattle.std.proofs.lemmas.List.{drop-drop, nil_from_length, take-append-drop, take_all}
+use Rattle.std.proofs.lemmas.Option.{same_Some}
+use Rattle.std.specs.List.{flat_map, sum}
 
 -- ---- as they are defined
 
@@ -82,7 +87,8 @@ module _ (len block minimum : ℕ) where
 
   -- it is no larger than the largest of the numbers that it is made of
   pub most_size : (m : ℕ) → 1 ≤ m → len ≤ m → block ≤ m → minimum ≤ m → block_of len block minimum ≤ m
-  most_size m one l b h = by_size (λ n. n ≤ m) (greater_most _ _ m (greater_most block minimum m b h) (greater_most 1 (quotient_up len 10000) m one (few_quotient len m l)))
+  most_size m one l b h = by_size (λ n. n ≤ m) (greater_most _ _ m (greater_most block minimum m b h)
+      (greater_most 1 (quotient_up len 10000) m one (few_quotient len m l)))
 
 -- ---- how many parts there are
 
@@ -99,34 +105,43 @@ some_parts size bytes = subst (λ n. 1 ≤ n) (sym (length-parts size bytes)) (g
 pub few_parts : (block minimum : ℕ) (bytes : List ℕ) → length (parts_of (block_of (length bytes) block minimum) bytes) ≤ 10000
 few_parts block minimum bytes =
     let size = block_of (length bytes) block minimum in
-    let few : quotient_up (length bytes) size ≤ 10000 = quotient_few (length bytes) size (some_size (length bytes) block minimum) (few_size (length bytes) block minimum) in
+    let few : quotient_up (length bytes) size ≤ 10000 = quotient_few (length bytes) size (some_size (length bytes) block minimum)
+    (few_size (length bytes) block minimum) in
     subst (λ n. n ≤ 10000) (sym (length-parts size bytes)) (greater_most 1 (quotient_up (length bytes) size) 10000 (omega arith) few)
 
 -- ---- what stands behind so many of them
 
 drop_more : (i size : ℕ) (bytes : List ℕ) → drop (i * size) (drop size bytes) ≡ drop (suc i * size) bytes
-drop_more i size bytes = drop-drop (i * size) size bytes ∙ ap (λ n. drop n bytes) (let e : size + i * size ≡ suc i * size = omega (arith, suc-mul i size) in e)
+drop_more i size bytes = drop-drop (i * size) size bytes ∙ ap (λ n. drop n bytes)
+    (let e : size + i * size ≡ suc i * size = omega (arith, suc-mul i size) in e)
 
-drop-blocks : (n size : ℕ) (bytes : List ℕ) (i : ℕ) → i < n → drop i (blocks n size bytes) ≡ take size (drop (i * size) bytes) ∷ drop (i + 1) (blocks n size bytes)
+drop-blocks : (n size : ℕ) (bytes : List ℕ) (i : ℕ) → i < n
+    → drop i (blocks n size bytes) ≡ take size (drop (i * size) bytes) ∷ drop (i + 1) (blocks n size bytes)
 drop-blocks zero size bytes i h = absurd (omega arith)
-drop-blocks (suc n) size bytes zero h = ap (λ m. take size (drop m bytes) ∷ blocks n size (drop size bytes)) (let z : 0 ≡ 0 * size = omega arith in z)
+drop-blocks (suc n) size bytes zero h = ap (λ m. take size (drop m bytes) ∷ blocks n size (drop size bytes))
+    (let z : 0 ≡ 0 * size = omega arith in z)
 drop-blocks (suc n) size bytes (suc i) h =
     let less : i < n = omega arith in
     let old = drop-blocks n size (drop size bytes) i less in
-    let front : take size (drop (i * size) (drop size bytes)) ≡ take size (drop (suc i * size) bytes) = ap (take size) (drop_more i size bytes) in
+    let front : take size (drop (i * size) (drop size bytes)) ≡ take size (drop (suc i * size) bytes) = ap (take size)
+    (drop_more i size bytes) in
     let back : drop (i + 1) (blocks n size (drop size bytes)) ≡ drop (suc i + 1) (blocks (suc n) size bytes) = rw (add-one, add-one) refl in
-    old ∙ (ap (λ (x : List ℕ). x ∷ drop (i + 1) (blocks n size (drop size bytes))) front ∙ ap (λ (l : List (List ℕ)). take size (drop (suc i * size) bytes) ∷ l) back)
+    old ∙ (ap (λ (x : List ℕ). x ∷ drop (i + 1) (blocks n size (drop size bytes))) front ∙ ap
+    (λ (l : List (List ℕ)). take size (drop (suc i * size) bytes) ∷ l) back)
 
-pub drop-parts : (size : ℕ) (bytes : List ℕ) (i : ℕ) → i < length (parts_of size bytes) → drop i (parts_of size bytes) ≡ take size (drop (i * size) bytes) ∷ drop (i + 1) (parts_of size bytes)
+pub drop-parts : (size : ℕ) (bytes : List ℕ) (i : ℕ) → i < length (parts_of size bytes)
+    → drop i (parts_of size bytes) ≡ take size (drop (i * size) bytes) ∷ drop (i + 1) (parts_of size bytes)
 drop-parts size bytes i h =
     let e = parts_are size bytes in
-    ap (drop i) e ∙ (drop-blocks (greater 1 (quotient_up (length bytes) size)) size bytes i (subst (λ n. i < n) (length-parts size bytes) h) ∙ ap (λ (l : List (List ℕ)). take size (drop (i * size) bytes) ∷ drop (i + 1) l) (sym e))
+    ap (drop i) e ∙ (drop-blocks (greater 1 (quotient_up (length bytes) size)) size bytes i (subst (λ n. i < n) (length-parts size bytes) h)
+    ∙ ap (λ (l : List (List ℕ)). take size (drop (i * size) bytes) ∷ drop (i + 1) l) (sym e))
 
 -- ---- they are the file
 
 -- so many blocks hold the file
 parts_enough : (size : ℕ) (bytes : List ℕ) → 1 ≤ size → length bytes ≤ greater 1 (quotient_up (length bytes) size) * size
-parts_enough size bytes some = le_trans (quotient_enough (length bytes) size some) (mul-le-mul_right size (greater_right 1 (quotient_up (length bytes) size)))
+parts_enough size bytes some = le_trans (quotient_enough (length bytes) size some)
+    (mul-le-mul_right size (greater_right 1 (quotient_up (length bytes) size)))
 
 joined_blocks : (n size : ℕ) (bytes : List ℕ) → length bytes ≤ n * size → flat_map (λ b. b) (blocks n size bytes) ≡ bytes
 joined_blocks zero size bytes h = sym (nil_from_length bytes (omega arith))
@@ -136,12 +151,14 @@ joined_blocks (suc n) size bytes h =
     ap (λ l. take size bytes ++ l) (joined_blocks n size (drop size bytes) (omega arith)) ∙ take-append-drop size bytes
 
 pub parts_joined : (size : ℕ) (bytes : List ℕ) → 1 ≤ size → flat_map (λ b. b) (parts_of size bytes) ≡ bytes
-parts_joined size bytes some = ap (λ (l : List (List ℕ)). flat_map (λ b. b) l) (parts_are size bytes) ∙ joined_blocks (greater 1 (quotient_up (length bytes) size)) size bytes (parts_enough size bytes some)
+parts_joined size bytes some = ap (λ (l : List (List ℕ)). flat_map (λ b. b) l) (parts_are size bytes) ∙ joined_blocks
+    (greater 1 (quotient_up (length bytes) size)) size bytes (parts_enough size bytes some)
 
 -- ---- how long they are
 
 -- all but the last are whole
-whole_block : (n size : ℕ) (bytes b : List ℕ) (i : ℕ) → slice_get (blocks n size bytes) i ≡ Some b → suc i * size ≤ length bytes → length b ≡ size
+whole_block : (n size : ℕ) (bytes b : List ℕ) (i : ℕ) → slice_get (blocks n size bytes) i ≡ Some b → suc i * size ≤ length bytes
+    → length b ≡ size
 whole_block zero size bytes b i e h = absurd (none_some e)
 whole_block (suc n) size bytes b zero e h =
     let one : suc zero * size ≡ size = suc-mul zero size ∙ omega arith in
@@ -152,16 +169,19 @@ whole_block (suc n) size bytes b (suc i) e h =
     let long : length (drop size bytes) ≡ length bytes - size = length-drop size bytes in
     whole_block n size (drop size bytes) b i e (omega arith)
 
-pub whole_part : (size : ℕ) (bytes b : List ℕ) (i : ℕ) → 1 ≤ size → slice_get (parts_of size bytes) i ≡ Some b → suc i < length (parts_of size bytes) → length b ≡ size
+pub whole_part : (size : ℕ) (bytes b : List ℕ) (i : ℕ) → 1 ≤ size → slice_get (parts_of size bytes) i ≡ Some b
+    → suc i < length (parts_of size bytes) → length b ≡ size
 whole_part size bytes b i some e h = elim (greater_is 1 (quotient_up (length bytes) size)) [
   | inl one ↦ let n : length (parts_of size bytes) ≡ 1 = length-parts size bytes ∙ one in absurd (omega arith)
   | inr is ↦
       let n : length (parts_of size bytes) ≡ quotient_up (length bytes) size = length-parts size bytes ∙ is in
       let q : quotient_up (length bytes) size ≡ suc (quotient_up (length bytes) size - 1) = omega arith in
-      let least : size * (quotient_up (length bytes) size - 1) < length bytes = quotient_least (length bytes) size (quotient_up (length bytes) size - 1) some q in
+      let least : size * (quotient_up (length bytes) size - 1) < length bytes = quotient_least (length bytes) size
+      (quotient_up (length bytes) size - 1) some q in
       let up : size * suc i ≤ size * (quotient_up (length bytes) size - 1) = mul-le-mul_left size (omega arith) in
       let turn : suc i * size ≡ size * suc i = mul_comm (suc i) size in
-      whole_block (greater 1 (quotient_up (length bytes) size)) size bytes b i (ap (λ l. slice_get l i) (sym (parts_are size bytes)) ∙ e) (omega arith)
+      whole_block (greater 1 (quotient_up (length bytes) size)) size bytes b i (ap (λ l. slice_get l i) (sym (parts_are size bytes)) ∙ e)
+      (omega arith)
 ]
 
 -- ---- their sizes together
@@ -176,7 +196,8 @@ sum_blocks (suc n) size bytes h =
     ∙ (sym (length-append (take size bytes) (drop size bytes)) ∙ ap length (take-append-drop size bytes)))
 
 pub sum_parts : (size : ℕ) (bytes : List ℕ) → 1 ≤ size → sum (map length (parts_of size bytes)) ≡ length bytes
-sum_parts size bytes some = ap (λ (l : List (List ℕ)). sum (map length l)) (parts_are size bytes) ∙ sum_blocks (greater 1 (quotient_up (length bytes) size)) size bytes (parts_enough size bytes some)
+sum_parts size bytes some = ap (λ (l : List (List ℕ)). sum (map length l)) (parts_are size bytes) ∙ sum_blocks
+    (greater 1 (quotient_up (length bytes) size)) size bytes (parts_enough size bytes some)
 
 -- ---- a file that fits into one part is cut into one
 

@@ -1,10 +1,15 @@
 -- Digests and the hex digits that spell them.
-use Rattle.s3_types.proofs.Common.{AllPass-from_list_all, Bool, IsBytes, List, Ok, Spelled, [], and_parts, ap, arith, encode_lower, is_hex, length, list_all, lower_digits, md5, refl, slice_index, suc, sym, true, zero, ℕ, ◌%◌, ◌&&◌, ◌*◌, ◌/◌, ◌<◌, ◌∙◌, ◌∷◌, ◌≡◌}
-use Rattle.std.specs.Result.{result_unwrap_or}
-use Rattle.hex.specs.Hex.{decode_of, decode_sized, encode_with, is_hex_digit}
 use Rattle.hex.proofs.HexLemmas.{decode_of-digits, decode_sized-twice, length-encode_with}
+use Rattle.hex.specs.Hex.{IsBytes, decode_of, decode_sized, encode_lower, encode_with, is_hex_digit, lower_digits}
 use Rattle.md5.proofs.StandardFacts.{length-md5}
-use Rattle.s3_types.specs.Tags.{joined_tag, plain_tag}
+use Rattle.md5.specs.Md5.{md5}
+use Rattle.s3_types.specs.Tags.{Spelled, is_hex, joined_tag, plain_tag}
+use Rattle.std.proofs.Common.{Bool, List, Ok, ap, arith, length, refl, slice_index, suc, sym, true, zero, ℕ, [], ◌%◌, ◌&&◌, ◌*◌, ◌/◌, ◌<◌}
+use Rattle.std.proofs.Common.{◌∙◌, ◌∷◌, ◌≡◌}
+use Rattle.std.proofs.lemmas.Bool.{and_parts}
+use Rattle.std.proofs.lemmas.List.Sums.{AllPass-from_list_all}
+use Rattle.std.specs.List.{list_all}
+use Rattle.std.specs.Result.{result_unwrap_or}
 
 list_all_at : (p : ℕ → Bool) (xs : List ℕ) (k : ℕ) → list_all p xs ≡ true → k < length xs → p (slice_index xs k) ≡ true
 list_all_at p [] k h lt = absurd (omega arith)

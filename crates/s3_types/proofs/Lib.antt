@@ -3,4 +3,3 @@ pub mod Blocks
 pub mod Spans
 pub mod Utf8
 pub mod Digits
-mod Common

@@ -1,19 +1,37 @@
 -- Rows of sendings as the map of their fates.
-use Rattle.s3_types.proofs.Common.{Bool, IsSome, List, None, Option, Some, Span, [], above_so, ap, arith, at_most_is, at_most_not, at_most_so, below_is, below_not, cond, exact_unsigned, false, false≢true, less_is, max, nat_le, nat_lt, nat_tests, refl, same_Some, subst, suc, sym, true, true≢false, zero, ℕ, ◌&&◌, ◌+◌, ◌-◌, ◌<◌, ◌↔◌, ◌∙◌, ◌∷◌, ◌≡◌, ◌≤◌}
-use Rattle.s3_types.specs.Prelude.{get, get-insert, get-empty, same_map, slice_get, nat_cmp_total, nat_cmp, eq_by_cmp, is_le, match_ordering, insert_entry, entries_between, Ordering, Less, Equal, Greater, Included, Unbounded, FateMap, is_answer, IsFirstNamed, IsFirstFrom, named, AreApart, from_on, first_in}
-use Rattle.s3_types.specs.Fates.{with_fates}
+use Rattle.basics.proofs.Naturals.{above_so, at_most_is, at_most_not, at_most_so, below_is, below_not, greater_is, less_is}
+use Rattle.s3_types.specs.Fates.{FateMap, IsFirstFrom, IsFirstNamed, is_answer, with_fates}
+use Rattle.s3_types.specs.Spans.{AreApart, first_in, from_on, named}
 use Rattle.s3_types.specs.declared.fates.Fate.{Fate}
-use Rattle.basics.proofs.Naturals.{greater_is}
+use Rattle.s3_types.specs.declared.fates.Span.{Span}
+use Rattle.std.proofs.Common.{Bool, List, None, Option, Some, ap, arith, cond, false, max, nat_le, nat_lt, refl, subst, suc, sym, true}
+use Rattle.std.proofs.Common.{zero, ℕ, [], ◌&&◌, ◌+◌, ◌-◌, ◌<◌, ◌↔◌, ◌∙◌, ◌∷◌, ◌≡◌, ◌≤◌}
+use Rattle.std.proofs.lemmas.Bool.{false≢true, true≢false}
+use Rattle.std.proofs.lemmas.Bool.Decides.{nat_tests}
+use Rattle.std.proofs.lemmas.Map.Lookups.{exact_unsigned}
+use Rattle.std.proofs.lemmas.Option.{same_Some}
+use Rattle.std.specs.BTreeMap.{insert_entry}
+use Rattle.std.specs.BTreeMap.Range.{entries_between}
+use Rattle.std.specs.Cmp.{nat_cmp_total}
+use Rattle.std.specs.FinMap.{get, get-empty, get-insert, same_map}
+use Rattle.std.specs.List.{slice_get}
+use Rattle.std.specs.Ordering.{eq_by_cmp, is_le, match_ordering, nat_cmp}
+use Rattle.std.specs.Prelude.{IsSome}
+use Rattle.std.specs.declared.cmp.Ordering.{Ordering}
+use Rattle.std.specs.declared.cmp.Ordering.TheVariants.{Equal, Greater, Less}
+use Rattle.std.specs.declared.ops.Bound.TheVariants.{Included, Unbounded}
 
 -- ---- the map
 
 outside : (a n : ℕ) (x y : Option Fate) → y ≡ cond (nat_le a n && nat_lt n (a + 0)) x y
 outside a n x y = grind (arith, nat_tests)
 
-wider : (a c n : ℕ) (x y : Option Fate) → cond (eq_by_cmp nat_cmp n (a + c)) x (cond (nat_le a n && nat_lt n (a + c)) x y) ≡ cond (nat_le a n && nat_lt n (a + suc c)) x y
+wider : (a c n : ℕ) (x y : Option Fate) → cond (eq_by_cmp nat_cmp n (a + c)) x (cond (nat_le a n && nat_lt n (a + c)) x y) ≡ cond
+    (nat_le a n && nat_lt n (a + suc c)) x y
 wider a c n x y = grind (arith, nat_tests)
 
-pub get_with_fates : (m : FateMap) (first : ℕ) (f : Fate) (count n : ℕ) → get (with_fates m first f count) n ≡ cond (nat_le first n && nat_lt n (first + count)) (Some f) (get m n)
+pub get_with_fates : (m : FateMap) (first : ℕ) (f : Fate) (count n : ℕ)
+    → get (with_fates m first f count) n ≡ cond (nat_le first n && nat_lt n (first + count)) (Some f) (get m n)
 unfolding with_fates
 get_with_fates m first f zero n = outside first n (Some f) (get m n)
 get_with_fates m first f (suc c) n =
@@ -48,11 +66,13 @@ is_from n k = grind (arith, nat_tests)
 pub first_from : (n : ℕ) (es : List (ℕ × Span)) → slice_get (entries_between nat_cmp (Included n) Unbounded es) 0 ≡ from_on n es
 first_from n [] = refl
 first_from n (e ∷ es) =
-    ap (λ b. slice_get (cond b (e ∷ entries_between nat_cmp (Included n) Unbounded es) (entries_between nat_cmp (Included n) Unbounded es)) 0) (is_from n e.0)
+    ap (λ b. slice_get (cond b (e ∷ entries_between nat_cmp (Included n) Unbounded es) (entries_between nat_cmp (Included n) Unbounded es))
+    0) (is_from n e.0)
     ∙ by (nat_lt e.0 n) (first_from n es)
   where
     by : (b : Bool) → slice_get (entries_between nat_cmp (Included n) Unbounded es) 0 ≡ from_on n es
-        → slice_get (cond (cond b false true) (e ∷ entries_between nat_cmp (Included n) Unbounded es) (entries_between nat_cmp (Included n) Unbounded es)) 0 ≡ cond b (from_on n es) (Some e)
+        → slice_get (cond (cond b false true) (e ∷ entries_between nat_cmp (Included n) Unbounded es)
+        (entries_between nat_cmp (Included n) Unbounded es)) 0 ≡ cond b (from_on n es) (Some e)
     by true ih = ih
     by false ih = refl
 
@@ -71,7 +91,8 @@ none_on f [] h k l = refl
 none_on f (e ∷ es) h k l = by (nat_lt e.0 f) refl (none_on f es)
   where
     by : (b : Bool) → nat_lt e.0 f ≡ b → (from_on f es ≡ None → (k : ℕ) → f ≤ k → span_at es k ≡ None) → span_at (e ∷ es) k ≡ None
-    by true t ih = ap (λ b. cond b (Some e.1.fate) (span_at es k)) (ended e.1.first e.0 f k t l) ∙ ih (ap (λ b. cond b (from_on f es) (Some e)) (sym t) ∙ h) k l
+    by true t ih = ap (λ b. cond b (Some e.1.fate) (span_at es k)) (ended e.1.first e.0 f k t l) ∙ ih
+        (ap (λ b. cond b (from_on f es) (Some e)) (sym t) ∙ h) k l
     by false t ih = let n : Some e ≡ None = ap (λ b. cond b (from_on f es) (Some e)) (sym t) ∙ h in absurd (cc)
 
 -- before the rows
@@ -83,12 +104,16 @@ none_before low (e ∷ es) h k l =
     ap (λ b. cond b (Some e.1.fate) (span_at es k)) (begun_later e.1.first e.0 k a) ∙ none_before (e.0 + 1) es h.3 k b
 
 -- up to the end of the first row from f on
-pub at_on : (low f : ℕ) (es : List (ℕ × Span)) (e : ℕ × Span) → AreApart low es → from_on f es ≡ Some e → (k : ℕ) → f ≤ k → k ≤ e.0 → span_at es k ≡ cond (nat_le e.1.first k) (Some e.1.fate) None
+pub at_on : (low f : ℕ) (es : List (ℕ × Span)) (e : ℕ × Span) → AreApart low es → from_on f es ≡ Some e → (k : ℕ) → f ≤ k → k ≤ e.0
+    → span_at es k ≡ cond (nat_le e.1.first k) (Some e.1.fate) None
 at_on low f [] e a h k l g = absurd (cc)
 at_on low f (x ∷ es) e a h k l g = by (nat_lt x.0 f) refl (at_on (x.0 + 1) f es e a.3)
   where
-    by : (b : Bool) → nat_lt x.0 f ≡ b → (from_on f es ≡ Some e → (k : ℕ) → f ≤ k → k ≤ e.0 → span_at es k ≡ cond (nat_le e.1.first k) (Some e.1.fate) None) → span_at (x ∷ es) k ≡ cond (nat_le e.1.first k) (Some e.1.fate) None
-    by true t ih = ap (λ b. cond b (Some x.1.fate) (span_at es k)) (ended x.1.first x.0 f k t l) ∙ ih (ap (λ b. cond b (from_on f es) (Some x)) (sym t) ∙ h) k l g
+    by : (b : Bool) → nat_lt x.0 f ≡ b → (from_on f es ≡ Some e → (k : ℕ) → f ≤ k → k ≤ e.0
+        → span_at es k ≡ cond (nat_le e.1.first k) (Some e.1.fate) None)
+        → span_at (x ∷ es) k ≡ cond (nat_le e.1.first k) (Some e.1.fate) None
+    by true t ih = ap (λ b. cond b (Some x.1.fate) (span_at es k)) (ended x.1.first x.0 f k t l) ∙ ih
+        (ap (λ b. cond b (from_on f es) (Some x)) (sym t) ∙ h) k l g
     by false t ih =
         let i : x ≡ e = same_Some x e (ap (λ b. cond b (from_on f es) (Some x)) (sym t) ∙ h) in
         let g' : k ≤ x.0 = subst (λ (y : ℕ × Span). k ≤ y.0) (sym i) g in
@@ -126,7 +151,8 @@ abbrev pub IsFree : ℕ → ℕ → List (ℕ × Span) → Type 0
 IsFree f l es = first_in f l (from_on f es) ≡ None
 
 -- the first row is before f, or behind l
-free_head : (low f l : ℕ) (e : ℕ × Span) (es : List (ℕ × Span)) → AreApart low (e ∷ es) → IsFree f l (e ∷ es) → (b : Bool) → nat_lt e.0 f ≡ b → cond b (IsFree f l es) (l < e.1.first)
+free_head : (low f l : ℕ) (e : ℕ × Span) (es : List (ℕ × Span)) → AreApart low (e ∷ es) → IsFree f l (e ∷ es) → (b : Bool)
+    → nat_lt e.0 f ≡ b → cond b (IsFree f l es) (l < e.1.first)
 free_head low f l e es a h true t = ap (λ b. first_in f l (cond b (from_on f es) (Some e))) (sym t) ∙ h
 free_head low f l e es a h false t = by (nat_le e.1.first l) refl (ap (λ b. first_in f l (cond b (from_on f es) (Some e))) (sym t) ∙ h)
   where
@@ -140,7 +166,8 @@ module _ (f l : ℕ) (fate : Fate) (le : f ≤ l) where
   row = (l, record { first = f; fate = fate })
 
   -- a row that ends before f does not cover what the new one does
-  swapped : (e : ℕ × Span) (k : ℕ) (x y z : Option Fate) → e.0 < f → cond (covers k e) x (cond (covers k row) y z) ≡ cond (covers k row) y (cond (covers k e) x z)
+  swapped : (e : ℕ × Span) (k : ℕ) (x y z : Option Fate) → e.0 < f
+      → cond (covers k e) x (cond (covers k row) y z) ≡ cond (covers k row) y (cond (covers k e) x z)
   swapped e k x y z h = grind (arith, nat_tests)
 
   pub at_insert : (low : ℕ) (es : List (ℕ × Span)) → AreApart low es → IsFree f l es → (k : ℕ)
@@ -149,8 +176,10 @@ module _ (f l : ℕ) (fate : Fate) (le : f ≤ l) where
   at_insert low (e ∷ es) a h k = by (nat_lt e.0 f) refl (nat_cmp l e.0) refl (at_insert (e.0 + 1) es a.3)
     where
       by : (b : Bool) → nat_lt e.0 f ≡ b → (o : Ordering) → nat_cmp l e.0 ≡ o
-          → (IsFree f l es → (k : ℕ) → span_at (insert_entry nat_cmp es l (record { first = f; fate = fate })) k ≡ cond (covers k row) (Some fate) (span_at es k))
-          → span_at (match_ordering o (row ∷ e ∷ es) ((e.0, record { first = f; fate = fate }) ∷ es) (e ∷ insert_entry nat_cmp es l (record { first = f; fate = fate }))) k ≡ cond (covers k row) (Some fate) (span_at (e ∷ es) k)
+          → (IsFree f l es → (k : ℕ) → span_at (insert_entry nat_cmp es l (record { first = f; fate = fate })) k ≡ cond (covers k row)
+          (Some fate) (span_at es k))
+          → span_at (match_ordering o (row ∷ e ∷ es) ((e.0, record { first = f; fate = fate }) ∷ es)
+          (e ∷ insert_entry nat_cmp es l (record { first = f; fate = fate }))) k ≡ cond (covers k row) (Some fate) (span_at (e ∷ es) k)
       by true t Less o ih = absurd (omega (arith, below_is e.0 f t, less_is l e.0 o, le))
       by true t Equal o ih = absurd (omega (arith, below_is e.0 f t, equal_is l e.0 o, le))
       by true t Greater o ih =
@@ -167,10 +196,12 @@ module _ (f l : ℕ) (fate : Fate) (le : f ≤ l) where
     where
       by : (b : Bool) → nat_lt e.0 f ≡ b → (o : Ordering) → nat_cmp l e.0 ≡ o
           → (e.0 + 1 ≤ f → IsFree f l es → AreApart (e.0 + 1) (insert_entry nat_cmp es l (record { first = f; fate = fate })))
-          → AreApart low (match_ordering o (row ∷ e ∷ es) ((e.0, record { first = f; fate = fate }) ∷ es) (e ∷ insert_entry nat_cmp es l (record { first = f; fate = fate })))
+          → AreApart low (match_ordering o (row ∷ e ∷ es) ((e.0, record { first = f; fate = fate }) ∷ es)
+          (e ∷ insert_entry nat_cmp es l (record { first = f; fate = fate })))
       by true t Less o ih = absurd (omega (arith, below_is e.0 f t, less_is l e.0 o, le))
       by true t Equal o ih = absurd (omega (arith, below_is e.0 f t, equal_is l e.0 o, le))
-      by true t Greater o ih = let s : e.0 + 1 ≤ f = omega (arith, below_is e.0 f t) in (a.0, a.1, a.2, ih s (free_head low f l e es a h true t))
+      by true t Greater o ih = let s : e.0 + 1 ≤ f = omega (arith, below_is e.0 f t) in
+          (a.0, a.1, a.2, ih s (free_head low f l e es a h true t))
       by false t Less o ih = let s : l + 1 ≤ e.1.first = omega (arith, free_head low f l e es a h false t) in (g, le, n, (s, a.1, a.2, a.3))
       by false t Equal o ih = absurd (omega (arith, free_head low f l e es a h false t, equal_is l e.0 o, a.1))
       by false t Greater o ih = absurd (omega (arith, free_head low f l e es a h false t, greater_is l e.0 o, a.1))
@@ -179,7 +210,8 @@ up_to_count : (f count l k : ℕ) → l + 1 ≡ f + count → (nat_le f k && nat
 up_to_count f count l k e = grind (arith, nat_tests, e)
 
 -- the map with a new row
-pub named_insert : (low f l count : ℕ) (fate : Fate) (es : List (ℕ × Span)) → f ≤ l → low ≤ f → l + 1 ≡ f + count → is_answer fate ≡ false → AreApart low es → IsFree f l es
+pub named_insert : (low f l count : ℕ) (fate : Fate) (es : List (ℕ × Span)) → f ≤ l → low ≤ f → l + 1 ≡ f + count → is_answer fate ≡ false
+    → AreApart low es → IsFree f l es
     → named (insert_entry nat_cmp es l (record { first = f; fate = fate })) ≡ with_fates (named es) f fate count
 named_insert low f l count fate es le g e n a h = same_map nat_cmp_total exact_unsigned _ _ (λ k.
     get_named low _ (apart_insert f l fate le low es g n a h) k
@@ -220,14 +252,21 @@ said f l n None h = absurd (cc)
 said f l n (Some e) h = by (nat_le e.1.first l) refl
   where
     by : (b : Bool) → nat_le e.1.first l ≡ b → Said f l n (Some e)
-    by true t = record { row = e; is = refl; starts = at_most_is e.1.first l t; at = sym (same_Some _ _ (ap (λ b. cond b (Some (max e.1.first f)) None) (sym t) ∙ h)) }
+    by true t = record {
+      row = e;
+      is = refl;
+      starts = at_most_is e.1.first l t;
+      at = sym
+          (same_Some _ _ (ap (λ b. cond b (Some (max e.1.first f)) None) (sym t) ∙ h));
+    }
     by false t = let n : None ≡ Some n = ap (λ b. cond b (Some (max e.1.first f)) None) (sym t) ∙ h in absurd (cc)
 
 some_named : (o : Option Fate) (f : Fate) → o ≡ Some f → IsSome o
 some_named o f e = subst (λ (o : Option Fate). IsSome o) (sym e) refl
 
 -- what is found is the least that is named
-pub first_named : (low f l count n : ℕ) (es : List (ℕ × Span)) → f ≤ l → l + 1 ≡ f + count → AreApart low es → first_in f l (from_on f es) ≡ Some n → IsFirstNamed (named es) f count n
+pub first_named : (low f l count n : ℕ) (es : List (ℕ × Span)) → f ≤ l → l + 1 ≡ f + count → AreApart low es
+    → first_in f l (from_on f es) ≡ Some n → IsFirstNamed (named es) f count n
 first_named low f l count n es le e a h =
     let s = said f l n (from_on f es) h in
     let r = is_row low f es s.row a s.is in
@@ -239,7 +278,8 @@ first_named low f l count n es le e a h =
     record {
       from = g;
       within = w;
-      named = some_named _ s.row.1.fate (get_named low es a n ∙ at_on low f es s.row a s.is n g c ∙ ap (λ b. cond b (Some s.row.1.fate) None) (at_most_so s.row.1.first n d));
+      named = some_named _ s.row.1.fate (get_named low es a n ∙ at_on low f es s.row a s.is n g c ∙ ap
+          (λ b. cond b (Some s.row.1.fate) None) (at_most_so s.row.1.first n d));
       least = λ k i j.
           let x : k ≤ s.row.0 = omega (arith, c, j) in
           let y : k < s.row.1.first = omega (arith, n_is, i, j) in
@@ -259,14 +299,16 @@ one_first m f count n k h g = by (nat_lt n k) refl (nat_lt k n) refl
     by false t true u = absurd (none_some _ g.named (h.least k g.from (below_is k n u)))
     by false t false u = omega (arith, below_not n k t, below_not k n u)
 
-pub no_first : (low f l count n : ℕ) (es : List (ℕ × Span)) → l + 1 ≡ f + count → AreApart low es → IsFree f l es → IsFirstNamed (named es) f count n → ⊥
+pub no_first : (low f l count n : ℕ) (es : List (ℕ × Span)) → l + 1 ≡ f + count → AreApart low es → IsFree f l es
+    → IsFirstNamed (named es) f count n → ⊥
 no_first low f l count n es e a h g =
     let w : n ≤ l = omega (arith, g.within, e) in
     none_some _ g.named (none_named low f l es a h n g.from w)
 
 -- ---- the fate of a sending
 
-pub fate_on : (low n : ℕ) (es : List (ℕ × Span)) (e : ℕ × Span) → AreApart low es → from_on n es ≡ Some e → get (named es) n ≡ cond (nat_le e.1.first n) (Some e.1.fate) None
+pub fate_on : (low n : ℕ) (es : List (ℕ × Span)) (e : ℕ × Span) → AreApart low es → from_on n es ≡ Some e
+    → get (named es) n ≡ cond (nat_le e.1.first n) (Some e.1.fate) None
 fate_on low n es e a h =
     let r = is_row low n es e a h in
     let k : n ≤ n = omega arith in
@@ -276,14 +318,17 @@ pub no_fate_on : (low n : ℕ) (es : List (ℕ × Span)) → AreApart low es →
 no_fate_on low n es a h = let k : n ≤ n = omega arith in get_named low es a n ∙ none_on n es h n k
 
 -- where the row begins not after it, and where it does
-pub fate_from : (low n : ℕ) (es : List (ℕ × Span)) (e : ℕ × Span) → AreApart low es → from_on n es ≡ Some e → e.1.first ≤ n → get (named es) n ≡ Some e.1.fate
+pub fate_from : (low n : ℕ) (es : List (ℕ × Span)) (e : ℕ × Span) → AreApart low es → from_on n es ≡ Some e → e.1.first ≤ n
+    → get (named es) n ≡ Some e.1.fate
 fate_from low n es e a h l = fate_on low n es e a h ∙ ap (λ b. cond b (Some e.1.fate) None) (at_most_so e.1.first n l)
 
-pub fate_past : (low n : ℕ) (es : List (ℕ × Span)) (e : ℕ × Span) → AreApart low es → from_on n es ≡ Some e → n < e.1.first → get (named es) n ≡ None
+pub fate_past : (low n : ℕ) (es : List (ℕ × Span)) (e : ℕ × Span) → AreApart low es → from_on n es ≡ Some e → n < e.1.first
+    → get (named es) n ≡ None
 fate_past low n es e a h l = fate_on low n es e a h ∙ ap (λ b. cond b (Some e.1.fate) None) (above_so e.1.first n l)
 
 -- what is named is not answered, and what is not named is
-pub lost_named : (low n : ℕ) (es : List (ℕ × Span)) (e : ℕ × Span) → AreApart low es → from_on n es ≡ Some e → {o : Option Fate} → o ≡ Some e.1.fate → (is_answer e.1.fate ≡ false) ↔ IsSome o
+pub lost_named : (low n : ℕ) (es : List (ℕ × Span)) (e : ℕ × Span) → AreApart low es → from_on n es ≡ Some e → {o : Option Fate}
+    → o ≡ Some e.1.fate → (is_answer e.1.fate ≡ false) ↔ IsSome o
 lost_named low n es e a h {o} is = (λ _. some_named o e.1.fate is, λ _. (is_row low n es e a h).lost)
 
 pub answer_none : (o : Option Fate) → o ≡ None → (true ≡ false) ↔ IsSome o
@@ -291,7 +336,8 @@ answer_none o is = (λ e. absurd (true≢false e), λ s. absurd (none_some o s i
 
 -- ---- the first sending that has a fate
 
-pub first_fate : (low n : ℕ) (es : List (ℕ × Span)) (e : ℕ × Span) (m : FateMap) → named es ≡ m → AreApart low es → from_on n es ≡ Some e → IsFirstFrom m n (Some (max e.1.first n, e.1.fate))
+pub first_fate : (low n : ℕ) (es : List (ℕ × Span)) (e : ℕ × Span) (m : FateMap) → named es ≡ m → AreApart low es → from_on n es ≡ Some e
+    → IsFirstFrom m n (Some (max e.1.first n, e.1.fate))
 first_fate low n es e m is a h =
     let r = is_row low n es e a h in
     let s : n ≤ max e.1.first n = omega arith in
@@ -299,7 +345,8 @@ first_fate low n es e m is a h =
     let d : e.1.first ≤ max e.1.first n = omega arith in
     subst (λ (m : FateMap). IsFirstFrom m n (Some (max e.1.first n, e.1.fate))) is (
       s,
-      get_named low es a (max e.1.first n) ∙ at_on low n es e a h (max e.1.first n) s c ∙ ap (λ b. cond b (Some e.1.fate) None) (at_most_so e.1.first (max e.1.first n) d),
+      get_named low es a (max e.1.first n) ∙ at_on low n es e a h (max e.1.first n) s c ∙ ap (λ b. cond b (Some e.1.fate) None)
+          (at_most_so e.1.first (max e.1.first n) d),
       λ k i j.
           let x : k ≤ e.0 = omega (arith, c, j) in
           let y : k < e.1.first = omega (arith, i, j) in

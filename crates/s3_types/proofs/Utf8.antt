@@ -1,5 +1,12 @@
 -- Bytes that are UTF-8.
-use Rattle.s3_types.proofs.Common.{Bool, IsAscii, IsAscii-cons, IsAscii-nil, IsUtf8, IsUtf8-from_ascii, IsUtf8-from_is_utf8, List, [], and_parts, arith, false, is_bucket, is_hex, is_name_byte, is_utf8, is_utf8-from_IsUtf8, list_all, refl, true, ℕ, ◌<◌, ◌∷◌, ◌≡◌}
+use Rattle.s3_types.specs.Names.{is_bucket, is_name_byte}
+use Rattle.s3_types.specs.Tags.{is_hex}
+use Rattle.std.proofs.Common.{Bool, List, arith, false, refl, true, ℕ, [], ◌<◌, ◌∷◌, ◌≡◌}
+use Rattle.std.proofs.lemmas.Bool.{and_parts}
+use Rattle.std.proofs.lemmas.Str.{IsUtf8-from_ascii, IsUtf8-from_is_utf8, is_utf8-from_IsUtf8}
+use Rattle.std.proofs.lemmas.Str.Ascii.{IsAscii-cons, IsAscii-nil}
+use Rattle.std.specs.List.{list_all}
+use Rattle.std.specs.Str.{IsAscii, IsUtf8, is_utf8}
 
 -- what is not UTF-8 does not pass the test
 pub not_utf8 : (bs : List ℕ) → ¬ (IsUtf8 bs) → is_utf8 bs ≡ false

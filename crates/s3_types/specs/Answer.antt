@@ -1,23 +1,28 @@
 -- What a request is answered, and what it leaves. A refused request changes nothing.
-use Rattle.std.specs.Prelude.{ℕ, ◌+◌, Bool, true, false, nat_lt, cond, List, [], ◌∷◌, Option, Some, None, Result, Ok, Err, length, map}
-use Rattle.basics.specs.Prelude.{filter}
-use Rattle.std.specs.FinMap as fin
+use Rattle.s3_types.specs.Multipart.{is_part_number, joined, live, sizes, with_part}
 use Rattle.s3_types.specs.Names.{is_bucket}
-use Rattle.s3_types.specs.Store.{Objects, Upload, Uploads, BucketContent, Content, Files, Scene, new_bucket}
-use Rattle.s3_types.specs.Tags.{plain_tag, joined_tag}
-use Rattle.s3_types.specs.Pages as pages
 use Rattle.s3_types.specs.Pages.{begins}
-use Rattle.s3_types.specs.Multipart as uploads
-use Rattle.s3_types.specs.Multipart.{live, is_part_number, with_part, joined, sizes}
+use Rattle.s3_types.specs.Store.{BucketContent, Content, Files, Objects, Scene, Upload, Uploads, new_bucket}
+use Rattle.s3_types.specs.Tags.{joined_tag, plain_tag}
+use Rattle.s3_types.specs.declared.limits.TheConstants.{MOST_ENTRIES}
 use Rattle.s3_types.specs.declared.object.Object.{Object}
+use Rattle.s3_types.specs.declared.reply.Refusal.{Refusal}
+use Rattle.s3_types.specs.declared.reply.Refusal.TheVariants.{BadName, BadPartNumber, BucketExists, NoSuchBucket, NoSuchFile, NoSuchKey}
+use Rattle.s3_types.specs.declared.reply.Refusal.TheVariants.{NoSuchUpload, TooManyKeys}
+use Rattle.s3_types.specs.declared.reply.Reply.{Reply}
+use Rattle.s3_types.specs.declared.reply.Reply.TheVariants.{Aborted, ClusterBytes, ClusterDone, ClusterNames, Completed, Copied, Deleted}
+use Rattle.s3_types.specs.declared.reply.Reply.TheVariants.{Head, Made, Object as Found, Part, Parts, Refused, Stored, Upload as Drawn}
 use Rattle.s3_types.specs.declared.request.NamedPart.{NamedPart}
 use Rattle.s3_types.specs.declared.request.Request.{Request}
-use Rattle.s3_types.specs.declared.request.Request.TheVariants.{MakeBucket, PutObject, GetObject, HeadObject, DeleteObject, DeleteObjects, CopyObject, ListPage, CreateUpload, UploadPart, CompleteUpload, AbortUpload, ListParts, ListUploads, ClusterPut, ClusterRename, ClusterGet, ClusterDelete, ClusterList}
-use Rattle.s3_types.specs.declared.reply.Reply.{Reply}
-use Rattle.s3_types.specs.declared.reply.Reply.TheVariants.{Made, Stored, Object as Found, Head, Deleted, Copied, Upload as Drawn, Part, Completed, Aborted, Parts, ClusterDone, ClusterBytes, ClusterNames, Refused}
-use Rattle.s3_types.specs.declared.reply.Refusal.{Refusal}
-use Rattle.s3_types.specs.declared.reply.Refusal.TheVariants.{NoSuchBucket, NoSuchKey, NoSuchUpload, BadPartNumber, TooManyKeys, BucketExists, BadName, NoSuchFile}
-use Rattle.s3_types.specs.declared.limits.TheConstants.{MOST_ENTRIES}
+use Rattle.s3_types.specs.declared.request.Request.TheVariants.{AbortUpload, ClusterDelete, ClusterGet, ClusterList, ClusterPut}
+use Rattle.s3_types.specs.declared.request.Request.TheVariants.{ClusterRename, CompleteUpload, CopyObject, CreateUpload, DeleteObject}
+use Rattle.s3_types.specs.declared.request.Request.TheVariants.{DeleteObjects, GetObject, HeadObject, ListPage, ListParts, ListUploads}
+use Rattle.s3_types.specs.declared.request.Request.TheVariants.{MakeBucket, PutObject, UploadPart}
+use Rattle.std.specs.List.{filter}
+use Rattle.std.specs.Prelude.{Bool, Err, List, None, Ok, Option, Result, Some, cond, false, length, map, nat_lt, true, ℕ, [], ◌+◌, ◌∷◌}
+use Rattle.std.specs.FinMap as fin
+use Rattle.s3_types.specs.Pages as pages
+use Rattle.s3_types.specs.Multipart as uploads
 
 -- ---- answers
 
@@ -153,7 +158,11 @@ part_put m id (Some u) n bytes = cond (is_part_number n) (fin.insert m id (with_
 
 -- the object stands with no header, and the upload is gone
 abbrev pub completed : BucketContent → List ℕ → ℕ → Result (List ℕ) Refusal → BucketContent
-completed b k id (Ok bytes) = record { objects = fin.insert b.objects k (record { bytes = bytes; header = None }); uploads = fin.remove b.uploads id }
+completed b k id (Ok bytes) = record {
+  objects = fin.insert b.objects k (record { bytes = bytes; header = None });
+  uploads = fin.remove
+      b.uploads id;
+}
 completed b k id (Err r) = b
 
 -- an upload that is live is gone
@@ -181,7 +190,12 @@ draws _ = false
 -- the store after a request to this bucket; one to a bucket that is not there changes nothing
 abbrev pub apply_at : Option BucketContent → Content → Request → Content
 apply_at None c r = c
-apply_at (Some b) c r = record { buckets = fin.insert c.buckets (bucket_of r) (apply_in b c.next c.minimum r); next = cond (draws r) (c.next + 1) c.next; minimum = c.minimum }
+apply_at (Some b) c r = record {
+  buckets = fin.insert c.buckets (bucket_of r) (apply_in b c.next c.minimum r);
+  next = cond (draws r)
+      (c.next + 1) c.next;
+  minimum = c.minimum;
+}
 
 -- a new bucket, where the name is one and no bucket has it
 abbrev pub made : Content → List ℕ → Option BucketContent → Content

@@ -1,10 +1,10 @@
 -- Codes of what a store holds, by which proofs tell its values apart.
-use Rattle.std.specs.Prelude.{ℕ, List, Option, refl}
-use Rattle.basics.specs.Prelude.{Coded, code_by, coded×, coded_ℕ, coded_list, coded_option}
-use Rattle.std.specs.FinMap as map
-use Rattle.s3_types.specs.Store.{Objects, Parts, Upload, Uploads, BucketContent, Buckets, Content, Files}
+use Rattle.s3_types.specs.Store.{BucketContent, Buckets, Content, Files, Objects, Parts, Upload, Uploads}
 use Rattle.s3_types.specs.declared.object.Object.{Object}
 use Rattle.s3_types.specs.declared.request.UploadRef.{UploadRef}
+use Rattle.std.specs.Coded.{Coded, code_by, coded_list, coded_option, coded_ℕ, coded×}
+use Rattle.std.specs.Prelude.{List, Option, refl, ℕ}
+use Rattle.std.specs.FinMap as map
 
 -- the code of a list of bytes
 abbrev pub coded_text : Coded (List ℕ)
@@ -12,7 +12,8 @@ coded_text = coded_list coded_ℕ
 
 -- the code of an object
 abbrev pub coded_object : Coded Object
-coded_object = code_by (List ℕ × Option ℕ) (coded× coded_text (coded_option coded_ℕ)) (λ o. (o.bytes, o.header)) (λ p. record { bytes = p.0; header = p.1 }) (λ _. refl)
+coded_object = code_by (List ℕ × Option ℕ) (coded× coded_text (coded_option coded_ℕ)) (λ o. (o.bytes, o.header))
+    (λ p. record { bytes = p.0; header = p.1 }) (λ _. refl)
 
 -- the code of a bucket's objects
 abbrev pub coded_objects : Coded Objects
@@ -24,7 +25,8 @@ coded_parts = map.code coded_ℕ coded_text
 
 -- the code of a live multipart upload
 abbrev pub coded_upload : Coded Upload
-coded_upload = code_by (List ℕ × Parts) (coded× coded_text coded_parts) (λ u. (u.key, u.parts)) (λ p. record { key = p.0; parts = p.1 }) (λ _. refl)
+coded_upload = code_by (List ℕ × Parts) (coded× coded_text coded_parts) (λ u. (u.key, u.parts)) (λ p. record { key = p.0; parts = p.1 })
+    (λ _. refl)
 
 -- the code of a bucket's live uploads
 abbrev pub coded_uploads : Coded Uploads
@@ -40,7 +42,8 @@ coded_unit = code_by ℕ coded_ℕ (λ u. 0) (λ n. tt) (λ _. refl)
 
 -- the code of what a bucket holds
 abbrev pub coded_bucket : Coded BucketContent
-coded_bucket = code_by (Objects × Uploads) (coded× coded_objects coded_uploads) (λ b. (b.objects, b.uploads)) (λ p. record { objects = p.0; uploads = p.1 }) (λ _. refl)
+coded_bucket = code_by (Objects × Uploads) (coded× coded_objects coded_uploads) (λ b. (b.objects, b.uploads))
+    (λ p. record { objects = p.0; uploads = p.1 }) (λ _. refl)
 
 -- the code of a store's buckets
 abbrev pub coded_buckets : Coded Buckets
@@ -48,7 +51,8 @@ coded_buckets = map.code coded_text coded_bucket
 
 -- the code of what a store holds
 abbrev pub coded_content : Coded Content
-coded_content = code_by (Buckets × (ℕ × ℕ)) (coded× coded_buckets (coded× coded_ℕ coded_ℕ)) (λ c. (c.buckets, (c.next, c.minimum))) (λ p. record { buckets = p.0; next = p.1.0; minimum = p.1.1 }) (λ _. refl)
+coded_content = code_by (Buckets × (ℕ × ℕ)) (coded× coded_buckets (coded× coded_ℕ coded_ℕ)) (λ c. (c.buckets, (c.next, c.minimum)))
+    (λ p. record { buckets = p.0; next = p.1.0; minimum = p.1.1 }) (λ _. refl)
 
 -- the code of the cluster's files
 abbrev pub coded_files : Coded Files

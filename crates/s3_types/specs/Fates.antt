@@ -1,9 +1,10 @@
 -- The fates of sendings.
-use Rattle.std.specs.Prelude.{◌≡◌, ℕ, zero, suc, ◌+◌, ◌<◌, ◌≤◌, Bool, true, false, Option, Some, None, IsSome, refl}
-use Rattle.basics.specs.Prelude.{nat_cmp, Coded, code_by, coded_ℕ}
-use Rattle.std.specs.FinMap as map
 use Rattle.s3_types.specs.declared.fates.Fate.{Fate}
-use Rattle.s3_types.specs.declared.fates.Fate.TheVariants.{Answer, Slow, Before, After}
+use Rattle.s3_types.specs.declared.fates.Fate.TheVariants.{After, Answer, Before, Slow}
+use Rattle.std.specs.Coded.{Coded, code_by, coded_ℕ}
+use Rattle.std.specs.Ordering.{nat_cmp}
+use Rattle.std.specs.Prelude.{Bool, IsSome, None, Option, Some, false, refl, suc, true, zero, ℕ, ◌+◌, ◌<◌, ◌≡◌, ◌≤◌}
+use Rattle.std.specs.FinMap as map
 
 -- the fates of the sendings that are named, by their numbers
 abbrev pub FateMap : Type 0

@@ -13,4 +13,3 @@ pub mod Spans
 pub mod Requests
 pub mod Spelling
 pub mod Blocks
-pub mod Prelude

@@ -1,18 +1,23 @@
 -- Multipart uploads (Amazon S3 API: UploadPart, CompleteMultipartUpload, ListParts, ListMultipartUploads).
-use Rattle.std.specs.Prelude.{ℕ, ◌-◌, Bool, true, false, ◌&&◌, nat_eq, nat_le, nat_lt, cond, List, [], ◌∷◌, Option, Some, None, Result, Ok, Err, length, take, map}
-use Rattle.basics.specs.Prelude.{filter, list_all, flat_map, unwrap_or, is_lt, nat_cmp, ordering_then, Ordering, text_cmp, text_eq}
-use Rattle.std.specs.FinMap as fin
-use Rattle.s3_types.specs.Store.{Upload, Uploads, Parts}
+use Rattle.basics.specs.Order.{text_cmp, text_eq}
+use Rattle.s3_types.specs.Pages.{begins}
+use Rattle.s3_types.specs.Store.{Parts, Upload, Uploads}
 use Rattle.s3_types.specs.Tags.{Spelled, plain_tag}
 use Rattle.s3_types.specs.declared.limits.TheConstants.{MOST_PARTS}
-use Rattle.s3_types.specs.Pages.{begins}
+use Rattle.s3_types.specs.declared.reply.PartSize.{PartSize}
+use Rattle.s3_types.specs.declared.reply.Refusal.{Refusal}
+use Rattle.s3_types.specs.declared.reply.Refusal.TheVariants.{EntityTooSmall, InvalidPart, InvalidPartOrder, MalformedList, NoSuchUpload}
+use Rattle.s3_types.specs.declared.reply.Reply.{Reply}
+use Rattle.s3_types.specs.declared.reply.Reply.TheVariants.{Uploads as UploadsPage}
 use Rattle.s3_types.specs.declared.request.NamedPart.{NamedPart}
 use Rattle.s3_types.specs.declared.request.UploadRef.{UploadRef}
-use Rattle.s3_types.specs.declared.reply.PartSize.{PartSize}
-use Rattle.s3_types.specs.declared.reply.Reply.{Reply}
-use Rattle.s3_types.specs.declared.reply.Refusal.{Refusal}
-use Rattle.s3_types.specs.declared.reply.Refusal.TheVariants.{NoSuchUpload, MalformedList, InvalidPartOrder, InvalidPart, EntityTooSmall}
-use Rattle.s3_types.specs.declared.reply.Reply.TheVariants.{Uploads as UploadsPage}
+use Rattle.std.specs.List.{filter, flat_map, list_all}
+use Rattle.std.specs.Option.{unwrap_or}
+use Rattle.std.specs.Ordering.{is_lt, nat_cmp, ordering_then}
+use Rattle.std.specs.Prelude.{Bool, Err, List, None, Ok, Option, Result, Some, cond, false, length, map, nat_eq, nat_le, nat_lt, take, true}
+use Rattle.std.specs.Prelude.{ℕ, [], ◌&&◌, ◌-◌, ◌∷◌}
+use Rattle.std.specs.declared.cmp.Ordering.{Ordering}
+use Rattle.std.specs.FinMap as fin
 
 -- an id counts as live only with its own key
 abbrev pub with_key : List ℕ → Option Upload → Option Upload

@@ -1,8 +1,10 @@
 -- The names of buckets, of objects and of jobs.
-use Rattle.std.specs.Prelude.{ℕ, ◌-◌, ◌==◌, ◌&&◌, ◌||◌, nat_le, nat_lt, nat_eq, not, Bool, List, length, take, slice_index, codes, bytes_eq, if◌then◌else◌}
-use Rattle.basics.specs.Prelude.{list_all, is_utf8}
 use Rattle.basics.specs.Parts.{parts_of}
 use Rattle.s3_types.specs.declared.limits.TheConstants.{MOST_KEY_BYTES}
+use Rattle.std.specs.List.{list_all}
+use Rattle.std.specs.Prelude.{Bool, List, bytes_eq, codes, if◌then◌else◌, length, nat_eq, nat_le, nat_lt, not, slice_index, take, ℕ, ◌&&◌}
+use Rattle.std.specs.Prelude.{◌-◌, ◌==◌, ◌||◌}
+use Rattle.std.specs.Str.{is_utf8}
 
 -- an element of a key is neither empty nor `.` nor `..`
 abbrev pub is_element : List ℕ → Bool

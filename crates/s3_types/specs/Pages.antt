@@ -1,13 +1,16 @@
 -- Pages of a bucket's objects (Amazon S3 API: ListObjectsV2).
-use Rattle.std.specs.Prelude.{ℕ, Bool, true, false, ◌&&◌, nat_eq, nat_lt, cond, List, [], ◌∷◌, ◌++◌, Option, Some, None, length, take, map}
-use Rattle.basics.specs.Prelude.{filter, option_map, is_lt, eq_by_cmp, text_cmp}
-use Rattle.std.specs.FinMap as fin
+use Rattle.basics.specs.Order.{text_cmp}
 use Rattle.s3_types.specs.Store.{Objects}
 use Rattle.s3_types.specs.declared.object.Object.{Object}
 use Rattle.s3_types.specs.declared.reply.PageEntry.{PageEntry}
 use Rattle.s3_types.specs.declared.reply.PageEntry.TheVariants.{Object as Single, Prefix}
 use Rattle.s3_types.specs.declared.reply.Reply.{Reply}
 use Rattle.s3_types.specs.declared.reply.Reply.TheVariants.{Page}
+use Rattle.std.specs.List.{filter}
+use Rattle.std.specs.Option.{option_map}
+use Rattle.std.specs.Ordering.{eq_by_cmp, is_lt}
+use Rattle.std.specs.Prelude.{Bool, List, None, Option, Some, cond, false, length, map, nat_eq, nat_lt, take, true, ℕ, [], ◌&&◌, ◌++◌, ◌∷◌}
+use Rattle.std.specs.FinMap as fin
 
 -- a text begins with p
 abbrev pub begins : List ℕ → List ℕ → Bool
@@ -58,7 +61,8 @@ folded_from last (x ∷ xs) = cond (is_again last x) (folded_from last xs) (x �
 -- the entries of the keys below p, those that share a text folded into one, that are greater than `after`
 abbrev pub listed : List ℕ → Bool → List ℕ → Objects → List PageEntry
 listed p delimited after m =
-    folded_from None (filter (λ x. is_lt (text_cmp after (text_in x))) (map (entry_of p delimited) (filter (λ e. begins p e.0) (fin.entries m))))
+    folded_from None (filter (λ x. is_lt (text_cmp after (text_in x))) (map (entry_of p delimited)
+    (filter (λ e. begins p e.0) (fin.entries m))))
 
 -- at most so many of them, the least first, and whether more remain
 abbrev pub page : ℕ → List PageEntry → Reply

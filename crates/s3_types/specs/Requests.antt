@@ -1,7 +1,8 @@
 -- Whose a request is, and whether it may change anything.
-use Rattle.std.specs.Prelude.{Bool, true, false}
 use Rattle.s3_types.specs.declared.request.Request.{Request}
-use Rattle.s3_types.specs.declared.request.Request.TheVariants.{GetObject, HeadObject, ListPage, ListParts, ListUploads, ClusterPut, ClusterRename, ClusterGet, ClusterDelete, ClusterList}
+use Rattle.s3_types.specs.declared.request.Request.TheVariants.{ClusterDelete, ClusterGet, ClusterList, ClusterPut, ClusterRename}
+use Rattle.s3_types.specs.declared.request.Request.TheVariants.{GetObject, HeadObject, ListPage, ListParts, ListUploads}
+use Rattle.std.specs.Prelude.{Bool, false, true}
 
 -- a request is the cluster's and not the store's
 abbrev pub is_cluster : Request → Bool

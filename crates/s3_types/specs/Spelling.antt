@@ -1,9 +1,10 @@
 -- How actors and tags are written.
-use Rattle.std.specs.Prelude.{ℕ, List, [], ◌∷◌, ◌++◌, ◌==◌, codes, if◌then◌else◌}
-use Rattle.basics.specs.Prelude.{join_with_byte, decimal}
 use Rattle.s3_types.specs.Tags.{Spelled}
 use Rattle.s3_types.specs.declared.request.Actor.{Actor}
-use Rattle.s3_types.specs.declared.request.Actor.TheVariants.{Driver, Attempt, Shell}
+use Rattle.s3_types.specs.declared.request.Actor.TheVariants.{Attempt, Driver, Shell}
+use Rattle.std.specs.Fmt.{decimal}
+use Rattle.std.specs.List.{join_with_byte}
+use Rattle.std.specs.Prelude.{List, codes, if◌then◌else◌, ℕ, [], ◌++◌, ◌==◌, ◌∷◌}
 
 -- `driver`, or an attempt's two numbers with a dot between them
 abbrev pub actor_text : Actor → List ℕ

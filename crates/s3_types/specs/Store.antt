@@ -1,8 +1,9 @@
 -- What a store and the cluster file system beside it hold.
-use Rattle.std.specs.Prelude.{ℕ, List}
-use Rattle.basics.specs.Prelude.{nat_cmp, text_cmp}
-use Rattle.std.specs.FinMap as map
+use Rattle.basics.specs.Order.{text_cmp}
 use Rattle.s3_types.specs.declared.object.Object.{Object}
+use Rattle.std.specs.Ordering.{nat_cmp}
+use Rattle.std.specs.Prelude.{List, ℕ}
+use Rattle.std.specs.FinMap as map
 
 -- objects by their keys
 abbrev pub Objects : Type 0

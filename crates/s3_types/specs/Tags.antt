@@ -1,9 +1,9 @@
 -- Tags of objects and parts (Amazon S3, common response headers: ETag).
-use Rattle.std.specs.Prelude.{ℕ, ◌&&◌, ◌||◌, nat_le, nat_eq, Bool, List, [], length}
-use Rattle.basics.specs.Prelude.{list_all, flat_map}
-use Rattle.std.specs.Result.{result_unwrap_or}
-use Rattle.hex.specs.Hex.{encode_lower, decode_of}
+use Rattle.hex.specs.Hex.{decode_of, encode_lower}
 use Rattle.md5.specs.Md5.{md5}
+use Rattle.std.specs.List.{flat_map, list_all}
+use Rattle.std.specs.Prelude.{Bool, List, length, nat_eq, nat_le, ℕ, [], ◌&&◌, ◌||◌}
+use Rattle.std.specs.Result.{result_unwrap_or}
 
 -- a tag by its hex digits and its count of parts
 pub record Spelled : Type 0 where

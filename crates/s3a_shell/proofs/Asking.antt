@@ -1,26 +1,41 @@
 -- What a session asks of its store.
-use Rattle.std.specs.Prelude.{◌≡◌, ◌⊎◌, ℕ, Bool, true, false, List, [], ◌∷◌, ◌++◌, drop, length, take, Option, Some, None, OnOk, Result}
-use Rattle.std.specs.Prelude.{option_map}
-use Rattle.s3a_shell.proofs.Common.{AllByRecursion, AlwaysIn, Ask, Asked, BucketContent, Command, Content, Deletion, Entry, MarkerPolicy}
-use Rattle.s3a_shell.proofs.Common.{Objects, Path, Reply, Request, Route, Scene, SendsAt, SendsIn, Sent, Session, UploadRef, IsIn}
-use Rattle.s3a_shell.proofs.Common.{answered_by, ap, append-nil, append_assoc, below, inl, inr, is_key, is_look, listed, objects_at}
-use Rattle.s3a_shell.proofs.Common.{opening, refl, route, same_or_other, some_is, subst, sym, uploads_from, ◌∙◌}
-use Rattle.std.specs.FinMap as fin
-use Rattle.basics.proofs.Common.{take-append-drop}
-use Rattle.basics.proofs.Members.{in_back, in_front}
-use Rattle.s3_types.specs.Blocks.{block_of}
-use Rattle.bucket_ops.specs.Uploads.{IsPageOf}
-use Rattle.fs_ops.specs.Prelude.{look_asks}
-use Rattle.fs_ops.specs.code.Delete as delete
-use Rattle.fs_ops.proofs.Asking.{asked_in, each_asked}
-use Rattle.fs_ops.proofs.StepLaws.{same_scene}
-use Rattle.fs_files.specs.code.Create as create
+use Rattle.basics.proofs.Members.{in_back, in_front, same_or_other, some_is}
+use Rattle.basics.specs.Members.{IsIn}
+use Rattle.bucket_ops.specs.Asks.{Ask, is_look, objects_at}
+use Rattle.bucket_ops.specs.Phases.{AlwaysIn, SendsAt, SendsIn}
+use Rattle.bucket_ops.specs.Uploads.{IsPageOf, uploads_from}
+use Rattle.dir_markers.specs.declared.marker.MarkerPolicy.{MarkerPolicy}
 use Rattle.fs_files.specs.declared.create.CreateFile.{CreateFile}
 use Rattle.fs_files.specs.declared.create.CreateStage.TheVariants.{Here}
-use Rattle.s3a_shell.specs.Asking.{LooksIn, DeleteSends, PutSendsUnless, file_of, IsLiveIn, OnOne, UploadSends, MaySend}
-use Rattle.s3a_shell.specs.Doings.{MayStandAt}
+use Rattle.fs_ops.proofs.Asking.{asked_in, each_asked}
+use Rattle.fs_ops.proofs.StepLaws.{same_scene}
+use Rattle.fs_ops.specs.Places.{look_asks}
+use Rattle.fs_ops.specs.code.Delete.{Deletion}
+use Rattle.fs_rename.specs.Between.{Route}
+use Rattle.path_keys.specs.Paths.{Path, below, is_key}
+use Rattle.s3_types.specs.Blocks.{block_of}
+use Rattle.s3_types.specs.Multipart.{listed}
+use Rattle.s3_types.specs.Store.{BucketContent, Content, Objects, Scene, opening}
+use Rattle.s3_types.specs.declared.journal.Entry.{Entry}
+use Rattle.s3_types.specs.declared.reply.Reply.{Reply}
+use Rattle.s3_types.specs.declared.request.Request.{Request}
+use Rattle.s3_types.specs.declared.request.UploadRef.{UploadRef}
 use Rattle.s3a_shell.proofs.Joining.{sent_as}
 use Rattle.s3a_shell.proofs.Performing.{sent_of}
+use Rattle.s3a_shell.specs.Asking.{DeleteSends, IsLiveIn, LooksIn, MaySend, OnOne, PutSendsUnless, UploadSends, file_of}
+use Rattle.s3a_shell.specs.Doings.{MayStandAt}
+use Rattle.s3a_shell.specs.Moving.{route}
+use Rattle.s3a_shell.specs.Sendings.{Asked, Sent, answered_by}
+use Rattle.s3a_shell.specs.declared.session.Session.{Session}
+use Rattle.s3a_words.specs.declared.command.Command.{Command}
+use Rattle.std.proofs.Common.{ap, append-nil, append_assoc, inl, inr, refl, subst, sym, ◌∙◌}
+use Rattle.std.proofs.lemmas.List.{take-append-drop}
+use Rattle.std.specs.List.{AllByRecursion}
+use Rattle.std.specs.Prelude.{Bool, List, None, OnOk, Option, Result, Some, drop, false, length, option_map, take, true, ℕ, [], ◌++◌, ◌∷◌}
+use Rattle.std.specs.Prelude.{◌≡◌, ◌⊎◌}
+use Rattle.std.specs.FinMap as fin
+use Rattle.fs_ops.specs.code.Delete as delete
+use Rattle.fs_files.specs.code.Create as create
 
 -- ---- requests after requests
 

@@ -1,8 +1,8 @@
 -- The parts of a file that is put are long enough and few enough.
-use Rattle.std.specs.Prelude.{◌≡◌, ℕ, ◌*◌, ◌≤◌}
-use Rattle.s3a_shell.proofs.Common.{arith, greater, quotient_up, some_size, subst, sym}
-use Rattle.s3_types.specs.Blocks.{block_of}
-use Rattle.s3_types.proofs.Blocks.{block_is, greater_right, large_size}
+use Rattle.s3_types.proofs.Blocks.{block_is, greater_right, large_size, some_size}
+use Rattle.s3_types.specs.Blocks.{block_of, greater, quotient_up}
+use Rattle.std.proofs.Common.{arith, subst, sym}
+use Rattle.std.specs.Prelude.{ℕ, ◌*◌, ◌≡◌, ◌≤◌}
 
 room : (len minimum : ℕ) → len ≤ block_of len 0 minimum * 10000
 room len minimum =

@@ -1,9 +1,15 @@
 -- What each command left, by what it did.
-use Rattle.std.specs.Prelude.{ℕ, nat_lt, false, true, List, length}
-use Rattle.fs_ops.specs.Prelude.{Delete, Keep}
-use Rattle.s3a_shell.proofs.Common.{Command, Does, Said, Scene, arith, bucket_in, ended_by, most_input, refl}
-use Rattle.s3a_words.specs.declared.command.Command.TheVariants.{Mb, Ls, Stat, Cat, Put, PutForce, PutDrop, Mkdir, Mv, Cp, Rm, Rmr, Uploads, AbortUploads, Markers, CleanMarkers, FillMarkers}
-use Rattle.s3a_shell.proofs.Staying.{Leaves, same, done, done_between, put, make, abort}
+use Rattle.dir_markers.specs.declared.marker.MarkerPolicy.TheVariants.{Delete, Keep}
+use Rattle.s3_types.specs.Store.{Scene}
+use Rattle.s3a_shell.proofs.Staying.{Leaves, abort, done, done_between, make, put, same}
+use Rattle.s3a_shell.specs.Doings.{Does, most_input}
+use Rattle.s3a_shell.specs.Stays.{bucket_in, ended_by}
+use Rattle.s3a_shell.specs.declared.said.Said.{Said}
+use Rattle.s3a_words.specs.declared.command.Command.{Command}
+use Rattle.s3a_words.specs.declared.command.Command.TheVariants.{AbortUploads, Cat, CleanMarkers, Cp, FillMarkers, Ls, Markers, Mb, Mkdir}
+use Rattle.s3a_words.specs.declared.command.Command.TheVariants.{Mv, Put, PutDrop, PutForce, Rm, Rmr, Stat, Uploads}
+use Rattle.std.proofs.Common.{arith, refl}
+use Rattle.std.specs.Prelude.{List, false, length, nat_lt, true, ℕ}
 
 module _ (bytes : List ℕ) (z : Scene) (what : Said) (s : Scene) where
   pub left_by : (command : Command) → Does command bytes z what s → Leaves (bucket_in command) (ended_by command z.content) z what s

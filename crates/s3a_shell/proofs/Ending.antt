@@ -1,11 +1,26 @@
 -- What a command's sendings lead to, from their beginning.
-use Rattle.std.specs.Prelude.{◌≡◌, ◌≤◌, ℕ, true, false, None, List, [], ◌++◌, take, length}
-use Rattle.s3a_shell.proofs.Common.{AreAnswered, AreBelow, AreBy, AreHonest, Command, Content, Does, Entry, IsHonest, OnlyIn, Said, Scene, Sends, Shell, after_all, ap, arith, bucket_in, ended_by, has_changed, moment, opening, subst, sym, take_all, upload_at, ◌∙◌}
-use Rattle.s3a_shell.proofs.Staying.{Leaves, below_none}
+use Rattle.machine.specs.Counted.{AreAnswered}
+use Rattle.machine.specs.Turns.{AreBy}
+use Rattle.s3_service.specs.Ids.{AreBelow}
+use Rattle.s3_types.specs.Moment.{AreHonest, IsHonest, after_all, moment}
+use Rattle.s3_types.specs.Store.{Content, Scene, opening}
+use Rattle.s3_types.specs.declared.journal.Entry.{Entry}
+use Rattle.s3_types.specs.declared.request.Actor.TheVariants.{Shell}
 use Rattle.s3a_shell.proofs.EachCommand.{left_by}
+use Rattle.s3a_shell.proofs.Staying.{Leaves, below_none}
 use Rattle.s3a_shell.proofs.Unchanged.{no_change}
+use Rattle.s3a_shell.specs.Doings.{Does}
+use Rattle.s3a_shell.specs.Sendings.{Sends, has_changed}
+use Rattle.s3a_shell.specs.Stays.{OnlyIn, bucket_in, ended_by}
+use Rattle.s3a_shell.specs.declared.said.Said.{Said}
+use Rattle.s3a_words.specs.declared.command.Command.{Command}
+use Rattle.std.proofs.Common.{ap, arith, subst, sym, ◌∙◌}
+use Rattle.std.proofs.lemmas.List.{take_all}
+use Rattle.std.specs.Prelude.{List, None, false, length, take, true, ℕ, [], ◌++◌, ◌≡◌, ◌≤◌}
+use Rattle.store_frame.specs.Held.{upload_at}
 
-module _ (always : Scene → Type 0) (c : Content) (old es : List Entry) (z s : Scene) (first : old ≡ []) (begun : z ≡ opening c) (h : Sends always old z es s) where
+module _ (always : Scene → Type 0) (c : Content) (old es : List Entry) (z s : Scene) (first : old ≡ []) (begun : z ≡ opening c)
+    (h : Sends always old z es s) where
   whole : es ≡ h.part
   whole = h.appended ∙ ap (λ (l : List Entry). l ++ h.part) first
 
@@ -16,7 +31,8 @@ module _ (always : Scene → Type 0) (c : Content) (old es : List Entry) (z s : 
       h.scene ∙ ap (λ (v : Scene). after_all v h.part) begun ∙ ap (after_all (opening c)) (sym whole ∙ sym all)
 
   pub all_moments : (m : ℕ) → always (moment c es m)
-  all_moments m = subst (λ (l : List Entry). always (after_all (opening c) (take m l))) (sym whole) (subst (λ (v : Scene). always (after_all v (take m h.part))) begun (h.moments m))
+  all_moments m = subst (λ (l : List Entry). always (after_all (opening c) (take m l))) (sym whole)
+      (subst (λ (v : Scene). always (after_all v (take m h.part))) begun (h.moments m))
 
   pub all_by : AreBy Shell 0 es
   all_by = subst (λ (l : List Entry). AreBy Shell 0 l) (sym whole) h.by
@@ -31,7 +47,8 @@ module _ (always : Scene → Type 0) (c : Content) (old es : List Entry) (z s : 
   pub same_at : has_changed es ≡ false → s.content ≡ c
   same_at none =
       let all : take (length es) es ≡ es = take_all (length es) es (omega arith) in
-      ap (λ (v : Scene). v.content) at_last ∙ (ap (λ (l : List Entry). (after_all (opening c) l).content) all ∙ no_change es (opening c) all_honest all_answered none)
+      ap (λ (v : Scene). v.content) at_last ∙ (ap (λ (l : List Entry). (after_all (opening c) l).content) all ∙ no_change es (opening c)
+      all_honest all_answered none)
 
   -- and so of what was done
   module _ (command : Command) (bytes : List ℕ) (what : Said) (did : Does command bytes z what s) where
@@ -41,13 +58,15 @@ module _ (always : Scene → Type 0) (c : Content) (old es : List Entry) (z s : 
         (subst (λ (v : Scene). Does command bytes z what v) at_last did)
 
     left : Leaves (bucket_in command) (ended_by command c) (opening c) what s
-    left = subst (λ (v : Scene). Leaves (bucket_in command) (ended_by command v.content) v what s) begun (left_by bytes z what s command did)
+    left = subst (λ (v : Scene). Leaves (bucket_in command) (ended_by command v.content) v what s) begun
+        (left_by bytes z what s command did)
 
     pub only_at : OnlyIn (bucket_in command) (ended_by command c) c s.content
     only_at = left.only
 
     -- and of the uploads that it began
-    pub ended_at : AreBelow c.buckets c.next → AreBelow s.content.buckets s.content.next → (id : ℕ) → c.next ≤ id → upload_at s.content (bucket_in command) id ≡ None
+    pub ended_at : AreBelow c.buckets c.next → AreBelow s.content.buckets s.content.next → (id : ℕ) → c.next ≤ id
+        → upload_at s.content (bucket_in command) id ≡ None
     ended_at first last = left.ended (below_none c (bucket_in command) first) (below_none s.content (bucket_in command) last)
 
     -- it is the first where the command was refused

@@ -1,22 +1,33 @@
 -- How many requests a session sends.
-use Rattle.std.specs.Prelude.{◌≡◌, ℕ, ◌+◌, ◌*◌, ◌≤◌, Bool, List, [], ◌∷◌, ◌++◌, length, Option, Some, None, OnOk, Result}
-use Rattle.s3a_shell.proofs.Common.{Command, Content, Deletion, Entry, MarkerPolicy, Objects, Path, Scene, Session, UploadRef}
-use Rattle.s3a_shell.proofs.Common.{ap, arith, below, length-append, objects_at, opening, subst, sym, uploads_from, ◌∙◌}
+use Rattle.bucket_ops.specs.Asks.{objects_at}
 use Rattle.bucket_ops.specs.Phases.{left_at}
-use Rattle.bucket_ops.specs.Uploads.{size}
-use Rattle.fs_ops.specs.Prelude.{PageEntry, all_below, keys_above, prefix_of}
+use Rattle.bucket_ops.specs.Uploads.{size, uploads_from}
+use Rattle.bucket_ops.specs.Walking.{all_below}
+use Rattle.dir_markers.specs.Markers.{keys_above}
+use Rattle.dir_markers.specs.declared.marker.MarkerPolicy.{MarkerPolicy}
+use Rattle.fs_files.specs.declared.create.CreateFile.{CreateFile}
+use Rattle.fs_files.specs.declared.create.CreateStage.TheVariants.{Here}
+use Rattle.fs_ops.specs.Places.{prefix_of}
+use Rattle.fs_ops.specs.code.Delete.{Deletion}
+use Rattle.fs_rename.specs.Between.{Route, most_in}
+use Rattle.path_keys.specs.Paths.{Path, below}
+use Rattle.s3_types.specs.Store.{Content, Objects, Scene, opening}
+use Rattle.s3_types.specs.declared.journal.Entry.{Entry}
+use Rattle.s3_types.specs.declared.reply.PageEntry.{PageEntry}
+use Rattle.s3_types.specs.declared.request.UploadRef.{UploadRef}
+use Rattle.s3a_shell.specs.Most.{children_below, count_below, most_put, most_requests, uploads_at}
+use Rattle.s3a_shell.specs.Moving.{route}
+use Rattle.s3a_shell.specs.Sendings.{AtMost}
+use Rattle.s3a_shell.specs.declared.session.Session.{Session}
+use Rattle.s3a_words.specs.declared.command.Command.{Command}
+use Rattle.std.proofs.Common.{ap, arith, length-append, subst, sym, ◌∙◌}
+use Rattle.std.specs.Prelude.{Bool, List, None, OnOk, Option, Result, Some, length, ℕ, [], ◌*◌, ◌++◌, ◌+◌, ◌∷◌, ◌≡◌, ◌≤◌}
 use Rattle.fs_ops.specs.code.AtPath as at_path
 use Rattle.fs_ops.specs.code.Delete as delete
 use Rattle.fs_ops.specs.code.List as list
 use Rattle.fs_ops.specs.code.Make as make
 use Rattle.fs_files.specs.code.Create as create
-use Rattle.fs_files.specs.declared.create.CreateFile.{CreateFile}
-use Rattle.fs_files.specs.declared.create.CreateStage.TheVariants.{Here}
-use Rattle.fs_rename.specs.Between.{Route, most_in}
 use Rattle.marker_tool.specs.code.Tool as tool
-use Rattle.s3a_shell.specs.Moving.{route}
-use Rattle.s3a_shell.specs.Most.{children_below, count_below, uploads_at, most_put, most_requests}
-use Rattle.s3a_shell.specs.Sendings.{AtMost}
 
 -- ---- by what was appended
 

@@ -1,6 +1,20 @@
 -- Sendings after sendings.
-use Rattle.std.specs.Prelude.{◌≡◌, ℕ, zero, suc, ◌+◌, true, List, [], ◌∷◌, ◌++◌, length, take}
-use Rattle.s3a_shell.proofs.Common.{Actor, AppliedOrNot, AreAnswered, AreBy, AreHonest, Entry, IsCounted, IsStill, Request, Scene, Sends, Sent, Session, Shell, after_all, answer, answered_by, ap, append-nil, append_assoc, apply, arith, effect, inl, inr, length-append, only_reads, reads_nothing, refl, subst, sym, ◌∙◌}
+use Rattle.bucket_ops.specs.Uploads.{IsStill}
+use Rattle.machine.specs.Counted.{AreAnswered}
+use Rattle.machine.specs.Turns.{AreBy}
+use Rattle.s3_types.specs.Answer.{answer, apply}
+use Rattle.s3_types.specs.Moment.{AreHonest, after_all, effect}
+use Rattle.s3_types.specs.Requests.{only_reads}
+use Rattle.s3_types.specs.Store.{Scene}
+use Rattle.s3_types.specs.declared.journal.Entry.{Entry}
+use Rattle.s3_types.specs.declared.request.Actor.{Actor}
+use Rattle.s3_types.specs.declared.request.Actor.TheVariants.{Shell}
+use Rattle.s3_types.specs.declared.request.Request.{Request}
+use Rattle.s3a_shell.specs.Sendings.{AppliedOrNot, IsCounted, Sends, Sent, answered_by}
+use Rattle.s3a_shell.specs.declared.session.Session.{Session}
+use Rattle.std.proofs.Common.{ap, append-nil, append_assoc, arith, inl, inr, length-append, refl, subst, sym, ◌∙◌}
+use Rattle.std.specs.Prelude.{List, length, suc, take, true, zero, ℕ, [], ◌++◌, ◌+◌, ◌∷◌, ◌≡◌}
+use Rattle.store_frame.proofs.Reading.{reads_nothing}
 
 after_both : (s : Scene) (es fs : List Entry) → after_all s (es ++ fs) ≡ after_all (after_all s es) fs
 after_both s [] fs = refl
@@ -24,7 +38,8 @@ module _ (always : Scene → Type 0) where
   at_none z zero h = h
   at_none z (suc m) h = h
 
-  at_both : (z : Scene) (es fs : List Entry) → ((m : ℕ) → always (after_all z (take m es))) → ((m : ℕ) → always (after_all (after_all z es) (take m fs))) → (m : ℕ) → always (after_all z (take m (es ++ fs)))
+  at_both : (z : Scene) (es fs : List Entry) → ((m : ℕ) → always (after_all z (take m es)))
+      → ((m : ℕ) → always (after_all (after_all z es) (take m fs))) → (m : ℕ) → always (after_all z (take m (es ++ fs)))
   at_both z [] fs h g m = g m
   at_both z (e ∷ es) fs h g zero = h 0
   at_both z (e ∷ es) fs h g (suc m) = at_both (effect z e.request e.outcome) es fs (λ k. h (suc k)) g m
@@ -32,7 +47,16 @@ module _ (always : Scene → Type 0) where
 -- no sendings
 pub sent_none : (always : Scene → Type 0) (a : Session) → IsCounted a → always a.store.scene → Sent always a a
 sent_none always a counted h = record {
-  sends = record { part = []; appended = sym (append-nil a.journal.entries); by = tt; answered = tt; honest = tt; scene = refl; moments = λ m. at_none always a.store.scene m h };
+  sends = record {
+    part = [];
+    appended = sym (append-nil a.journal.entries);
+    by = tt;
+    answered = tt;
+    honest = tt;
+    scene = refl;
+    moments = λ
+        m. at_none always a.store.scene m h;
+  };
   counted = counted;
 }
 
@@ -59,7 +83,8 @@ sent_one a b r counted scene requests entries =
       counted = omega (arith, counted, requests, long);
     }
 
-sends_both : (always : Scene → Type 0) (a b c : List Entry) (z s t : Scene) → Sends always a z b s → Sends always b s c t → Sends always a z c t
+sends_both : (always : Scene → Type 0) (a b c : List Entry) (z s t : Scene) → Sends always a z b s → Sends always b s c t
+    → Sends always a z c t
 sends_both always a b c z s t h g = record {
   part = h.part ++ g.part;
   appended = g.appended ∙ (ap (λ (l : List Entry). l ++ g.part) h.appended ∙ append_assoc a h.part g.part);
@@ -67,7 +92,8 @@ sends_both always a b c z s t h g = record {
   answered = answered_both h.part g.part h.answered g.answered;
   honest = honest_both z h.part g.part h.honest (subst (λ (v : Scene). AreHonest v g.part) h.scene g.honest);
   scene = g.scene ∙ (ap (λ (v : Scene). after_all v g.part) h.scene ∙ sym (after_both z h.part g.part));
-  moments = at_both always z h.part g.part h.moments (subst (λ (v : Scene). (m : ℕ) → always (after_all v (take m g.part))) h.scene g.moments);
+  moments = at_both always z h.part g.part h.moments (subst (λ (v : Scene). (m : ℕ) → always (after_all v (take m g.part))) h.scene
+      g.moments);
 }
 
 -- these and then those
@@ -93,7 +119,8 @@ sent_as P Q a b f h = record {
 }
 
 -- one that only reads
-pub sent_read : (a b : Session) (r : Request) → only_reads r ≡ true → Sent (AppliedOrNot r a.store.scene) a b → Sent (IsStill a.store.scene) a b
+pub sent_read : (a b : Session) (r : Request) → only_reads r ≡ true → Sent (AppliedOrNot r a.store.scene) a b
+    → Sent (IsStill a.store.scene) a b
 sent_read a b r reads h = sent_as (AppliedOrNot r a.store.scene) (IsStill a.store.scene) a b by h
   where
     by : (s : Scene) → AppliedOrNot r a.store.scene s → s ≡ a.store.scene
@@ -101,5 +128,7 @@ sent_read a b r reads h = sent_as (AppliedOrNot r a.store.scene) (IsStill a.stor
     by s (inr e) = e ∙ reads_nothing a.store.scene r reads
 
 -- nothing changes by either
-pub still_both : (a b c : Session) → b.store.scene ≡ a.store.scene → Sent (IsStill a.store.scene) a b → Sent (IsStill b.store.scene) b c → Sent (IsStill a.store.scene) a c
-still_both a b c same h g = sent_both (IsStill a.store.scene) a b c h (sent_as (IsStill b.store.scene) (IsStill a.store.scene) b c (λ s e. e ∙ same) g)
+pub still_both : (a b c : Session) → b.store.scene ≡ a.store.scene → Sent (IsStill a.store.scene) a b → Sent (IsStill b.store.scene) b c
+    → Sent (IsStill a.store.scene) a c
+still_both a b c same h g = sent_both (IsStill a.store.scene) a b c h (sent_as (IsStill b.store.scene) (IsStill a.store.scene) b c
+    (λ s e. e ∙ same) g)

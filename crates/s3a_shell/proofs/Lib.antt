@@ -12,4 +12,3 @@ mod Asking
 mod Few
 pub mod Doing
 pub mod Plain
-mod Common

@@ -1,8 +1,18 @@
 -- What a command is to do is of one of the kinds that can be kept or said.
-use Rattle.s3a_shell.proofs.Common.{Bool, Command, Faulty, Init, IsPlain, List, Nothing, Option, Store, Work, [], false, has_changed, refl, subst, sym, true, ℕ, ◌∷◌, ◌≡◌}
-use Rattle.machine.specs.Prelude.{AllByRecursion, Content, new_content, MOST_MINIMUM, Shell, Entry, AreBy}
+use Rattle.durable_store.specs.Works.{IsPlain, Work}
 use Rattle.durable_store.specs.declared.held.Held.{Held}
-use Rattle.s3a_shell.specs.Commanded.{init_work, work_said, Done, DoneOn, IsWork}
+use Rattle.durable_store.specs.declared.held.Held.TheVariants.{Faulty, Nothing, Store}
+use Rattle.machine.specs.Turns.{AreBy}
+use Rattle.s3_types.specs.Store.{Content, new_content}
+use Rattle.s3_types.specs.declared.journal.Entry.{Entry}
+use Rattle.s3_types.specs.declared.limits.TheConstants.{MOST_MINIMUM}
+use Rattle.s3_types.specs.declared.request.Actor.TheVariants.{Shell}
+use Rattle.s3a_shell.specs.Commanded.{Done, DoneOn, IsWork, init_work, work_said}
+use Rattle.s3a_shell.specs.Sendings.{has_changed}
+use Rattle.s3a_words.specs.declared.command.Command.{Command}
+use Rattle.s3a_words.specs.declared.command.Command.TheVariants.{Init}
+use Rattle.std.proofs.Common.{Bool, List, Option, false, refl, subst, sym, true, ℕ, [], ◌∷◌, ◌≡◌}
+use Rattle.std.specs.List.{AllByRecursion}
 
 pub init_plain : (minimum : Option ℕ) (held : Held) → IsPlain (init_work minimum held)
 unfolding init_work
@@ -13,7 +23,8 @@ events : (es : List Entry) → AreBy Shell 0 es → AllByRecursion (λ e. e.even
 events [] by = tt
 events (e ∷ es) by = (by.1, events es by.2)
 
-said_plain : (refused changed : Bool) (c : Content) (text : List ℕ) (es : List Entry) → AreBy Shell 0 es → IsPlain (work_said refused changed c text es)
+said_plain : (refused changed : Bool) (c : Content) (text : List ℕ) (es : List Entry) → AreBy Shell 0 es
+    → IsPlain (work_said refused changed c text es)
 said_plain true changed c text es by = tt
 said_plain false true c text es by = events es by
 said_plain false false c text es by = tt
@@ -31,6 +42,7 @@ work_plain (Init minimum) bytes held work h = subst IsPlain (sym h) (init_plain 
 work_plain command bytes held work h = on_plain command bytes held work h
 
 -- a command that is not `init`
-pub not_init : (command : Command) (bytes : List ℕ) (held : Held) (work : Work) → ((minimum : Option ℕ) → command ≡ Init minimum → ⊥) → DoneOn command bytes held work → IsWork command bytes held work
+pub not_init : (command : Command) (bytes : List ℕ) (held : Held) (work : Work) → ((minimum : Option ℕ) → command ≡ Init minimum → ⊥)
+    → DoneOn command bytes held work → IsWork command bytes held work
 not_init (Init minimum) bytes held work n h = absurd (n minimum refl)
 not_init _ bytes held work n h = h

@@ -1,9 +1,32 @@
 -- What a command left: other buckets, other uploads, no upload of its own, and all where it was refused.
-use Rattle.std.specs.Prelude.{◌≡◌, ℕ, ◌<◌, ◌≤◌, Bool, true, false, cond, List, Option, Some, None, Result, Ok, Err}
-use Rattle.s3a_shell.proofs.Common.{AbortedIn, AreBelow, BadName, BucketContent, Content, CreatedUnless, Creates, Did, DidAbort, DidBetween, DidMake, FsRefusal, GivesIn, InFile, InScene, IsBelow, IsUndone, Made, MarkerPolicy, NoSuchBucket, Objects, OnlyIn, Path, Refused, Said, Scene, ap, arith, inl, inr, is_bucket, made, make_answer, nat_cmp, new_bucket, nothing, objects_of, placed, refl, refusal_word, refused_or_fine, said, same_or_other, subst, sym, text_here, text_other, upload_at, upload_in, with_objects, ◌∙◌, ◌⊎◌}
-use Rattle.std.specs.FinMap as fin
+use Rattle.basics.proofs.Members.{same_or_other, text_here, text_other}
 use Rattle.bucket_ops.proofs.AskLaws.{with_same}
-use Rattle.bucket_ops.specs.Asks.{with_objects_if}
+use Rattle.bucket_ops.specs.Asks.{objects_of, with_objects, with_objects_if}
+use Rattle.bucket_ops.specs.Phases.{GivesIn, InScene}
+use Rattle.dir_markers.specs.declared.marker.MarkerPolicy.{MarkerPolicy}
+use Rattle.fs_files.specs.Placed.{InFile, placed}
+use Rattle.fs_files.specs.code.Create.{IsUndone}
+use Rattle.fs_tree.specs.Answers.{Creates}
+use Rattle.fs_tree.specs.declared.answers.FsRefusal.{FsRefusal}
+use Rattle.fs_tree.specs.declared.answers.FsRefusal.TheVariants.{NoSuchBucket}
+use Rattle.path_keys.specs.Paths.{Path}
+use Rattle.s3_service.specs.Ids.{AreBelow}
+use Rattle.s3_types.specs.Answer.{made, make_answer}
+use Rattle.s3_types.specs.Names.{is_bucket}
+use Rattle.s3_types.specs.Store.{BucketContent, Content, Objects, Scene, new_bucket}
+use Rattle.s3_types.specs.declared.reply.Refusal.TheVariants.{BadName}
+use Rattle.s3_types.specs.declared.reply.Reply.TheVariants.{Made, Refused}
+use Rattle.s3a_shell.specs.Doings.{CreatedUnless, Did, DidMake, refusal_word, refused_or_fine}
+use Rattle.s3a_shell.specs.Moving.{DidBetween}
+use Rattle.s3a_shell.specs.Stays.{IsBelow, OnlyIn}
+use Rattle.s3a_shell.specs.Texts.{nothing, said}
+use Rattle.s3a_shell.specs.Uploading.{AbortedIn, DidAbort}
+use Rattle.s3a_shell.specs.declared.said.Said.{Said}
+use Rattle.std.proofs.Common.{ap, arith, inl, inr, refl, subst, sym, ◌∙◌, ◌⊎◌}
+use Rattle.std.specs.Ordering.{nat_cmp}
+use Rattle.std.specs.Prelude.{Bool, Err, List, None, Ok, Option, Result, Some, cond, false, true, ℕ, ◌<◌, ◌≡◌, ◌≤◌}
+use Rattle.store_frame.specs.Held.{upload_at, upload_in}
+use Rattle.std.specs.FinMap as fin
 
 -- no upload has an id from n on
 abbrev NoneFrom : ℕ → Content → List ℕ → Type 0
@@ -43,7 +66,8 @@ module _ {b : List ℕ} {Ended : ℕ → Type 0} {z s : Scene} {what : Said} whe
   })
 
   -- or the bucket is another, and no refusal was said
-  changed : (d : BucketContent) (n : ℕ) → s ≡ placed z b d n → z.content.next ≤ n → Stand b Ended z d → Ends b z s → what.refused ≡ false → Leaves b Ended z what s
+  changed : (d : BucketContent) (n : ℕ) → s ≡ placed z b d n → z.content.next ≤ n → Stand b Ended z d → Ends b z s → what.refused ≡ false
+      → Leaves b Ended z what s
   changed d n e le uploads ended fine = record {
     only = subst (λ (t : Scene). OnlyIn b Ended z.content t.content) (sym e) (record {
       others = λ name ne. text_other z.content.buckets b name d ne;
@@ -58,7 +82,8 @@ module _ {b : List ℕ} {Ended : ℕ → Type 0} {z s : Scene} {what : Said} whe
   -- and no id was drawn
   edited : (d : BucketContent) → s ≡ placed z b d z.content.next → Stand b Ended z d → what.refused ≡ false → Leaves b Ended z what s
   edited d e uploads fine =
-      changed d z.content.next e (omega arith) uploads (λ first last. subst (λ n. NoneFrom n s.content b) (ap (λ (s : Scene). s.content.next) e) last) fine
+      changed d z.content.next e (omega arith) uploads (λ first last. subst (λ n. NoneFrom n s.content b)
+      (ap (λ (s : Scene). s.content.next) e) last) fine
 
 -- it ends no upload
 abbrev none : ℕ → Type 0
@@ -70,11 +95,14 @@ Keeps {R = R} gives = (m n : Objects) (r : R) → gives m (Err r) n → n ≡ m
 
 -- ---- what was done on the objects of a bucket
 
-given : {A R : Type 0} (b : List ℕ) (gives : Objects → Result A R → Objects → Type 0) (absent : Result A R) (says : Result A R → Said) (z s : Scene) (what : Said)
-    → (a : Result A R) → Keeps gives → ((x : A) → (says (Ok x)).refused ≡ false) → GivesIn b gives absent z a s → what ≡ says a → Leaves b none z what s
+given : {A R : Type 0} (b : List ℕ) (gives : Objects → Result A R → Objects → Type 0) (absent : Result A R) (says : Result A R → Said)
+    (z s : Scene) (what : Said)
+    → (a : Result A R) → Keeps gives → ((x : A) → (says (Ok x)).refused ≡ false) → GivesIn b gives absent z a s → what ≡ says a
+    → Leaves b none z what s
 given {A = A} {R = R} b gives absent says z s what a keeps fine h = by (fin.get z.content.buckets b) a refl h
   where
-    by : (o : Option BucketContent) (a : Result A R) → fin.get z.content.buckets b ≡ o → InScene (objects_of o) (λ m n. gives m a n) (a ≡ absent) z b s → what ≡ says a
+    by : (o : Option BucketContent) (a : Result A R) → fin.get z.content.buckets b ≡ o
+        → InScene (objects_of o) (λ m n. gives m a n) (a ≡ absent) z b s → what ≡ says a
         → Leaves b none z what s
     by None a e g t = same g.0
     by (Some c) (Err r) e g t = same (g.1 ∙ (ap (with_objects z b) (keeps c.objects g.0 r g.2) ∙ with_same z b c.objects (ap objects_of e)))
@@ -89,9 +117,12 @@ done {p = p} {gives = gives} {text = text} {z = z} {s = s} {what = what} h keeps
     given p.bucket gives (Err NoSuchBucket) (said text) z s what h.answer keeps (λ x. refl) h.given h.told
 
 -- from one path to another one
-pub done_between : {A R : Type 0} {from to : Path} {gives : Objects → Result A R → Objects → Type 0} {absent refused : Result A R} {says : Result A R → Said}
-    {z s : Scene} {what : Said} → DidBetween from to gives absent refused says z what s → Keeps gives → ((x : A) → (says (Ok x)).refused ≡ false) → Leaves from.bucket none z what s
-done_between {from = from} {to = to} {gives = gives} {absent = absent} {says = says} {z = z} {s = s} {what = what} h keeps fine = by (same_or_other from.bucket to.bucket)
+pub done_between : {A R : Type 0} {from to : Path} {gives : Objects → Result A R → Objects → Type 0} {absent refused : Result A R}
+    {says : Result A R → Said}
+    {z s : Scene} {what : Said} → DidBetween from to gives absent refused says z what s → Keeps gives
+    → ((x : A) → (says (Ok x)).refused ≡ false) → Leaves from.bucket none z what s
+done_between {from = from} {to = to} {gives = gives} {absent = absent} {says = says} {z = z} {s = s} {what = what} h keeps fine = by
+    (same_or_other from.bucket to.bucket)
   where
     by : (from.bucket ≡ to.bucket) ⊎ (from.bucket ≡ to.bucket → ⊥) → Leaves from.bucket none z what s
     by (inl f) = given from.bucket gives absent says z s what h.answer keeps fine (h.given.one f) h.told
@@ -106,7 +137,8 @@ put p bytes overwrite policy z what s true h = same h.1
 put p bytes overwrite policy z what s false h = by h.answer (fin.get z.content.buckets p.bucket) refl h.given h.undone h.told
   where
     by : (a : Result (Unit {0}) FsRefusal) (o : Option BucketContent) → fin.get z.content.buckets p.bucket ≡ o
-        → InFile o (λ m n. Creates p bytes overwrite policy m a n) (a ≡ Err NoSuchBucket) z p.bucket s → IsUndone a z s → what ≡ said nothing a → Leaves p.bucket none z what s
+        → InFile o (λ m n. Creates p bytes overwrite policy m a n) (a ≡ Err NoSuchBucket) z p.bucket s → IsUndone a z s
+        → what ≡ said nothing a → Leaves p.bucket none z what s
     by (Err r) o e g u t = same u
     by (Ok x) None e g u t = same g.0
     by (Ok x) (Some c) e g u t =
@@ -118,9 +150,11 @@ pub make : (name : List ℕ) (z : Scene) (what : Said) (s : Scene) → DidMake n
 make name z what s h = by (fin.get z.content.buckets name) refl h.0 h.1
   where
     new : (t : Bool) → fin.get z.content.buckets name ≡ None → what ≡ refused_or_fine (refusal_word (cond t Made (Refused BadName)))
-        → s ≡ record { content = cond t (placed z name new_bucket z.content.next).content z.content; files = z.files } → Leaves name none z what s
+        → s ≡ record { content = cond t (placed z name new_bucket z.content.next).content z.content; files = z.files }
+        → Leaves name none z what s
     new true e w g =
-        edited new_bucket g (λ id l f. fin.get-empty nat_cmp id ∙ ap (λ (o : Option BucketContent). upload_in o id) (sym e)) (ap (λ (w : Said). w.refused) w)
+        edited new_bucket g (λ id l f. fin.get-empty nat_cmp id ∙ ap (λ (o : Option BucketContent). upload_in o id) (sym e))
+        (ap (λ (w : Said). w.refused) w)
     new false e w g = same g
 
     by : (o : Option BucketContent) → fin.get z.content.buckets name ≡ o → what ≡ refused_or_fine (refusal_word (make_answer name o))
@@ -129,10 +163,13 @@ make name z what s h = by (fin.get z.content.buckets name) refl h.0 h.1
     by (Some c) e w g = same g
 
 -- uploads were aborted
-pub abort : (p : Path) (z : Scene) (what : Said) (s : Scene) → DidAbort p z what s → Leaves p.bucket (λ id. IsBelow (fin.get z.content.buckets p.bucket) p id) z what s
+pub abort : (p : Path) (z : Scene) (what : Said) (s : Scene) → DidAbort p z what s
+    → Leaves p.bucket (λ id. IsBelow (fin.get z.content.buckets p.bucket) p id) z what s
 abort p z what s = by (fin.get z.content.buckets p.bucket) refl
   where
-    by : (o : Option BucketContent) → fin.get z.content.buckets p.bucket ≡ o → AbortedIn o p z what s → Leaves p.bucket (λ id. IsBelow o p id) z what s
+    by : (o : Option BucketContent) → fin.get z.content.buckets p.bucket ≡ o → AbortedIn o p z what s
+        → Leaves p.bucket (λ id. IsBelow o p id) z what s
     by None e h = same h.1
     by (Some c) e h =
-        edited h.1.content h.1.scene (λ id l ne. h.1.kept id (λ r i f. ne (r, i, f)) ∙ there z.content p.bucket c e id) (ap (λ (w : Said). w.refused) h.0)
+        edited h.1.content h.1.scene (λ id l ne. h.1.kept id (λ r i f. ne (r, i, f)) ∙ there z.content p.bucket c e id)
+        (ap (λ (w : Said). w.refused) h.0)

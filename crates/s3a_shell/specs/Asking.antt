@@ -1,24 +1,33 @@
 -- What each command may send: the requests of its operation, and no other (Amazon S3 API reference; Hadoop FileSystem specification).
-use Rattle.std.specs.Prelude.{◌≡◌, ◌⊎◌, ℕ, nat_lt, Bool, true, false, List, [], length, Option, Some, None}
-use Rattle.fs_ops.specs.Prelude.{Scene, BucketContent, Ask, is_look, request_of, SendsIn, Request, MakeBucket, ListParts, UploadRef, IsIn}
-use Rattle.fs_ops.specs.Prelude.{Path, below, look_asks, MarkerPolicy, Keep, Delete}
-use Rattle.std.specs.FinMap as fin
-use Rattle.s3_types.specs.Blocks.{block_of}
+use Rattle.basics.specs.Members.{IsIn}
+use Rattle.bucket_ops.specs.Asks.{Ask, is_look, request_of}
+use Rattle.bucket_ops.specs.Phases.{SendsIn}
 use Rattle.bucket_ops.specs.Uploads.{IsPageOf}
+use Rattle.copy_tree.specs.Public.{CopySends}
+use Rattle.dir_markers.specs.declared.marker.MarkerPolicy.{MarkerPolicy}
+use Rattle.dir_markers.specs.declared.marker.MarkerPolicy.TheVariants.{Delete, Keep}
+use Rattle.fs_files.specs.declared.create.CreateFile.{CreateFile}
+use Rattle.fs_files.specs.declared.create.CreateStage.TheVariants.{Here}
+use Rattle.fs_ops.specs.Places.{look_asks}
+use Rattle.fs_rename.specs.Public.{RenameSends}
+use Rattle.marker_tool.specs.Works.{CleanSends, FillSends}
+use Rattle.path_keys.specs.Paths.{Path, below}
+use Rattle.s3_types.specs.Blocks.{block_of}
+use Rattle.s3_types.specs.Store.{BucketContent, Scene}
+use Rattle.s3_types.specs.declared.request.Request.{Request}
+use Rattle.s3_types.specs.declared.request.Request.TheVariants.{ListParts, MakeBucket}
+use Rattle.s3_types.specs.declared.request.UploadRef.{UploadRef}
+use Rattle.s3a_shell.specs.Doings.{most_input}
+use Rattle.s3a_shell.specs.Moving.{route}
+use Rattle.s3a_shell.specs.Uploading.{aborts, uploads_below}
+use Rattle.s3a_words.specs.declared.command.Command.{Command}
+use Rattle.s3a_words.specs.declared.command.Command.TheVariants.{AbortUploads, Cat, CleanMarkers, Cp, FillMarkers, Ls, Markers, Mb, Mkdir}
+use Rattle.s3a_words.specs.declared.command.Command.TheVariants.{Mv, Put, PutDrop, PutForce, Rm, Rmr, Stat, Uploads}
+use Rattle.std.specs.Prelude.{Bool, List, None, Option, Some, false, length, nat_lt, true, ℕ, [], ◌≡◌, ◌⊎◌}
+use Rattle.std.specs.FinMap as fin
 use Rattle.fs_ops.specs.code.Make as make
 use Rattle.fs_ops.specs.code.Delete as delete
 use Rattle.fs_files.specs.code.Create as create
-use Rattle.fs_files.specs.declared.create.CreateFile.{CreateFile}
-use Rattle.fs_files.specs.declared.create.CreateStage.TheVariants.{Here}
-use Rattle.fs_rename.specs.Public.{RenameSends}
-use Rattle.copy_tree.specs.Public.{CopySends}
-use Rattle.marker_tool.specs.Works.{CleanSends, FillSends}
-use Rattle.s3a_words.specs.declared.command.Command.{Command}
-use Rattle.s3a_words.specs.declared.command.Command.TheVariants.{Mb, Ls, Stat, Cat, Put, PutForce, PutDrop, Mkdir, Mv, Cp, Rm, Rmr}
-use Rattle.s3a_words.specs.declared.command.Command.TheVariants.{Uploads, AbortUploads, Markers, CleanMarkers, FillMarkers}
-use Rattle.s3a_shell.specs.Doings.{most_input}
-use Rattle.s3a_shell.specs.Moving.{route}
-use Rattle.s3a_shell.specs.Uploading.{uploads_below, aborts}
 
 -- ---- on a path
 

@@ -1,23 +1,29 @@
 -- What a command is to do, by what is held.
-use Rattle.std.specs.Prelude.{◌≡◌, ℕ, ◌≤◌, Bool, true, false, List, [], length, codes, Option, Some, None}
-use Rattle.machine.specs.Prelude.{AllByRecursion, Content, opening, new_content, moment, IsHonest, MOST_MINIMUM, Shell, Entry}
-use Rattle.machine.specs.Prelude.{AreAnswered, AreBy}
-use Rattle.s3a_words.specs.declared.command.Command.{Command}
-use Rattle.s3a_words.specs.declared.command.Command.TheVariants.{Init}
-use Rattle.s3a_words.specs.Kinds.{kind_of, is_put, is_play}
-use Rattle.store_frame.specs.Held.{upload_at}
-use Rattle.s3a_shell.specs.declared.said.Said.{Said}
+use Rattle.durable_store.specs.Stores.{fault_text}
+use Rattle.durable_store.specs.Works.{Saves, Says, Work}
+use Rattle.durable_store.specs.declared.held.Held.{Held}
+use Rattle.durable_store.specs.declared.held.Held.TheVariants.{Faulty, Nothing, Store}
+use Rattle.machine.specs.Counted.{AreAnswered}
+use Rattle.machine.specs.Turns.{AreBy}
+use Rattle.s3_types.specs.Moment.{IsHonest, moment}
+use Rattle.s3_types.specs.Store.{Content, new_content, opening}
+use Rattle.s3_types.specs.declared.journal.Entry.{Entry}
+use Rattle.s3_types.specs.declared.limits.TheConstants.{MOST_MINIMUM}
+use Rattle.s3_types.specs.declared.request.Actor.TheVariants.{Shell}
 use Rattle.s3a_shell.specs.Asking.{MaySend}
+use Rattle.s3a_shell.specs.Doings.{Does, MayStandAt, only_looks}
 use Rattle.s3a_shell.specs.Most.{most_requests}
-use Rattle.s3a_shell.specs.Doings.{only_looks, Does, MayStandAt}
 use Rattle.s3a_shell.specs.Sendings.{has_changed}
 use Rattle.s3a_shell.specs.Stays.{OnlyIn, bucket_in, ended_by}
 use Rattle.s3a_shell.specs.Texts.{refused_line}
+use Rattle.s3a_shell.specs.declared.said.Said.{Said}
+use Rattle.s3a_words.specs.Kinds.{is_play, is_put, kind_of}
+use Rattle.s3a_words.specs.declared.command.Command.{Command}
+use Rattle.s3a_words.specs.declared.command.Command.TheVariants.{Init}
+use Rattle.std.specs.List.{AllByRecursion}
+use Rattle.std.specs.Prelude.{Bool, List, None, Option, Some, codes, false, length, true, ℕ, [], ◌≡◌, ◌≤◌}
+use Rattle.store_frame.specs.Held.{upload_at}
 use Rattle.exit_status.specs.declared.statuses.Status.TheVariants as statuses
-use Rattle.durable_store.specs.Stores.{fault_text}
-use Rattle.durable_store.specs.Works.{Work, Says, Saves}
-use Rattle.durable_store.specs.declared.held.Held.{Held}
-use Rattle.durable_store.specs.declared.held.Held.TheVariants.{Nothing, Store, Faulty}
 
 -- the commands that read the input
 abbrev pub takes_input : Command → Bool

@@ -1,27 +1,43 @@
 -- What each command does and says.
-use Rattle.std.specs.Prelude.{◌≡◌, ◌⊎◌, ℕ, nat_lt, Bool, true, false, List, [], length, codes, Option, Some, None, Result, Err}
-use Rattle.fs_ops.specs.Prelude.{Objects, Scene, answer, apply, without, MakeBucket, Reply, Refused, BadName, Path, GivesIn, AlwaysIn, created, MarkerPolicy, Keep, Delete, Stats, Reads, Lists, Creates, Makes, Deletes, Audits, Cleans, Fills, IsCleaning, IsFilling, FsRefusal, NoSuchBucket}
-use Rattle.std.specs.FinMap as fin
-use Rattle.s3_types.specs.declared.reply.Refusal.TheVariants.{BucketExists}
-use Rattle.fs_ops.specs.code.Delete as delete
-use Rattle.fs_ops.specs.code.Make as make
+use Rattle.bucket_ops.specs.Phases.{AlwaysIn, GivesIn}
+use Rattle.copy_tree.specs.Public.{StandsCopied}
+use Rattle.dir_markers.specs.Markers.{created}
+use Rattle.dir_markers.specs.declared.marker.MarkerPolicy.{MarkerPolicy}
+use Rattle.dir_markers.specs.declared.marker.MarkerPolicy.TheVariants.{Delete, Keep}
 use Rattle.fs_files.specs.Placed.{InFile, NoneLeft, object_of}
 use Rattle.fs_files.specs.code.Create.{IsUndone}
 use Rattle.fs_rename.specs.Public.{StandsWhole}
-use Rattle.copy_tree.specs.Public.{StandsCopied}
-use Rattle.s3a_words.specs.declared.command.Command.{Command}
-use Rattle.s3a_words.specs.declared.command.Command.TheVariants.{Mb, Ls, Stat, Cat, Put, PutForce, PutDrop, Mkdir, Mv, Cp, Rm, Rmr, Uploads, AbortUploads, Markers, CleanMarkers, FillMarkers}
-use Rattle.s3a_words.specs.Kinds.{kind_of, is_on_buckets, is_look}
-use Rattle.s3a_shell.specs.declared.said.Said.{Said}
-use Rattle.s3a_shell.specs.Texts.{status_line, entry_lines, marker_lines, cleaned_line, filled_line, bytes_alone, nothing, fine, refusing, said}
+use Rattle.fs_tree.specs.Answers.{Creates, Deletes, Lists, Makes, Reads, Stats}
+use Rattle.fs_tree.specs.MarkerTool.{Audits, Cleans, Fills, IsCleaning, IsFilling}
+use Rattle.fs_tree.specs.declared.answers.FsRefusal.{FsRefusal}
+use Rattle.fs_tree.specs.declared.answers.FsRefusal.TheVariants.{NoSuchBucket}
+use Rattle.path_keys.specs.Paths.{Path}
+use Rattle.s3_types.specs.Answer.{answer, apply, without}
+use Rattle.s3_types.specs.Store.{Objects, Scene}
+use Rattle.s3_types.specs.declared.reply.Refusal.TheVariants.{BadName, BucketExists}
+use Rattle.s3_types.specs.declared.reply.Reply.{Reply}
+use Rattle.s3_types.specs.declared.reply.Reply.TheVariants.{Refused}
+use Rattle.s3_types.specs.declared.request.Request.TheVariants.{MakeBucket}
+use Rattle.s3a_shell.specs.Moving.{DidCopy, DidMove, route}
 use Rattle.s3a_shell.specs.Sendings.{AppliedOrNot}
-use Rattle.s3a_shell.specs.Moving.{route, DidMove, DidCopy}
-use Rattle.s3a_shell.specs.Uploading.{DidList, DidAbort, AbortedSome}
+use Rattle.s3a_shell.specs.Texts.{bytes_alone, cleaned_line, entry_lines, filled_line, fine, marker_lines, nothing, refusing, said}
+use Rattle.s3a_shell.specs.Texts.{status_line}
+use Rattle.s3a_shell.specs.Uploading.{AbortedSome, DidAbort, DidList}
+use Rattle.s3a_shell.specs.declared.said.Said.{Said}
+use Rattle.s3a_words.specs.Kinds.{is_look, is_on_buckets, kind_of}
+use Rattle.s3a_words.specs.declared.command.Command.{Command}
+use Rattle.s3a_words.specs.declared.command.Command.TheVariants.{AbortUploads, Cat, CleanMarkers, Cp, FillMarkers, Ls, Markers, Mb, Mkdir}
+use Rattle.s3a_words.specs.declared.command.Command.TheVariants.{Mv, Put, PutDrop, PutForce, Rm, Rmr, Stat, Uploads}
+use Rattle.std.specs.Prelude.{Bool, Err, List, None, Option, Result, Some, codes, false, length, nat_lt, true, ℕ, [], ◌≡◌, ◌⊎◌}
+use Rattle.std.specs.FinMap as fin
+use Rattle.fs_ops.specs.code.Delete as delete
+use Rattle.fs_ops.specs.code.Make as make
 
 -- ---- on a path
 
 -- an operation was done on a path of the scene z, which left s, and its answer or refusal was said
-pub record Did {A : Type 0} (path : Path) (gives : Objects → Result A FsRefusal → Objects → Type 0) (text : A → List ℕ) (z : Scene) (what : Said) (s : Scene) : Type 0 where
+pub record Did {A : Type 0} (path : Path) (gives : Objects → Result A FsRefusal → Objects → Type 0) (text : A → List ℕ) (z : Scene)
+    (what : Said) (s : Scene) : Type 0 where
   pub answer : Result A FsRefusal
   pub given : GivesIn path.bucket gives (Err NoSuchBucket) z answer s
   pub told : what ≡ said text answer
@@ -33,13 +49,15 @@ abbrev pub most_input : ℕ
 most_input = 67108864
 
 -- a file was made, and the markers above it kept or deleted, or that was refused
-pub record Created (path : Path) (bytes : List ℕ) (overwrite : Bool) (policy : MarkerPolicy) (z : Scene) (what : Said) (s : Scene) : Type 0 where
-  pub answer : Result (Unit {0}) FsRefusal
-  pub given : InFile (fin.get z.content.buckets path.bucket) (λ m n. Creates path bytes overwrite policy m answer n) (answer ≡ Err NoSuchBucket) z path.bucket s
-  pub undone : IsUndone answer z s
-  -- no upload that was begun since is live
-  pub none : NoneLeft z path.bucket s
-  pub told : what ≡ said nothing answer
+pub record Created (path : Path) (bytes : List ℕ) (overwrite : Bool) (policy : MarkerPolicy) (z : Scene) (what : Said) (s : Scene) : Type 0
+  where
+    pub answer : Result (Unit {0}) FsRefusal
+    pub given : InFile (fin.get z.content.buckets path.bucket) (λ m n. Creates path bytes overwrite policy m answer n)
+        (answer ≡ Err NoSuchBucket) z path.bucket s
+    pub undone : IsUndone answer z s
+    -- no upload that was begun since is live
+    pub none : NoneLeft z path.bucket s
+    pub told : what ≡ said nothing answer
 
 -- unless the input is too large, which is refused before all else
 abbrev pub CreatedUnless : Bool → Path → List ℕ → Bool → MarkerPolicy → Scene → Said → Scene → Type 0

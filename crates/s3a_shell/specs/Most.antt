@@ -1,15 +1,21 @@
 -- A bound on how many requests each command sends, by what its bucket holds.
-use Rattle.std.specs.Prelude.{ℕ, ◌+◌, ◌*◌, true, List, [], length, None}
-use Rattle.fs_ops.specs.Prelude.{Objects, Scene, Path, below, listed, objects_at, all_below, keys_above, prefix_of, uploads_from}
-use Rattle.bucket_ops.specs.Uploads.{size}
+use Rattle.bucket_ops.specs.Asks.{objects_at}
+use Rattle.bucket_ops.specs.Uploads.{size, uploads_from}
+use Rattle.bucket_ops.specs.Walking.{all_below}
+use Rattle.copy_tree.specs.Public.{most_copies}
+use Rattle.dir_markers.specs.Markers.{keys_above}
+use Rattle.fs_ops.specs.Places.{prefix_of}
 use Rattle.fs_rename.specs.Between.{most_in}
 use Rattle.fs_rename.specs.Public.{most_moves}
-use Rattle.copy_tree.specs.Public.{most_copies}
-use Rattle.marker_tool.specs.Markers.{surplus_in, missing_in}
-use Rattle.s3a_words.specs.declared.command.Command.{Command}
-use Rattle.s3a_words.specs.declared.command.Command.TheVariants.{Mb, Ls, Stat, Cat, Put, PutForce, PutDrop, Mkdir, Mv, Cp, Rm, Rmr}
-use Rattle.s3a_words.specs.declared.command.Command.TheVariants.{Uploads, AbortUploads, Markers, CleanMarkers, FillMarkers}
+use Rattle.marker_tool.specs.Markers.{missing_in, surplus_in}
+use Rattle.path_keys.specs.Paths.{Path, below}
+use Rattle.s3_types.specs.Pages.{listed}
+use Rattle.s3_types.specs.Store.{Objects, Scene}
 use Rattle.s3a_shell.specs.Moving.{route}
+use Rattle.s3a_words.specs.declared.command.Command.{Command}
+use Rattle.s3a_words.specs.declared.command.Command.TheVariants.{AbortUploads, Cat, CleanMarkers, Cp, FillMarkers, Ls, Markers, Mb, Mkdir}
+use Rattle.s3a_words.specs.declared.command.Command.TheVariants.{Mv, Put, PutDrop, PutForce, Rm, Rmr, Stat, Uploads}
+use Rattle.std.specs.Prelude.{List, None, length, true, ℕ, [], ◌*◌, ◌+◌}
 
 -- ---- what is counted
 

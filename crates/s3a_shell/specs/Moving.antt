@@ -1,18 +1,26 @@
 -- Operations from one path to another one, renamings and copies: what is done and said.
-use Rattle.std.specs.Prelude.{◌≡◌, List, ℕ, ◌∷◌, [], ◌++◌, codes, Some, None, Result, Ok, Err}
-use Rattle.fs_ops.specs.Prelude.{decimal, Objects, Scene, Path, RenameRefusal, Renames, CopyRefusal, CopyCount, Copies}
+use Rattle.fs_rename.specs.Between.{GivesBetween, Route}
+use Rattle.fs_tree.specs.Copies.{Copies}
+use Rattle.fs_tree.specs.Renames.{Renames}
+use Rattle.fs_tree.specs.declared.copy.CopyCount.{CopyCount}
+use Rattle.fs_tree.specs.declared.copy.CopyRefusal.{CopyRefusal}
+use Rattle.fs_tree.specs.declared.rename.RenameRefusal.{RenameRefusal}
+use Rattle.path_keys.specs.Paths.{Path}
+use Rattle.s3_types.specs.Store.{Objects, Scene}
+use Rattle.s3a_shell.specs.Texts.{fine, refusing}
+use Rattle.s3a_shell.specs.declared.said.Said.{Said}
+use Rattle.std.specs.Fmt.{decimal}
+use Rattle.std.specs.Prelude.{Err, List, None, Ok, Result, Some, codes, ℕ, [], ◌++◌, ◌∷◌, ◌≡◌}
 use Rattle.fs_tree.specs.declared.rename.RenameRefusal.TheVariants as rename
 use Rattle.fs_tree.specs.declared.copy.CopyRefusal.TheVariants as copy
-use Rattle.fs_rename.specs.Between.{Route, GivesBetween}
-use Rattle.s3a_shell.specs.declared.said.Said.{Said}
-use Rattle.s3a_shell.specs.Texts.{fine, refusing}
 
 -- from one path to another one
 abbrev pub route : Path → Path → Route
 route from to = record { bucket = from.bucket; source = from.key; to_bucket = to.bucket; target = to.key }
 
 -- an operation was done in the scene z, which left s, or refused, and that was said
-pub record DidBetween {A : Type 0} (from to : Path) (gives : Objects → A → Objects → Type 0) (absent refused : A) (says : A → Said) (z : Scene) (what : Said) (s : Scene) : Type 0 where
+pub record DidBetween {A : Type 0} (from to : Path) (gives : Objects → A → Objects → Type 0) (absent refused : A) (says : A → Said)
+    (z : Scene) (what : Said) (s : Scene) : Type 0 where
   pub answer : A
   pub given : GivesBetween from.bucket to.bucket gives absent refused z answer s
   pub told : what ≡ says answer
@@ -39,7 +47,8 @@ said_of_move (Err refusal) = refused_move refusal
 
 -- a path was renamed
 abbrev pub DidMove : Path → Path → Scene → Said → Scene → Type 0
-DidMove from to z what s = DidBetween from to (Renames from.key to.key) (Err rename.NoSuchBucket) (Err rename.OtherBucket) said_of_move z what s
+DidMove from to z what s = DidBetween from to (Renames from.key to.key) (Err rename.NoSuchBucket) (Err rename.OtherBucket) said_of_move z
+    what s
 
 -- ---- copies
 

@@ -1,9 +1,20 @@
 -- What the shell sends.
-use Rattle.std.specs.Prelude.{◌≡◌, ◌⊎◌, ℕ, ◌≤◌, ◌+◌, ◌&&◌, Bool, true, false, not, List, ◌++◌, length, take}
-use Rattle.fs_ops.specs.Prelude.{AllByRecursion, list_any, Scene, AreHonest, after_all, apply, Shell, Request, Reply, Refused, Outcome, Answered, Entry}
-use Rattle.journal_log.specs.Prelude.{Slow, RequestLost, ReplyLost, is_changing}
-use Rattle.bucket_ops.specs.Prelude.{AreAnswered, AreBy}
+use Rattle.log_format.specs.Change.{is_changing}
+use Rattle.machine.specs.Counted.{AreAnswered}
+use Rattle.machine.specs.Turns.{AreBy}
+use Rattle.s3_types.specs.Answer.{apply}
+use Rattle.s3_types.specs.Moment.{AreHonest, after_all}
+use Rattle.s3_types.specs.Store.{Scene}
+use Rattle.s3_types.specs.declared.journal.Entry.{Entry}
+use Rattle.s3_types.specs.declared.journal.Outcome.{Outcome}
+use Rattle.s3_types.specs.declared.journal.Outcome.TheVariants.{Answered, ReplyLost, RequestLost, Slow}
+use Rattle.s3_types.specs.declared.reply.Reply.{Reply}
+use Rattle.s3_types.specs.declared.reply.Reply.TheVariants.{Refused}
+use Rattle.s3_types.specs.declared.request.Actor.TheVariants.{Shell}
+use Rattle.s3_types.specs.declared.request.Request.{Request}
 use Rattle.s3a_shell.specs.declared.session.Session.{Session}
+use Rattle.std.specs.List.{AllByRecursion, list_any}
+use Rattle.std.specs.Prelude.{Bool, List, false, length, not, take, true, ℕ, ◌&&◌, ◌++◌, ◌+◌, ◌≡◌, ◌≤◌, ◌⊎◌}
 
 -- a journal gained sendings by the shell, in event 0, each with the answer that was due, which lead from the scene z to s
 pub record Sends (always : Scene → Type 0) (old : List Entry) (z : Scene) (new : List Entry) (s : Scene) : Type 0 where

@@ -1,13 +1,16 @@
 -- What a command leaves as it was.
-use Rattle.std.specs.Prelude.{◌≡◌, ◌<◌, ◌≤◌, ℕ, List, Option, Some, None}
-use Rattle.fs_ops.specs.Prelude.{BucketContent, Content, UploadRef, Path, IsIn}
-use Rattle.std.specs.FinMap as fin
-use Rattle.store_frame.specs.Held.{upload_at}
+use Rattle.basics.specs.Members.{IsIn}
+use Rattle.path_keys.specs.Paths.{Path}
+use Rattle.s3_types.specs.Store.{BucketContent, Content}
+use Rattle.s3_types.specs.declared.request.UploadRef.{UploadRef}
+use Rattle.s3a_shell.specs.Uploading.{uploads_below}
+use Rattle.s3a_words.specs.Kinds.{kind_of, path_of}
 use Rattle.s3a_words.specs.declared.command.Command.{Command}
 use Rattle.s3a_words.specs.declared.command.CommandKind.{CommandKind}
 use Rattle.s3a_words.specs.declared.command.CommandKind.TheVariants.{Aborts}
-use Rattle.s3a_words.specs.Kinds.{kind_of, path_of}
-use Rattle.s3a_shell.specs.Uploading.{uploads_below}
+use Rattle.std.specs.Prelude.{List, None, Option, Some, ℕ, ◌<◌, ◌≡◌, ◌≤◌}
+use Rattle.store_frame.specs.Held.{upload_at}
+use Rattle.std.specs.FinMap as fin
 
 -- Every bucket but this one is as it was, and so are the uploads of this one that were begun before, but for those that are ended.
 pub record OnlyIn (bucket : List ℕ) (Ended : ℕ → Type 0) (c d : Content) : Type 0 where

@@ -1,8 +1,17 @@
 -- What the shell writes. Every line ends with LF.
-use Rattle.std.specs.Prelude.{ℕ, true, false, List, ◌∷◌, [], ◌++◌, codes, Option, Some, None, Result, Ok, Err}
-use Rattle.fs_ops.specs.Prelude.{decimal, flat_map, Status, Directory, File, DirEntry, FsRefusal, NotFound, AlreadyExists, NotDirectory, NotEmpty, IsRoot, NoSuchBucket, MarkerKind, Surplus, Leaf, Odd, MarkerEntry}
-use Rattle.fs_tree.specs.declared.answers.FsRefusal.TheVariants.{IsDirectory}
+use Rattle.dir_markers.specs.declared.status.Status.{Status}
+use Rattle.dir_markers.specs.declared.status.Status.TheVariants.{Directory, File}
+use Rattle.fs_tree.specs.declared.answers.DirEntry.{DirEntry}
+use Rattle.fs_tree.specs.declared.answers.FsRefusal.{FsRefusal}
+use Rattle.fs_tree.specs.declared.answers.FsRefusal.TheVariants.{AlreadyExists, IsDirectory, IsRoot, NoSuchBucket, NotDirectory, NotEmpty}
+use Rattle.fs_tree.specs.declared.answers.FsRefusal.TheVariants.{NotFound}
+use Rattle.fs_tree.specs.declared.markers.MarkerEntry.{MarkerEntry}
+use Rattle.fs_tree.specs.declared.markers.MarkerKind.{MarkerKind}
+use Rattle.fs_tree.specs.declared.markers.MarkerKind.TheVariants.{Leaf, Odd, Surplus}
 use Rattle.s3a_shell.specs.declared.said.Said.{Said}
+use Rattle.std.specs.Fmt.{decimal}
+use Rattle.std.specs.List.{flat_map}
+use Rattle.std.specs.Prelude.{Err, List, None, Ok, Option, Result, Some, codes, false, true, ℕ, [], ◌++◌, ◌∷◌}
 
 -- ---- answers
 

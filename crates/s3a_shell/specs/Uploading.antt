@@ -1,15 +1,22 @@
 -- What the commands on uploads do and say (Amazon S3 API: ListMultipartUploads, ListParts, AbortMultipartUpload).
-use Rattle.std.specs.Prelude.{◌≡◌, ℕ, List, [], ◌∷◌, ◌++◌, length, take, codes, Option, Some, None}
-use Rattle.fs_ops.specs.Prelude.{decimal, flat_map, Upload, BucketContent, Scene, live, answer, apply, Request, ListParts, AbortUpload, UploadRef, Reply, Path, below, IsIn}
-use Rattle.journal_log.specs.Prelude.{listed}
-use Rattle.s3_types.specs.Prelude.{sizes}
-use Rattle.std.specs.FinMap as fin
-use Rattle.std.specs.List.{sum_by}
-use Rattle.s3_types.specs.declared.reply.Reply.TheVariants.{Parts}
-use Rattle.s3_types.specs.declared.reply.PartSize.{PartSize}
+use Rattle.basics.specs.Members.{IsIn}
 use Rattle.fs_files.specs.Placed.{placed}
-use Rattle.s3a_shell.specs.declared.said.Said.{Said}
+use Rattle.path_keys.specs.Paths.{Path, below}
+use Rattle.s3_types.specs.Answer.{answer, apply}
+use Rattle.s3_types.specs.Multipart.{listed, live, sizes}
+use Rattle.s3_types.specs.Store.{BucketContent, Scene, Upload}
+use Rattle.s3_types.specs.declared.reply.PartSize.{PartSize}
+use Rattle.s3_types.specs.declared.reply.Reply.{Reply}
+use Rattle.s3_types.specs.declared.reply.Reply.TheVariants.{Parts}
+use Rattle.s3_types.specs.declared.request.Request.{Request}
+use Rattle.s3_types.specs.declared.request.Request.TheVariants.{AbortUpload, ListParts}
+use Rattle.s3_types.specs.declared.request.UploadRef.{UploadRef}
 use Rattle.s3a_shell.specs.Texts.{fine, refusing}
+use Rattle.s3a_shell.specs.declared.said.Said.{Said}
+use Rattle.std.specs.Fmt.{decimal}
+use Rattle.std.specs.List.{flat_map, sum_by}
+use Rattle.std.specs.Prelude.{List, None, Option, Some, codes, length, take, ℕ, [], ◌++◌, ◌∷◌, ◌≡◌}
+use Rattle.std.specs.FinMap as fin
 
 -- the live uploads below a path of a bucket, by key and then by id; at the root, all
 abbrev pub uploads_below : Path → BucketContent → List UploadRef
@@ -26,7 +33,8 @@ bytes_in parts = sum_by (λ p. p.length) parts
 
 -- `ID PARTS BYTES KEY`: the upload's id, how many parts it has, their bytes, and its key
 abbrev pub upload_line : UploadRef → List PartSize → List ℕ
-upload_line r parts = decimal r.upload ++ (codes " " ++ (decimal (length parts) ++ (codes " " ++ (decimal (bytes_in parts) ++ (codes " " ++ (r.key ++ 10 ∷ []))))))
+upload_line r parts = decimal r.upload ++ (codes " " ++ (decimal (length parts) ++
+    (codes " " ++ (decimal (bytes_in parts) ++ (codes " " ++ (r.key ++ 10 ∷ []))))))
 
 -- a line for each of them
 abbrev pub upload_lines : BucketContent → List UploadRef → List ℕ
@@ -60,7 +68,8 @@ pub record AreEnded (bucket : List ℕ) (c : BucketContent) (rs : List UploadRef
 -- what the abort of the live uploads below a path says and leaves, by what the bucket held
 abbrev pub AbortedIn : Option BucketContent → Path → Scene → Said → Scene → Type 0
 AbortedIn None path z what s = (what ≡ no_bucket) × (s ≡ z)
-AbortedIn (Some c) path z what s = (what ≡ fine (aborted_line (length (uploads_below path c)))) × AreEnded path.bucket c (uploads_below path c) z s
+AbortedIn (Some c) path z what s = (what ≡ fine (aborted_line (length (uploads_below path c))))
+    × AreEnded path.bucket c (uploads_below path c) z s
 
 -- the uploads were aborted
 abbrev pub DidAbort : Path → Scene → Said → Scene → Type 0

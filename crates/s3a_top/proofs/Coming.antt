@@ -1,13 +1,22 @@
 -- What comes of words, by what came of their command.
-use Rattle.s3a_top.proofs.Common.{Bool, Comes, Command, Counted, CrashesLeave, Err, Goes, IsAnswered, IsStopped, IsTimed, IsWritten}
-use Rattle.s3a_top.proofs.Common.{JobGoes, JobHalted, JobPlayed, JobSince, JobStopped, List, Load, MayHaveLeft, None, Ok, Option, Result}
-use Rattle.s3a_top.proofs.Common.{Sight, Some, Stop, StoreDone, StoreGoes, StoreHalted, StoreStopped, Work, code, false, inl, inr, plays}
-use Rattle.s3a_top.proofs.Common.{refl, subst, sym, true, written_text, ℕ, ◌≡◌, ◌⊎◌}
-use Rattle.s3a_top.specs.declared.stop.Stop.TheVariants.{Usage, NoMemory}
+use Rattle.exit_status.specs.Statuses.{code, written_text}
+use Rattle.s3a_shell.specs.Commanded.{plays}
 use Rattle.s3a_top.proofs.Crashing.{unmoved}
+use Rattle.s3a_top.proofs.Halting.{halted_told, job_halted, no_command, store_halted, told_counts, told_due, told_usage}
 use Rattle.s3a_top.proofs.Playing.{played_from}
-use Rattle.s3a_top.proofs.Telling.{tells_none, worked_usage, worked_due}
-use Rattle.s3a_top.proofs.Halting.{job_halted, halted_told, store_halted, no_command, told_counts, told_due, told_usage}
+use Rattle.s3a_top.proofs.Telling.{tells_none, worked_due, worked_usage}
+use Rattle.s3a_top.specs.Commands.{StoreDone, StoreStopped}
+use Rattle.s3a_top.specs.Jobs.{JobPlayed, JobStopped, MayHaveLeft}
+use Rattle.s3a_top.specs.Plays.{JobSince}
+use Rattle.s3a_top.specs.Workings.{Comes, Counted, Goes, IsAnswered, IsStopped, JobGoes, JobHalted, StoreGoes, StoreHalted}
+use Rattle.s3a_top.specs.Works.{IsWritten}
+use Rattle.s3a_top.specs.declared.stop.Stop.{Stop}
+use Rattle.s3a_top.specs.declared.stop.Stop.TheVariants.{NoMemory, Usage}
+use Rattle.s3a_top.specs.declared.work.Work.{Work}
+use Rattle.s3a_words.specs.declared.command.Command.{Command}
+use Rattle.shelf.specs.Logged.{CrashesLeave, IsTimed, Sight}
+use Rattle.shelf.specs.Logged.Call.{Load}
+use Rattle.std.proofs.Common.{Bool, Err, List, None, Ok, Option, Result, Some, false, inl, inr, refl, subst, sym, true, ℕ, ◌≡◌, ◌⊎◌}
 
 pub not_both : {A : Type 0} (b : Bool) → b ≡ true → b ≡ false → A
 not_both true is is_not = absurd (cc)
@@ -23,20 +32,25 @@ module _ {S : Type 0} (F : Sight S) (command : Command) (left rest : Option (Lis
   -- since its shelf was loaded, and before
   pub job_from : (result : Result Work Stop) → IsTimed F → (old mid new : S) → F.held mid ≡ F.held old → F.answers Load old mid
       → CrashesLeave F old mid (F.may_leave old) → JobSince F command left rest mid new result → JobGoes F command left rest old new result
-  job_from (Ok work) timed old mid new same answered load over = played_from F timed command left rest old mid new work same answered load over
-  job_from (Err stop) timed old mid new same answered load broke = job_halted F command left rest timed old mid new stop same answered load broke
+  job_from (Ok work) timed old mid new same answered load over = played_from F timed command left rest old mid new work same answered load
+      over
+  job_from (Err stop) timed old mid new same answered load broke = job_halted F command left rest timed old mid new stop same answered load
+      broke
 
-  pub goes_job : (result : Result Work Stop) (old new : S) → plays command ≡ true → JobGoes F command left rest old new result → Goes F command left rest old new result
+  pub goes_job : (result : Result Work Stop) (old new : S) → plays command ≡ true → JobGoes F command left rest old new result
+      → Goes F command left rest old new result
   goes_job result old new is goes = record { job = λ e. goes; store = λ e. not_both (plays command) is e }
 
-  pub goes_store : (result : Result Work Stop) (old new : S) → plays command ≡ false → StoreGoes F command left rest old new result → Goes F command left rest old new result
+  pub goes_store : (result : Result Work Stop) (old new : S) → plays command ≡ false → StoreGoes F command left rest old new result
+      → Goes F command left rest old new result
   goes_store result old new is goes = record { job = λ e. not_both (plays command) e is; store = λ e. goes }
 
   -- a stop is none of words that are no command
   none_usage : (old new : S) → Goes F command left rest old new (Err Usage) → ⊥
   none_usage old new goes = by (plays command) goes.job goes.store
     where
-      by : (b : Bool) → (b ≡ true → JobGoes F command left rest old new (Err Usage)) → (b ≡ false → StoreGoes F command left rest old new (Err Usage)) → ⊥
+      by : (b : Bool) → (b ≡ true → JobGoes F command left rest old new (Err Usage))
+          → (b ≡ false → StoreGoes F command left rest old new (Err Usage)) → ⊥
       by true job store = (job refl).cause
       by false job store = (store refl).reason
 
@@ -48,16 +62,19 @@ module _ {S : Type 0} (F : Sight S) (said : Option Command) (left rest : Option 
 
   abbrev IsJob : Work → Command → Type 0
   IsJob work c = plays c ≡ true
-      → JobPlayed F c left rest old new (code work.answer.due) work.answer.sent.entries work.told (IsWritten work.answer) ⊎ JobStopped F c left rest old new (code work.answer.due) work.answer.sent.entries work.told (IsWritten work.answer)
+      → JobPlayed F c left rest old new (code work.answer.due) work.answer.sent.entries work.told (IsWritten work.answer)
+      ⊎ JobStopped F c left rest old new (code work.answer.due) work.answer.sent.entries work.told (IsWritten work.answer)
 
   abbrev IsStore : Work → Command → Type 0
-  IsStore work c = plays c ≡ false → StoreDone F c left rest old new (code work.answer.due) work.answer.sent.entries (IsWritten work.answer) ⊎ StoreStopped F c left rest old new (code work.answer.due) work.answer.sent.entries (IsWritten work.answer)
+  IsStore work c = plays c ≡ false → StoreDone F c left rest old new (code work.answer.due) work.answer.sent.entries (IsWritten work.answer)
+      ⊎ StoreStopped F c left rest old new (code work.answer.due) work.answer.sent.entries (IsWritten work.answer)
 
   same : (command c : Command) → said ≡ Some command → said ≡ Some c → command ≡ c
   same command c is e = cc
 
   -- of a command
-  pub comes_of : (command : Command) (done : Result Work Stop) (work : Work) → said ≡ Some command → Goes F command left rest old new done → Counted done i j m n → IsAnswered done work → ComesOf work
+  pub comes_of : (command : Command) (done : Result Work Stop) (work : Work) → said ≡ Some command → Goes F command left rest old new done
+      → Counted done i j m n → IsAnswered done work → ComesOf work
   comes_of command (Ok done) work is goes counted answered = subst ComesOf (sym answered) (record {
     due = worked_due done.answer.due counted.own;
     read = counted.read;
@@ -76,11 +93,14 @@ module _ {S : Type 0} (F : Sight S) (said : Option Command) (left rest : Option 
         due = told_due stop due text stopped.told;
         read = told_counts 3 stop due text i j (λ e. cc) (λ e. cc) (λ e. cc) stopped.told counted.read;
         shelf = told_counts 5 stop due text m n (λ e. cc) (λ e. cc) (λ e. cc) stopped.told counted.shelf;
-        job = λ c e. subst (IsJob work) (same command c is e) (λ p. inr (halted_told F command left rest old new stop due text es work.told (goes.job p) stopped.told stopped.idle));
-        store = λ c e. subst (IsStore work) (same command c is e) (λ p. inr (store_halted F command left rest old new stop due text es work.told (goes.store p) stopped.told stopped.idle));
+        job = λ c e. subst (IsJob work) (same command c is e) (λ p. inr
+            (halted_told F command left rest old new stop due text es work.told (goes.job p) stopped.told stopped.idle));
+        store = λ c e. subst (IsStore work) (same command c is e) (λ p. inr
+            (store_halted F command left rest old new stop due text es work.told (goes.store p) stopped.told stopped.idle));
         quiet = λ c e p. stopped.idle.nothing;
         usage = λ e. not_said said command is e;
-        command = λ e. absurd (none_usage F command left rest old new (subst (λ (s : Stop). Goes F command left rest old new (Err s)) (told_usage stop due text stopped.told e) goes));
+        command = λ e. absurd (none_usage F command left rest old new (subst (λ (s : Stop). Goes F command left rest old new (Err s))
+            (told_usage stop due text stopped.told e) goes));
       }
 
 -- for a command there was no memory

@@ -1,7 +1,18 @@
 -- What crashes leave of a job and of a command, since the shelf was loaded and before.
-use Rattle.s3a_top.proofs.Common.{AreJobsOf, Command, Content, CrashesLeave, Held, Holding, IsFound, IsMoment, IsTimed, Jobs, List, MayHaveLeft, MightLeave, None, Opens, Option, Sight, Some, Stored, ap, fresh, image, inl, inr, opening_in, refl, started, sym, then_on, told_all, told_more, widened, ℕ, ⊎_elim, ◌∙◌, ◌≡◌, ◌⊎◌}
+use Rattle.durable_job.specs.declared.jobs.Jobs.{Jobs}
+use Rattle.durable_store.specs.Outcomes.{MightLeave}
 use Rattle.durable_store.specs.Stores.{found}
-use Rattle.durable_store.specs.Works.{Work, Says, Saves}
+use Rattle.durable_store.specs.Works.{Saves, Says, Work}
+use Rattle.durable_store.specs.declared.held.Held.{Held}
+use Rattle.journal_log.proofs.Leaving.{started, then_on, told_all, told_more, widened}
+use Rattle.journal_log.specs.Kept.{IsMoment}
+use Rattle.s3_types.specs.Store.{Content}
+use Rattle.s3a_top.specs.Jobs.{MayHaveLeft}
+use Rattle.s3a_top.specs.Openings.{AreJobsOf, IsFound, Opens, opening_in}
+use Rattle.s3a_words.specs.declared.command.Command.{Command}
+use Rattle.shelf.specs.Logged.{CrashesLeave, Holding, IsTimed, Sight, Stored, fresh}
+use Rattle.std.proofs.Common.{List, None, Option, Some, ap, inl, inr, refl, sym, ℕ, ⊎_elim, ◌∙◌, ◌≡◌, ◌⊎◌}
+use Rattle.store_image.specs.Image.{image}
 
 -- ---- what was found
 
@@ -9,7 +20,8 @@ pub as_found : (told : Option Stored) (before : Held) → ((s : Stored) → told
 as_found None before h = tt
 as_found (Some s) before h = h s refl
 
-pub opens_so : (told : Option Stored) (before : Held) (jobs : Jobs) (c : Content) → IsFound told before → opening_in before jobs ≡ Some c → Opens told jobs c
+pub opens_so : (told : Option Stored) (before : Held) (jobs : Jobs) (c : Content) → IsFound told before → opening_in before jobs ≡ Some c
+    → Opens told jobs c
 opens_so None before jobs c f e = tt
 opens_so (Some s) before jobs c f e = ap (λ (b : Held). opening_in b jobs) (sym f) ∙ e
 
@@ -19,9 +31,11 @@ might_first : (work : Work) (told : Option Stored) (P : Holding → Type 0) (h :
 might_first (Says d t es) told P h is = is
 might_first (Saves c text es) told P h is = told_all told (P h ⊎ IsMoment c es h) (inl is)
 
-might_more : (work : Work) (told : Option Stored) (P Q : Holding → Type 0) (h : Holding) → (P h → Q h) → MightLeave work told P h → MightLeave work told Q h
+might_more : (work : Work) (told : Option Stored) (P Q : Holding → Type 0) (h : Holding) → (P h → Q h) → MightLeave work told P h
+    → MightLeave work told Q h
 might_more (Says d t es) told P Q h f is = f is
-might_more (Saves c text es) told P Q h f is = told_more told (P h ⊎ IsMoment c es h) (Q h ⊎ IsMoment c es h) (λ o. ⊎_elim (λ l. inl (f l)) (λ m. inr m) o) is
+might_more (Saves c text es) told P Q h f is = told_more told (P h ⊎ IsMoment c es h) (Q h ⊎ IsMoment c es h)
+    (λ o. ⊎_elim (λ l. inl (f l)) (λ m. inr m) o) is
 
 -- ---- since the shelf was loaded, and before
 
@@ -31,28 +45,36 @@ module _ {S : Type 0} (F : Sight S) where
   unmoved s P timed f = started F s P (λ h left. f h (timed.only_now s h left))
 
   -- the shelf was loaded alone
-  pub loaded_alone : (old new : S) (command : Command) (told : Option Stored) (left rest : Option (List ℕ)) → CrashesLeave F old new (F.may_leave old) → CrashesLeave F old new (MayHaveLeft (F.may_leave old) command told left rest)
-  loaded_alone old new command told left rest load = widened F old new (F.may_leave old) (MayHaveLeft (F.may_leave old) command told left rest) load (λ h is. inl is)
+  pub loaded_alone : (old new : S) (command : Command) (told : Option Stored) (left rest : Option (List ℕ))
+      → CrashesLeave F old new (F.may_leave old) → CrashesLeave F old new (MayHaveLeft (F.may_leave old) command told left rest)
+  loaded_alone old new command told left rest load = widened F old new (F.may_leave old)
+      (MayHaveLeft (F.may_leave old) command told left rest) load (λ h is. inl is)
 
   -- the image of the opening store was to be put in place of what was held
-  pub image_left : (old new : S) (command : Command) (told : Option Stored) (left rest : Option (List ℕ)) (jobs : Jobs) (c : Content) → AreJobsOf command left rest jobs → Opens told jobs c → CrashesLeave F old new (λ h. F.may_leave old h ⊎ (h ≡ fresh (image c)))
+  pub image_left : (old new : S) (command : Command) (told : Option Stored) (left rest : Option (List ℕ)) (jobs : Jobs) (c : Content)
+      → AreJobsOf command left rest jobs → Opens told jobs c → CrashesLeave F old new (λ h. F.may_leave old h ⊎ (h ≡ fresh (image c)))
       → CrashesLeave F old new (MayHaveLeft (F.may_leave old) command told left rest)
   image_left old new command told left rest jobs c reads opens leaves =
-      widened F old new (λ h. F.may_leave old h ⊎ (h ≡ fresh (image c))) (MayHaveLeft (F.may_leave old) command told left rest) leaves (λ h is. ⊎_elim (λ l. inl l) (λ e. inr (jobs, (c, (reads, (opens, e))))) is)
+      widened F old new (λ h. F.may_leave old h ⊎ (h ≡ fresh (image c))) (MayHaveLeft (F.may_leave old) command told left rest) leaves
+      (λ h is. ⊎_elim (λ l. inl l) (λ e. inr (jobs, (c, (reads, (opens, e))))) is)
 
   module _ (timed : IsTimed F) where
     -- what one after the load may leave, one before it may
     pub earlier : (old mid : S) → CrashesLeave F old mid (F.may_leave old) → (h : Holding) → F.may_leave mid h → F.may_leave old h
     earlier old mid load h left = load.each h (timed.counts_now mid (F.moment old) h load.later left)
 
-    pub loaded_first : (old mid new : S) (command : Command) (told : Option Stored) (left rest : Option (List ℕ)) → CrashesLeave F old mid (F.may_leave old) → CrashesLeave F mid new (MayHaveLeft (F.may_leave mid) command told left rest)
+    pub loaded_first : (old mid new : S) (command : Command) (told : Option Stored) (left rest : Option (List ℕ))
+        → CrashesLeave F old mid (F.may_leave old) → CrashesLeave F mid new (MayHaveLeft (F.may_leave mid) command told left rest)
         → CrashesLeave F old new (MayHaveLeft (F.may_leave old) command told left rest)
     loaded_first old mid new command told left rest load leaves =
-        then_on F old mid new (F.may_leave old) (MayHaveLeft (F.may_leave mid) command told left rest) (MayHaveLeft (F.may_leave old) command told left rest) load leaves (λ h is. inl is)
+        then_on F old mid new (F.may_leave old) (MayHaveLeft (F.may_leave mid) command told left rest)
+        (MayHaveLeft (F.may_leave old) command told left rest) load leaves (λ h is. inl is)
         (λ h is. ⊎_elim (λ l. inl (earlier old mid load h l)) (λ o. inr o) is)
 
-    pub command_since : (old mid new : S) (work : Work) (told : Option Stored) → CrashesLeave F old mid (F.may_leave old) → CrashesLeave F mid new (MightLeave work told (F.may_leave mid))
+    pub command_since : (old mid new : S) (work : Work) (told : Option Stored) → CrashesLeave F old mid (F.may_leave old)
+        → CrashesLeave F mid new (MightLeave work told (F.may_leave mid))
         → CrashesLeave F old new (MightLeave work told (F.may_leave old))
     command_since old mid new work told load leaves =
-        then_on F old mid new (F.may_leave old) (MightLeave work told (F.may_leave mid)) (MightLeave work told (F.may_leave old)) load leaves (λ h is. might_first work told (F.may_leave old) h is)
+        then_on F old mid new (F.may_leave old) (MightLeave work told (F.may_leave mid)) (MightLeave work told (F.may_leave old)) load
+        leaves (λ h is. might_first work told (F.may_leave old) h is)
         (λ h is. might_more work told (F.may_leave mid) (F.may_leave old) h (earlier old mid load h) is)

@@ -1,13 +1,24 @@
 -- What comes of words, whether they ask for a trace or not.
-use Rattle.s3a_top.proofs.Common.{Bool, Comes, Command, Entry, IsDue, IsWritten, JobPlayed, JobStopped, List, NoCommand, None, Option}
-use Rattle.s3a_top.proofs.Common.{Sight, Some, StoreDone, StoreStopped, Tells, Told, Work, Writes, code, false, plays, refl, sym, true}
-use Rattle.s3a_top.proofs.Common.{written_text, ℕ, ◌∙◌, ◌≡◌, ◌⊎◌}
 use Rattle.durable_job.specs.Jobs.{nothing_told}
-use Rattle.s3a_words.specs.Words.{command_of}
-use Rattle.s3a_top.specs.Traces.{IsLoaded, JobTraced, Shows, StoreTraced, asks_trace, named_command, traced_command, traced_in}
+use Rattle.durable_job.specs.declared.jobs.Told.{Told}
+use Rattle.durable_store.specs.Outcomes.{Tells}
+use Rattle.exit_status.specs.Statuses.{code, written_text}
+use Rattle.s3_types.specs.declared.journal.Entry.{Entry}
+use Rattle.s3a_shell.specs.Commanded.{plays}
 use Rattle.s3a_top.proofs.Coming.{not_both, not_said}
 use Rattle.s3a_top.proofs.Naming.{named_said, named_trace, trace_no_command, traced_so, untraced}
 use Rattle.s3a_top.proofs.Outs.{comes_written, shows_written}
+use Rattle.s3a_top.specs.Commands.{NoCommand, StoreDone, StoreStopped}
+use Rattle.s3a_top.specs.Jobs.{JobPlayed, JobStopped}
+use Rattle.s3a_top.specs.Statuses.{IsDue, Writes}
+use Rattle.s3a_top.specs.Traces.{IsLoaded, JobTraced, Shows, StoreTraced, asks_trace, named_command, traced_command, traced_in}
+use Rattle.s3a_top.specs.Workings.{Comes}
+use Rattle.s3a_top.specs.Works.{IsWritten}
+use Rattle.s3a_top.specs.declared.work.Work.{Work}
+use Rattle.s3a_words.specs.Words.{command_of}
+use Rattle.s3a_words.specs.declared.command.Command.{Command}
+use Rattle.shelf.specs.Logged.{Sight}
+use Rattle.std.proofs.Common.{Bool, List, None, Option, Some, false, refl, sym, true, ℕ, ◌∙◌, ◌≡◌, ◌⊎◌}
 
 -- all that is said of the status, of what was done or traced, and of words that are no command
 pub record Ends {S : Type 0} (F : Sight S) (words : List (List ℕ)) (left rest : Option (List ℕ)) (old new : S) (i j m n status : ℕ)

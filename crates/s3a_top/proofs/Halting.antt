@@ -1,15 +1,34 @@
 -- What is told where the work stopped before anything was done.
-use Rattle.s3a_top.proofs.Common.{AreJobsOf, Command, Content, CrashesLeave, Entry, Err, Faulty, HasCause, HasReason, Held, IsDue, IsErrOf}
-use Rattle.s3a_top.proofs.Common.{IsFaulty, IsFound, IsIdle, IsMade, IsSoundly, IsTimed, IsToldOf, JobBroke, JobHalted, JobStopped, Jobs}
-use Rattle.s3a_top.proofs.Common.{List, Load, MayHaveLeft, NoCommand, None, NotReplaced, Opens, Option, ShelfStop, Sight, Some, Status}
-use Rattle.s3a_top.proofs.Common.{Stop, StoreHalted, StoreStopped, Stored, Tells, Told, ap, code, inl, inr, is_sound, memory_text, of_shelf}
-use Rattle.s3a_top.proofs.Common.{reads_jobs, refl, status_of, stop_text, subst, sym, true, usage_text, ℕ, ◌∙◌, ◌≡◌, ◌⊎◌}
-use Rattle.shelf.specs.declared.kept.ShelfStop.TheVariants as shelves
-use Rattle.exit_status.specs.declared.statuses.Status.TheVariants as statuses
-use Rattle.s3a_top.specs.declared.stop.Stop.TheVariants.{Usage, ReadFault, ShelfFault, Script as BadScript, Twins as BadTwins, Image, NoMemory}
-use Rattle.s3a_top.proofs.Crashing.{unmoved, image_left, loaded_alone, loaded_first}
+use Rattle.durable_job.specs.declared.jobs.Jobs.{Jobs}
+use Rattle.durable_job.specs.declared.jobs.Told.{Told}
+use Rattle.durable_store.specs.Outcomes.{Tells}
+use Rattle.durable_store.specs.declared.held.Held.{Held}
+use Rattle.durable_store.specs.declared.held.Held.TheVariants.{Faulty}
+use Rattle.exit_status.specs.Statuses.{code, memory_text, usage_text}
+use Rattle.exit_status.specs.declared.statuses.Status.{Status}
+use Rattle.journal_log.specs.Images.{NotReplaced}
+use Rattle.s3_types.specs.Store.{Content}
+use Rattle.s3_types.specs.declared.journal.Entry.{Entry}
+use Rattle.s3a_top.proofs.Crashing.{image_left, loaded_alone, loaded_first, unmoved}
 use Rattle.s3a_top.proofs.Pieces.{taken_part}
 use Rattle.s3a_top.proofs.Telling.{tells_none}
+use Rattle.s3a_top.specs.Commands.{HasReason, NoCommand, StoreStopped}
+use Rattle.s3a_top.specs.Jobs.{HasCause, IsFaulty, JobStopped, MayHaveLeft}
+use Rattle.s3a_top.specs.Openings.{AreJobsOf, IsFound, IsSoundly, Opens, is_sound, reads_jobs}
+use Rattle.s3a_top.specs.Plays.{JobBroke}
+use Rattle.s3a_top.specs.Statuses.{IsDue, IsIdle}
+use Rattle.s3a_top.specs.Stops.{of_shelf, status_of, stop_text}
+use Rattle.s3a_top.specs.Workings.{IsMade, IsToldOf, JobHalted, StoreHalted}
+use Rattle.s3a_top.specs.declared.stop.Stop.{Stop}
+use Rattle.s3a_top.specs.declared.stop.Stop.TheVariants.{Image, NoMemory, ReadFault, Script as BadScript, ShelfFault, Twins as BadTwins}
+use Rattle.s3a_top.specs.declared.stop.Stop.TheVariants.{Usage}
+use Rattle.s3a_words.specs.declared.command.Command.{Command}
+use Rattle.shelf.specs.Logged.{CrashesLeave, IsTimed, Sight, Stored}
+use Rattle.shelf.specs.Logged.Call.{Load}
+use Rattle.shelf.specs.declared.kept.ShelfStop.{ShelfStop}
+use Rattle.std.proofs.Common.{Err, IsErrOf, List, None, Option, Some, ap, inl, inr, refl, subst, sym, true, ℕ, ◌∙◌, ◌≡◌, ◌⊎◌}
+use Rattle.shelf.specs.declared.kept.ShelfStop.TheVariants as shelves
+use Rattle.exit_status.specs.declared.statuses.Status.TheVariants as statuses
 
 -- ---- causes, where it is told what the shelf held
 
@@ -17,7 +36,8 @@ pub sound_of : (told : Option Stored) (before : Held) → IsFound told before �
 sound_of None before f h = tt
 sound_of (Some s) before f h = subst is_sound f h
 
-pub faulty_of : (told : Option Stored) (before : Held) (number place : ℕ) → IsFound told before → before ≡ Faulty number place → IsFaulty told number place
+pub faulty_of : (told : Option Stored) (before : Held) (number place : ℕ) → IsFound told before → before ≡ Faulty number place
+    → IsFaulty told number place
 faulty_of None before number place f h = tt
 faulty_of (Some s) before number place f h = sym f ∙ h
 
@@ -33,16 +53,41 @@ module _ {S : Type 0} (F : Sight S) (command : Command) (left rest : Option (Lis
       → ((IsErrOf {T = Held} {E = ShelfStop} (Err fault) shelves.Failed → ⊥) → F.answers Load old new)
       → (IsErrOf {T = Held} {E = ShelfStop} (Err fault) shelves.Failed → F.fails Load old new)
       → JobHalted F command left rest old new (of_shelf fault)
-  load_halted old new shelves.Failed unread same leaves answered broken = record { cause = inl unread; same = same; calls = inr (inl (broken refl, unread)); leaves = loaded_alone F old new command (F.held old) left rest leaves }
-  load_halted old new shelves.NoMemory unread same leaves answered broken = record { cause = inl unread; same = same; calls = inr (inr (new, (answered (λ e. cc), inl refl))); leaves = loaded_alone F old new command (F.held old) left rest leaves }
+  load_halted old new shelves.Failed unread same leaves answered broken = record {
+    cause = inl unread;
+    same = same;
+    calls = inr (inl (broken refl, unread));
+    leaves = loaded_alone F old new command (F.held old) left
+        rest leaves;
+  }
+  load_halted old new shelves.NoMemory unread same leaves answered broken = record {
+    cause = inl unread;
+    same = same;
+    calls = inr (inr (new, (answered (λ e. cc), inl refl)));
+    leaves = loaded_alone F old new command
+        (F.held old) left rest leaves;
+  }
 
   -- nothing was called
   pub broke_at_once : (s : S) (stop : Stop) → IsTimed F → HasCause stop command (F.held s) left rest → JobBroke F command left rest s s stop
-  broke_at_once s stop timed cause = record { cause = cause; same = refl; calls = inl refl; leaves = unmoved F s (MayHaveLeft (F.may_leave s) command (F.held s) left rest) timed (λ h is. inl is) }
+  broke_at_once s stop timed cause = record {
+    cause = cause;
+    same = refl;
+    calls = inl refl;
+    leaves = unmoved F s
+        (MayHaveLeft (F.may_leave s) command (F.held s) left rest) timed (λ h is. inl is);
+  }
 
   -- the image of the opening store was not put there
-  pub not_begun : (old new : S) (stop : Stop) (jobs : Jobs) (c : Content) → HasCause stop command (F.held old) left rest → AreJobsOf command left rest jobs → Opens (F.held old) jobs c → NotReplaced F c old new → JobBroke F command left rest old new stop
-  not_begun old new stop jobs c cause reads opens not = record { cause = cause; same = not.same; calls = not.calls; leaves = image_left F old new command (F.held old) left rest jobs c reads opens not.leaves }
+  pub not_begun : (old new : S) (stop : Stop) (jobs : Jobs) (c : Content) → HasCause stop command (F.held old) left rest
+      → AreJobsOf command left rest jobs → Opens (F.held old) jobs c → NotReplaced F c old new → JobBroke F command left rest old new stop
+  not_begun old new stop jobs c cause reads opens not = record {
+    cause = cause;
+    same = not.same;
+    calls = not.calls;
+    leaves = image_left F
+        old new command (F.held old) left rest jobs c reads opens not.leaves;
+  }
 
   -- it stopped since
   pub job_halted : IsTimed F → (old mid new : S) (stop : Stop) → F.held mid ≡ F.held old → F.answers Load old mid
@@ -51,55 +96,101 @@ module _ {S : Type 0} (F : Sight S) (command : Command) (left rest : Option (Lis
     cause = subst (λ (o : Option Stored). HasCause stop command o left rest) same broke.cause;
     same = broke.same ∙ same;
     calls = inr (inr (mid, (answered, broke.calls)));
-    leaves = loaded_first F timed old mid new command (F.held old) left rest load (subst (λ (o : Option Stored). CrashesLeave F mid new (MayHaveLeft (F.may_leave mid) command o left rest)) same broke.leaves);
+    leaves = loaded_first F timed old mid new command (F.held old) left rest load
+        (subst (λ (o : Option Stored). CrashesLeave F mid new (MayHaveLeft (F.may_leave mid) command o left rest)) same broke.leaves);
   }
 
   reads_so : {c : Command} → command ≡ c → reads_jobs c ≡ true → reads_jobs command ≡ true
   reads_so e h = ap reads_jobs e ∙ h
 
   -- a stop whose text is made has a cause of want of memory too
-  made_cause : (stop : Stop) (told : Option Stored) → IsMade stop → HasCause stop command told left rest → HasCause NoMemory command told left rest
+  made_cause : (stop : Stop) (told : Option Stored) → IsMade stop → HasCause stop command told left rest
+      → HasCause NoMemory command told left rest
   made_cause (BadScript e) told m h = inr (h.0, (reads_so h.1.0 refl, taken_part left rest h.1.1.1.1))
   made_cause (BadTwins e) told m h = inr (h.0, (reads_so h.1.0 refl, taken_part left rest h.1.1.1.1))
   made_cause (Image number place) told m h = inl h.1
   made_cause _ told m h = absurd m
 
   -- and that was told
-  pub halted_told : (old new : S) (stop : Stop) (due : Status) (text : List ℕ) (es : List Entry) (told_so : Told) → JobHalted F command left rest old new stop → IsToldOf stop due text → IsIdle es told_so
+  pub halted_told : (old new : S) (stop : Stop) (due : Status) (text : List ℕ) (es : List Entry) (told_so : Told)
+      → JobHalted F command left rest old new stop → IsToldOf stop due text → IsIdle es told_so
       → JobStopped F command left rest old new (code due) es told_so (λ t. text ≡ t)
-  halted_told old new stop due text es told_so h (inl told) idle = record { stop = stop; status = ap code told.0; cause = h.cause; text = told.1; idle = idle; same = h.same; calls = h.calls; leaves = h.leaves }
-  halted_told old new stop due text es told_so h (inr told) idle = record { stop = NoMemory; status = ap code told.0; cause = made_cause stop (F.held old) told.1.1 h.cause; text = told.1.0; idle = idle; same = h.same; calls = h.calls; leaves = h.leaves }
+  halted_told old new stop due text es told_so h (inl told) idle = record {
+    stop = stop;
+    status = ap code told.0;
+    cause = h.cause;
+    text =
+        told.1;
+    idle = idle;
+    same = h.same;
+    calls = h.calls;
+    leaves = h.leaves;
+  }
+  halted_told old new stop due text es told_so h (inr told) idle = record {
+    stop = NoMemory;
+    status = ap code told.0;
+    cause = made_cause
+        stop (F.held old) told.1.1 h.cause;
+    text = told.1.0;
+    idle = idle;
+    same = h.same;
+    calls = h.calls;
+    leaves = h.leaves;
+  }
 
 -- ---- another command
 
 -- a stop whose text is its status's own is told by that
-own_told : (stop : Stop) (due : Status) (text : List ℕ) → (IsMade stop → ⊥) → IsToldOf stop due text → (code due ≡ code (status_of stop)) × (text ≡ stop_text stop)
+own_told : (stop : Stop) (due : Status) (text : List ℕ) → (IsMade stop → ⊥) → IsToldOf stop due text → (code due ≡ code (status_of stop))
+    × (text ≡ stop_text stop)
 own_told stop due text own (inl told) = (ap code told.0, told.1)
 own_told stop due text own (inr told) = absurd (own told.1.1)
 
-words_said : (stop : Stop) (due : Status) (text : List ℕ) → (stop ≡ Usage) ⊎ (stop ≡ NoMemory) → IsToldOf stop due text → ((code due ≡ 2) × (text ≡ usage_text)) ⊎ ((code due ≡ 9) × (text ≡ memory_text))
+words_said : (stop : Stop) (due : Status) (text : List ℕ) → (stop ≡ Usage) ⊎ (stop ≡ NoMemory) → IsToldOf stop due text
+    → ((code due ≡ 2) × (text ≡ usage_text)) ⊎ ((code due ≡ 9) × (text ≡ memory_text))
 words_said stop due text (inl e) told = inl (own_told Usage due text (λ h. h) (subst (λ (s : Stop). IsToldOf s due text) e told))
 words_said stop due text (inr e) told = inr (own_told NoMemory due text (λ h. h) (subst (λ (s : Stop). IsToldOf s due text) e told))
 
-own_reason : (stop : Stop) (command : Command) (told : Option Stored) (left rest : Option (List ℕ)) → HasReason stop command told left rest → IsMade stop → ⊥
+own_reason : (stop : Stop) (command : Command) (told : Option Stored) (left rest : Option (List ℕ)) → HasReason stop command told left rest
+    → IsMade stop → ⊥
 own_reason (BadScript e) command told left rest h m = h
 own_reason (BadTwins e) command told left rest h m = h
 own_reason (Image number place) command told left rest h m = h
 own_reason _ command told left rest h m = m
 
-pub store_halted : {S : Type 0} (F : Sight S) (command : Command) (left rest : Option (List ℕ)) (old new : S) (stop : Stop) (due : Status) (text : List ℕ) (es : List Entry) (told_so : Told) → StoreHalted F command left rest old new stop → IsToldOf stop due text → IsIdle es told_so → StoreStopped F command left rest old new (code due) es (λ t. text ≡ t)
+pub store_halted : {S : Type 0} (F : Sight S) (command : Command) (left rest : Option (List ℕ)) (old new : S) (stop : Stop) (due : Status)
+    (text : List ℕ) (es : List Entry) (told_so : Told) → StoreHalted F command left rest old new stop → IsToldOf stop due text
+    → IsIdle es told_so → StoreStopped F command left rest old new (code due) es (λ t. text ≡ t)
 store_halted F command left rest old new stop due text es told_so h told idle =
     let own = own_told stop due text (own_reason stop command (F.held old) left rest h.reason) told in
-    record { stop = stop; status = own.0; reason = h.reason; text = own.1; entries = idle.entries; same = h.same; calls = h.calls; leaves = h.leaves }
+    record {
+      stop = stop;
+      status = own.0;
+      reason = h.reason;
+      text = own.1;
+      entries = idle.entries;
+      same = h.same;
+      calls = h.calls;
+      leaves =
+          h.leaves;
+    }
 
-pub no_command : {S : Type 0} (old new : S) (stop : Stop) (due : Status) (text : List ℕ) (es : List Entry) (told_so : Told) → (stop ≡ Usage) ⊎ (stop ≡ NoMemory) → new ≡ old → IsToldOf stop due text → IsIdle es told_so → NoCommand (code due) old new es told_so (λ t. text ≡ t)
-no_command old new stop due text es told_so which same told idle = record { said = words_said stop due text which told; idle = idle; untouched = same }
+pub no_command : {S : Type 0} (old new : S) (stop : Stop) (due : Status) (text : List ℕ) (es : List Entry) (told_so : Told) → (stop ≡ Usage)
+    ⊎ (stop ≡ NoMemory) → new ≡ old → IsToldOf stop due text → IsIdle es told_so → NoCommand (code due) old new es told_so (λ t. text ≡ t)
+no_command old new stop due text es told_so which same told idle = record {
+  said = words_said stop due text which told;
+  idle = idle;
+  untouched = same;
+}
 
 -- ---- the status that is told
 
-pub told_counts : (status : ℕ) (stop : Stop) (due : Status) (text : List ℕ) (before after : ℕ) → (6 ≡ status → ⊥) → (7 ≡ status → ⊥) → (9 ≡ status → ⊥) → IsToldOf stop due text → Tells status (code (status_of stop)) before after → Tells status (code due) before after
-told_counts status stop due text before after six seven nine (inl told) h = subst (λ (s : Status). Tells status (code s) before after) (sym told.0) h
-told_counts status stop due text before after six seven nine (inr told) h = subst (λ (s : Status). Tells status (code s) before after) (sym told.0) (tells_none status 9 before after nine (by stop told.1.1 h))
+pub told_counts : (status : ℕ) (stop : Stop) (due : Status) (text : List ℕ) (before after : ℕ) → (6 ≡ status → ⊥) → (7 ≡ status → ⊥)
+    → (9 ≡ status → ⊥) → IsToldOf stop due text → Tells status (code (status_of stop)) before after → Tells status (code due) before after
+told_counts status stop due text before after six seven nine (inl told) h = subst (λ (s : Status). Tells status (code s) before after)
+    (sym told.0) h
+told_counts status stop due text before after six seven nine (inr told) h = subst (λ (s : Status). Tells status (code s) before after)
+    (sym told.0) (tells_none status 9 before after nine (by stop told.1.1 h))
   where
     by : (s : Stop) → IsMade s → Tells status (code (status_of s)) before after → after ≡ before
     by (BadScript e) m t = t.stands six

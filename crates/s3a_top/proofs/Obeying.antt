@@ -1,23 +1,39 @@
 -- What comes of a command but a job.
-use Rattle.s3a_top.proofs.Common.{Answer, Bool, CallsBy, Command, CrashesLeave, Entry, Err, Faulty, HasImages, HasReason, HasReasonIn, Held}
-use Rattle.s3a_top.proofs.Common.{IsAnswer, IsDurable, IsDurableNow, IsErrOf, IsFound, IsHeld, IsInput, IsQuiet, IsSound, IsTimed, IsWork}
-use Rattle.s3a_top.proofs.Common.{IsWorked, IsWritten, List, Load, MightLeave, Nothing, Ok, Option, Result, ShelfStop, Sight, Status, Stop}
-use Rattle.s3a_top.proofs.Common.{Store, StoreGoes, StoreHalted, StoreOver, StoreSince, Stored, WhereSound, Work, WorkDone, false, inl, inr}
-use Rattle.s3a_top.proofs.Common.{is_sound, of_shelf, reads_input, refl, subst, sym, takes_input, true, ℕ, ◌≡◌}
-use Rattle.durable_store.specs.Works.{Work as Doing, IsSaid, IsPlain}
-use Rattle.exit_status.specs.declared.statuses.Status.TheVariants as statuses
+use Rattle.durable_store.specs.Outcomes.{CallsBy, HasImages, IsAnswer, IsDurableNow, IsHeld, IsSound, MightLeave, WhereSound}
 use Rattle.durable_store.specs.Outcomes.IsAnswer.{said, saved}
-use Rattle.shelf.specs.declared.kept.ShelfStop.TheVariants as shelves
-use Rattle.s3a_top.specs.declared.stop.Stop.TheVariants.{ReadFault, NoMemory}
+use Rattle.durable_store.specs.Works.{IsPlain, IsSaid, Work as Doing}
+use Rattle.durable_store.specs.declared.held.Held.{Held}
+use Rattle.durable_store.specs.declared.held.Held.TheVariants.{Faulty, Nothing, Store}
+use Rattle.durable_store.specs.declared.work.Answer.{Answer}
+use Rattle.exit_status.specs.declared.statuses.Status.{Status}
+use Rattle.s3_types.specs.declared.journal.Entry.{Entry}
+use Rattle.s3a_shell.specs.Commanded.{IsWork, takes_input}
 use Rattle.s3a_top.proofs.Crashing.{command_since}
-use Rattle.s3a_top.proofs.Pieces.{read_taken, taken_part}
 use Rattle.s3a_top.proofs.Halting.{sound_of}
+use Rattle.s3a_top.proofs.Pieces.{read_taken, taken_part}
 use Rattle.s3a_top.proofs.Untouched.{untouched_of}
+use Rattle.s3a_top.specs.Commands.{HasReason, IsInput, WorkDone, reads_input}
+use Rattle.s3a_top.specs.Openings.{IsFound, is_sound}
+use Rattle.s3a_top.specs.Statuses.{IsWorked}
+use Rattle.s3a_top.specs.Stops.{of_shelf}
+use Rattle.s3a_top.specs.Workings.{HasReasonIn, IsQuiet, StoreGoes, StoreHalted, StoreOver, StoreSince}
+use Rattle.s3a_top.specs.Works.{IsWritten}
+use Rattle.s3a_top.specs.declared.stop.Stop.{Stop}
+use Rattle.s3a_top.specs.declared.stop.Stop.TheVariants.{NoMemory, ReadFault}
+use Rattle.s3a_top.specs.declared.work.Work.{Work}
+use Rattle.s3a_words.specs.declared.command.Command.{Command}
+use Rattle.shelf.specs.Logged.{CrashesLeave, IsDurable, IsTimed, Sight, Stored}
+use Rattle.shelf.specs.Logged.Call.{Load}
+use Rattle.shelf.specs.declared.kept.ShelfStop.{ShelfStop}
+use Rattle.std.proofs.Common.{Bool, Err, IsErrOf, List, Ok, Option, Result, false, inl, inr, refl, subst, sym, true, ℕ, ◌≡◌}
+use Rattle.exit_status.specs.declared.statuses.Status.TheVariants as statuses
+use Rattle.shelf.specs.declared.kept.ShelfStop.TheVariants as shelves
 
 -- ---- what was done
 
 -- the statuses of answers are none of a failed input
-pub answer_own : (work : Doing) (due : Status) (text : Option (List ℕ)) (es : List Entry) → IsAnswer work due text es → IsPlain work → IsWorked due
+pub answer_own : (work : Doing) (due : Status) (text : Option (List ℕ)) (es : List Entry) → IsAnswer work due text es → IsPlain work
+    → IsWorked due
 answer_own _ _ _ _ (said d t es) plain = said_own d plain
   where
     said_own : (s : Status) → IsSaid s → IsWorked s
@@ -29,8 +45,12 @@ answer_own _ _ _ _ (saved c t es) plain = tt
 answer_own _ _ _ _ _ plain = tt
 
 module _ {S : Type 0} (F : Sight S) where
-  pub over_of : (command : Command) (before : Held) (left rest : Option (List ℕ)) (bytes : List ℕ) (work : Doing) (old new : S) (answer : Answer) (done : Work) → IsInput (reads_input command before) left rest bytes → IsWork command bytes before work → IsAnswer work answer.due answer.text answer.sent.entries
-      → IsHeld work answer.due (F.held old) (F.held new) → CrashesLeave F old new (MightLeave work (F.held new) (F.may_leave old)) → IsDurableNow work answer.due (F.held new) (F.may_leave new) → HasImages work → CallsBy F work answer.due old new → done.answer ≡ answer → IsQuiet done
+  pub over_of : (command : Command) (before : Held) (left rest : Option (List ℕ)) (bytes : List ℕ) (work : Doing) (old new : S)
+      (answer : Answer) (done : Work) → IsInput (reads_input command before) left rest bytes → IsWork command bytes before work
+      → IsAnswer work answer.due answer.text answer.sent.entries
+      → IsHeld work answer.due (F.held old) (F.held new) → CrashesLeave F old new (MightLeave work (F.held new) (F.may_leave old))
+      → IsDurableNow work answer.due (F.held new) (F.may_leave new) → HasImages work → CallsBy F work answer.due old new
+      → done.answer ≡ answer → IsQuiet done
       → StoreSince F command before left rest old new (Ok done)
   over_of command before left rest bytes work old new answer done input does answers holds leaves durable images calls is quiet = (
     subst (StoreOver F command before left rest old new) (sym is) (record {
@@ -38,14 +58,23 @@ module _ {S : Type 0} (F : Sight S) where
       input = input;
       work = work;
       does = does;
-      done = record { text = answer.text; answer = answers; said = refl; holds = holds; leaves = leaves; durable = durable; images = images };
+      done = record {
+        text = answer.text;
+        answer = answers;
+        said = refl;
+        holds = holds;
+        leaves = leaves;
+        durable = durable;
+        images = images;
+      };
       calls = calls;
     }),
     quiet,
   )
 
   -- since the shelf was loaded, and before
-  work_from : IsTimed F → (work : Doing) (old mid new : S) (status : Status) (es : List Entry) (Told : List ℕ → Type 0) → F.held mid ≡ F.held old → CrashesLeave F old mid (F.may_leave old)
+  work_from : IsTimed F → (work : Doing) (old mid new : S) (status : Status) (es : List Entry) (Told : List ℕ → Type 0)
+      → F.held mid ≡ F.held old → CrashesLeave F old mid (F.may_leave old)
       → WorkDone F work mid new status es Told → WorkDone F work old new status es Told
   work_from timed work old mid new status es Told same load h = record {
     text = h.text;
@@ -67,11 +96,13 @@ reason_of NoMemory command told before left rest f (inr h) = inr (sound_of told 
 reason_of _ command told before left rest f h = absurd h
 
 -- memory was wanting behind the input
-wanting_behind : (takes : Bool) (command : Command) (before : Held) (left rest : Option (List ℕ)) (bytes : List ℕ) → is_sound before → takes_input command ≡ takes → IsInput takes left rest bytes → HasReasonIn NoMemory command before left rest
+wanting_behind : (takes : Bool) (command : Command) (before : Held) (left rest : Option (List ℕ)) (bytes : List ℕ) → is_sound before
+    → takes_input command ≡ takes → IsInput takes left rest bytes → HasReasonIn NoMemory command before left rest
 wanting_behind true command before left rest bytes sound e h = inr (sound, (e, taken_part left rest (read_taken left rest bytes h)))
 wanting_behind false command before left rest bytes sound e h = inl h.1
 
-pub wanting_reason : (command : Command) (before : Held) (left rest : Option (List ℕ)) (bytes : List ℕ) → IsInput (reads_input command before) left rest bytes → HasReasonIn NoMemory command before left rest
+pub wanting_reason : (command : Command) (before : Held) (left rest : Option (List ℕ)) (bytes : List ℕ)
+    → IsInput (reads_input command before) left rest bytes → HasReasonIn NoMemory command before left rest
 wanting_reason command Nothing left rest bytes h = wanting_behind (takes_input command) command Nothing left rest bytes tt refl h
 wanting_reason command (Store c) left rest bytes h = wanting_behind (takes_input command) command (Store c) left rest bytes tt refl h
 wanting_reason command (Faulty number place) left rest bytes h = inl h.1
@@ -84,8 +115,10 @@ module _ {S : Type 0} (F : Sight S) (command : Command) (left rest : Option (Lis
       → ((IsErrOf {T = Held} {E = ShelfStop} (Err fault) shelves.Failed → ⊥) → F.answers Load old new)
       → (IsErrOf {T = Held} {E = ShelfStop} (Err fault) shelves.Failed → F.fails Load old new)
       → StoreHalted F command left rest old new (of_shelf fault)
-  load_stopped old new shelves.Failed unread same leaves answered broken = record { reason = unread; same = same; calls = inr (inl (broken refl)); leaves = leaves }
-  load_stopped old new shelves.NoMemory unread same leaves answered broken = record { reason = inl unread; same = same; calls = inr (inr (answered (λ e. cc))); leaves = leaves }
+  load_stopped old new shelves.Failed unread same leaves answered broken = record
+      { reason = unread; same = same; calls = inr (inl (broken refl)); leaves = leaves }
+  load_stopped old new shelves.NoMemory unread same leaves answered broken = record
+      { reason = inl unread; same = same; calls = inr (inr (answered (λ e. cc))); leaves = leaves }
 
   pub store_from : (result : Result Work Stop) → IsTimed F → (before : Held) (old mid new : S) → IsFound (F.held old) before
       → IsSound before → F.held mid ≡ F.held old → F.answers Load old mid → CrashesLeave F old mid (F.may_leave old)
@@ -103,7 +136,8 @@ module _ {S : Type 0} (F : Sight S) (command : Command) (left rest : Option (Lis
           does = over.does;
           status = work.answer.due;
           due_is = refl;
-          done = work_from F timed over.work old mid new work.answer.due work.answer.sent.entries (IsWritten work.answer) same load over.done;
+          done = work_from F timed over.work old mid new work.answer.due work.answer.sent.entries (IsWritten work.answer) same load
+              over.done;
           loaded = mid;
           load = answered;
           lasts = lasts;
@@ -115,4 +149,9 @@ module _ {S : Type 0} (F : Sight S) (command : Command) (left rest : Option (Lis
       )
   store_from (Err stop) timed before old mid new found sound same answered load lasts since =
       subst (λ (s : S). StoreHalted F command left rest old s stop) (sym since.1)
-      (record { reason = reason_of stop command (F.held old) before left rest found since.0; same = same; calls = inr (inr answered); leaves = load })
+      (record {
+        reason = reason_of stop command (F.held old) before left rest found since.0;
+        same = same;
+        calls = inr (inr answered);
+        leaves = load;
+      })

@@ -1,16 +1,32 @@
 -- What is promised of jobs that were played.
-use Rattle.s3a_top.proofs.Common.{AreFinished, AreJobsOf, Command, Content, CrashesLeave, Entry, Failed, HasEarlier, Holding, Holds}
-use Rattle.s3a_top.proofs.Common.{HoldsPart, IsContent, IsKept, IsLast, IsMoment, IsReported, IsTimed, IsTold, IsWritten, JobCut, JobEnded}
-use Rattle.s3a_top.proofs.Common.{JobOver, JobPlayed, JobRan, Jobs, List, Load, NoMemory, None, Opens, Option, ShelfStop, Sight, Some}
-use Rattle.s3a_top.proofs.Common.{Stored, Told, WhereTold, Work, [], ap, append_assoc, arith, code, inl, inr, job_text, length, memory_text}
-use Rattle.s3a_top.proofs.Common.{refl, subst, survives, sym, verdict_of, written_text, ℕ, ⊎_elim, ◌++◌, ◌∙◌, ◌∷◌, ◌≡◌, ◌⊎◌}
-use Rattle.journal_log.specs.Changes.{changes}
-use Rattle.journal_log.specs.Kept.{IsToEnd}
-use Rattle.journal_log.proofs.Journals.{changes_append}
-use Rattle.journal_log.proofs.Standing.{begins_all, last}
+use Rattle.durable_job.specs.Jobs.{AreFinished, verdict_of}
 use Rattle.durable_job.specs.Pace.{LacksSince}
-use Rattle.durable_job.specs.Played.{HaveEventsLeft, IsPlayed, IsHeld}
+use Rattle.durable_job.specs.Played.{HaveEventsLeft, IsHeld, IsPlayed}
+use Rattle.durable_job.specs.declared.jobs.Jobs.{Jobs}
+use Rattle.durable_job.specs.declared.jobs.Told.{Told}
 use Rattle.durable_job.specs.declared.playing.Kept.{Kept}
+use Rattle.exit_status.specs.Statuses.{code, memory_text, written_text}
+use Rattle.journal_log.proofs.Journals.{changes_append}
+use Rattle.journal_log.proofs.Leaving.{survives}
+use Rattle.journal_log.proofs.Standing.{begins_all, last}
+use Rattle.journal_log.specs.Changes.{changes}
+use Rattle.journal_log.specs.Crashes.{IsLast, WhereTold}
+use Rattle.journal_log.specs.Kept.{HasEarlier, Holds, HoldsPart, IsKept, IsMoment, IsToEnd}
+use Rattle.s3_types.specs.Store.{Content}
+use Rattle.s3_types.specs.declared.journal.Entry.{Entry}
+use Rattle.s3a_top.specs.Jobs.{JobCut, JobEnded, JobPlayed, JobRan, job_text}
+use Rattle.s3a_top.specs.Openings.{AreJobsOf, Opens}
+use Rattle.s3a_top.specs.Plays.{IsReported, IsTold, JobOver}
+use Rattle.s3a_top.specs.Works.{IsWritten}
+use Rattle.s3a_top.specs.declared.work.Work.{Work}
+use Rattle.s3a_words.specs.declared.command.Command.{Command}
+use Rattle.shelf.specs.Logged.{CrashesLeave, Holding, IsTimed, Sight, Stored}
+use Rattle.shelf.specs.Logged.Call.{Load}
+use Rattle.shelf.specs.declared.kept.ShelfStop.{ShelfStop}
+use Rattle.shelf.specs.declared.kept.ShelfStop.TheVariants.{Failed, NoMemory}
+use Rattle.std.proofs.Common.{List, None, Option, Some, ap, append_assoc, arith, inl, inr, length, refl, subst, sym, ℕ, [], ⊎_elim, ◌++◌}
+use Rattle.std.proofs.Common.{◌∙◌, ◌∷◌, ◌≡◌, ◌⊎◌}
+use Rattle.store_image.specs.Content.{IsContent}
 
 -- ---- what is kept
 
@@ -38,7 +54,8 @@ module _ {S : Type 0} (F : Sight S) where
       → JobCut F jobs c loaded new due es told Says → (due ≡ 5) ⊎ (due ≡ 9)
   short_due jobs c loaded new due es told Says h = ⊎_elim (λ e. inl e.0) (λ e. inr e.0) h.said
 
-  module _ (command : Command) (jobs : Jobs) (c : Content) (loaded new : S) (due : ℕ) (es : List Entry) (told : Told) (Says : List ℕ → Type 0)
+  module _ (command : Command) (jobs : Jobs) (c : Content) (loaded new : S) (due : ℕ) (es : List Entry) (told : Told)
+      (Says : List ℕ → Type 0)
       (ended : JobEnded F command jobs c loaded new due es told Says ⊎ JobCut F jobs c loaded new due es told Says) where
     pub is_kept : IsKept due (F.held new) c es
     is_kept = record {
@@ -69,17 +86,22 @@ played_from F timed command left rest old loaded new work same answered load ove
       ran = over.ran;
       kept = is_kept F command over.jobs over.opening loaded new due es work.told (IsWritten work.answer) over.ran.ended;
       survives = record {
-        within = λ h left. (survives F timed over.opening es (F.held new) old loaded over.mid new load over.replaced over.appended).each h left;
+        within = λ h left. (survives F timed over.opening es (F.held new) old loaded over.mid new load over.replaced over.appended).each h
+            left;
         behind = last_is F command over.jobs over.opening loaded new due es work.told (IsWritten work.answer) over.ran.ended;
       };
     }
 
 -- ---- what is kept of a run, and what is said of it
 
-module _ {S : Type 0} (F : Sight S) (command : Command) (jobs : Jobs) (c : Content) (kept : Kept) (old new : S) (due : ℕ) (text : List ℕ) (played : IsPlayed F jobs c kept old new) (image : IsContent c) where
-  said_whole : IsReported command kept due text → ((due ≡ verdict_of jobs kept.told) × (text ≡ job_text command due (length kept.journal.entries) kept.told jobs)) ⊎ ((due ≡ 9) × (text ≡ memory_text))
-  said_whole told = subst (λ (n : ℕ). ((due ≡ n) × (text ≡ job_text command due (length kept.journal.entries) kept.told jobs)) ⊎ ((due ≡ 9) × (text ≡ memory_text))) played.verdict
-      (subst (λ (j : Jobs). ((due ≡ kept.verdict) × (text ≡ job_text command due (length kept.journal.entries) kept.told j)) ⊎ ((due ≡ 9) × (text ≡ memory_text))) played.jobs_are told)
+module _ {S : Type 0} (F : Sight S) (command : Command) (jobs : Jobs) (c : Content) (kept : Kept) (old new : S) (due : ℕ) (text : List ℕ)
+    (played : IsPlayed F jobs c kept old new) (image : IsContent c) where
+  said_whole : IsReported command kept due text → ((due ≡ verdict_of jobs kept.told)
+      × (text ≡ job_text command due (length kept.journal.entries) kept.told jobs)) ⊎ ((due ≡ 9) × (text ≡ memory_text))
+  said_whole told = subst (λ (n : ℕ). ((due ≡ n) × (text ≡ job_text command due (length kept.journal.entries) kept.told jobs))
+      ⊎ ((due ≡ 9) × (text ≡ memory_text))) played.verdict
+      (subst (λ (j : Jobs). ((due ≡ kept.verdict) × (text ≡ job_text command due (length kept.journal.entries) kept.told j))
+      ⊎ ((due ≡ 9) × (text ≡ memory_text))) played.jobs_are told)
 
   ended_so : (stop : Option ShelfStop) → IsHeld F c kept.journal.entries stop old new
       → (stop ≡ None → AreFinished jobs c kept.journal.entries kept.told)
@@ -111,15 +133,20 @@ module _ {S : Type 0} (F : Sight S) (command : Command) (jobs : Jobs) (c : Conte
   }
 
   -- where this is what was sent and told
-  pub ran_of : (es : List Entry) (told : Told) → es ≡ kept.journal.entries → told ≡ kept.told → IsTold kept.stop command kept due text → JobRan F command jobs c old new due es told (λ t. text ≡ t)
+  pub ran_of : (es : List Entry) (told : Told) → es ≡ kept.journal.entries → told ≡ kept.told → IsTold kept.stop command kept due text
+      → JobRan F command jobs c old new due es told (λ t. text ≡ t)
   ran_of es told sent same is =
       let Says : List ℕ → Type 0 = λ t. text ≡ t in
       subst (λ (l : List Entry). JobRan F command jobs c old new due l told Says) (sym sent)
       (subst (λ (x : Told). JobRan F command jobs c old new due kept.journal.entries x Says) (sym same) (ran_so is))
 
 -- jobs that were played, by what is answered to them
-pub over_of : {S : Type 0} (F : Sight S) (command : Command) (left rest : Option (List ℕ)) (jobs : Jobs) (c : Content) (kept : Kept) (old new : S) (work : Work) → AreJobsOf command left rest jobs → Opens (F.held old) jobs c → IsPlayed F jobs c kept old new → IsContent c
-    → work.answer.sent ≡ kept.journal → work.told ≡ kept.told → IsTold kept.stop command kept (code work.answer.due) (written_text work.answer.due work.answer.text) → JobOver F command left rest old new work
+pub over_of : {S : Type 0} (F : Sight S) (command : Command) (left rest : Option (List ℕ)) (jobs : Jobs) (c : Content) (kept : Kept)
+    (old new : S) (work : Work) → AreJobsOf command left rest jobs → Opens (F.held old) jobs c → IsPlayed F jobs c kept old new
+    → IsContent c
+    → work.answer.sent ≡ kept.journal → work.told ≡ kept.told
+    → IsTold kept.stop command kept (code work.answer.due) (written_text work.answer.due work.answer.text)
+    → JobOver F command left rest old new work
 over_of F command left rest jobs c kept old new work reads opens played image sent told is =
     let es : work.answer.sent.entries ≡ kept.journal.entries = ap (λ j. j.entries) sent in
     let survived = played.survives in
@@ -128,8 +155,10 @@ over_of F command left rest jobs c kept old new work reads opens played image se
       opening = c;
       reads = reads;
       opens = opens;
-      ran = ran_of F command jobs c kept old new (code work.answer.due) (written_text work.answer.due work.answer.text) played image work.answer.sent.entries work.told es told is;
+      ran = ran_of F command jobs c kept old new (code work.answer.due) (written_text work.answer.due work.answer.text) played image
+          work.answer.sent.entries work.told es told is;
       mid = survived.0;
       replaced = survived.1.0;
-      appended = subst (λ (l : List Entry). CrashesLeave F survived.0 new (λ h. WhereTold (F.held new) (IsMoment c l h))) (sym es) survived.1.1;
+      appended = subst (λ (l : List Entry). CrashesLeave F survived.0 new (λ h. WhereTold (F.held new) (IsMoment c l h))) (sym es)
+          survived.1.1;
     }

@@ -1,19 +1,30 @@
 -- What was read of the input, and what it is.
-use Rattle.s3a_top.proofs.Common.{AreJobsIn, AreJobsOf, Bool, Err, IsAllRead, IsFaultOf, IsRead, Jobs, List, None, Ok, One, Option, Result, Script, Some, TakesPart, Two, ap, arith, drop_all, false, length, length-take-le, lit≤, nat_le, nat_tests, reader, refl, sym, take, take_all, true, ℕ, ◌<◌, ◌∙◌, ◌≡◌, ◌≢◌, ◌≤◌}
-use Rattle.s3_types.specs.Prelude.{Fails}
-use Rattle.job_script.specs.Fault as script
+use Rattle.basics.specs.Reading.{Fails}
+use Rattle.durable_job.specs.declared.jobs.Jobs.{Jobs}
+use Rattle.durable_job.specs.declared.jobs.Jobs.TheVariants.{One, Two}
+use Rattle.job_model.specs.JobScript.{Script}
 use Rattle.job_script.specs.Script.{script_of}
 use Rattle.job_script.specs.declared.fault.ScriptFault.{ScriptFault}
-use Rattle.job_script.specs.declared.fault.ScriptFault.TheVariants as faults
-use Rattle.twin_script.specs.Fault as twins
+use Rattle.s3a_top.specs.Bytes.{IsRead, TakesPart}
+use Rattle.s3a_top.specs.Jobs.{IsFaultOf}
+use Rattle.s3a_top.specs.Openings.{AreJobsOf, IsAllRead}
+use Rattle.s3a_top.specs.Reads.{AreJobsIn, reader}
+use Rattle.std.proofs.Common.{Bool, Err, List, None, Ok, Option, Result, Some, ap, arith, false, length, lit≤, nat_le, refl, sym, take}
+use Rattle.std.proofs.Common.{true, ℕ, ◌<◌, ◌∙◌, ◌≡◌, ◌≢◌, ◌≤◌}
+use Rattle.std.proofs.lemmas.Bool.Decides.{nat_tests}
+use Rattle.std.proofs.lemmas.List.{drop_all, length-take-le, take_all}
 use Rattle.twin_script.specs.TwinScripts.{Twins}
 use Rattle.twin_script.specs.Twins.{twins_of}
 use Rattle.twin_script.specs.declared.fault.TwinFault.{TwinFault}
+use Rattle.job_script.specs.Fault as script
+use Rattle.job_script.specs.declared.fault.ScriptFault.TheVariants as faults
+use Rattle.twin_script.specs.Fault as twins
 use Rattle.twin_script.specs.declared.fault.TwinFault.TheVariants as twin_faults
 
 -- ---- what refuses all that is over the limit
 
-module _ {A E : Type 0} (read : List ℕ → Result A E) (large : E) (too_large : (bytes : List ℕ) → 67108864 < length bytes → read bytes ≡ Err large) where
+module _ {A E : Type 0} (read : List ℕ → Result A E) (large : E) (too_large : (bytes : List ℕ) → 67108864 < length bytes → read bytes ≡ Err
+    large) where
   -- what it reads is within it
   small : (bytes : List ℕ) (x : A) → read bytes ≡ Ok x → length bytes ≤ 67108864
   small bytes x e = by (nat_le (length bytes) 67108864) refl
@@ -66,7 +77,8 @@ script_large bytes h =
 pub script_part : (left rest : Option (List ℕ)) (w : Script) → IsAllRead script_of left rest w → TakesPart left rest
 script_part left rest w h = all_part script_of faults.TooLarge script_large left rest w h
 
-pub no_script : (left rest : Option (List ℕ)) (all : List ℕ) (e : ScriptFault) → IsRead left rest all → script_of all ≡ Err e → IsFaultOf script_of left e
+pub no_script : (left rest : Option (List ℕ)) (all : List ℕ) (e : ScriptFault) → IsRead left rest all → script_of all ≡ Err e
+    → IsFaultOf script_of left e
 no_script left rest all e r h = fault_of script_of faults.TooLarge script_large left rest all e r h
 
 -- a fault that is no want of memory is the one that reading gives
@@ -85,7 +97,8 @@ twins_large bytes h =
 pub twins_part : (left rest : Option (List ℕ)) (t : Twins) → IsAllRead twins_of left rest t → TakesPart left rest
 twins_part left rest t h = all_part twins_of twin_faults.TooLarge twins_large left rest t h
 
-pub no_twins : (left rest : Option (List ℕ)) (all : List ℕ) (e : TwinFault) → IsRead left rest all → twins_of all ≡ Err e → IsFaultOf twins_of left e
+pub no_twins : (left rest : Option (List ℕ)) (all : List ℕ) (e : TwinFault) → IsRead left rest all → twins_of all ≡ Err e
+    → IsFaultOf twins_of left e
 no_twins left rest all e r h = fault_of twins_of twin_faults.TooLarge twins_large left rest all e r h
 
 pub twins_fail : (e : TwinFault) (read : Result Twins TwinFault) → e ≢ twin_faults.NoMemory → Fails twins.wanting e read → read ≡ Err e
@@ -94,7 +107,8 @@ twins_fail e read n h = h
 
 -- ---- the input
 
-pub jobs_are : (both : Bool) (left rest : Option (List ℕ)) (all : List ℕ) (jobs : Jobs) → IsRead left rest all → AreJobsIn both all jobs → AreJobsOf (reader both) left rest jobs
+pub jobs_are : (both : Bool) (left rest : Option (List ℕ)) (all : List ℕ) (jobs : Jobs) → IsRead left rest all → AreJobsIn both all jobs
+    → AreJobsOf (reader both) left rest jobs
 jobs_are false left rest all (One w) r h = all_read script_of faults.TooLarge script_large left rest all w r h
 jobs_are true left rest all (Two t) r h = all_read twins_of twin_faults.TooLarge twins_large left rest all t r h
 jobs_are _ left rest all jobs r h = absurd h

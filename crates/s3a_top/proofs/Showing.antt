@@ -1,28 +1,43 @@
 -- What comes of words that ask for a trace, by what came of the command that they name.
-use Rattle.s3a_top.proofs.Common.{Content, IsErrOf, IsWork, MOST_MINIMUM, ShelfStop, new_content}
-use Rattle.s3a_top.proofs.Common.{AreJobsOf, Bool, Command, Counted, CrashesLeave, Err, Held, IfOk, IsAnswered}
-use Rattle.s3a_top.proofs.Common.{IsSound, IsStopped, IsTimed, IsWorked, IsWritten, JobStopped, List, Load}
-use Rattle.s3a_top.proofs.Common.{None, Ok, Option, Result, Sight, Some, Status, Stop, Store}
-use Rattle.s3a_top.proofs.Common.{StoreStopped, Tells, Two, Work, ap, arith, code, false, inl, inr, plays, refl}
-use Rattle.s3a_top.proofs.Common.{subst, sym, true, written_text, ℕ, ◌^◌, ◌∙◌, ◌≡◌, ◌≢◌, ◌≤◌, ◌⊎◌}
+use Rattle.durable_job.specs.declared.jobs.Jobs.TheVariants.{Two}
 use Rattle.durable_store.proofs.Found.{few_ids}
+use Rattle.durable_store.specs.Outcomes.{IsSound, Tells}
 use Rattle.durable_store.specs.Works.{IsPlain, IsSaid, Says, Work as Doing}
-use Rattle.durable_store.specs.declared.held.Held.TheVariants.{Faulty, Nothing}
+use Rattle.durable_store.specs.declared.held.Held.{Held}
+use Rattle.durable_store.specs.declared.held.Held.TheVariants.{Faulty, Nothing, Store}
 use Rattle.durable_store.specs.declared.work.Answer.{Answer}
-use Rattle.exit_status.specs.declared.statuses.Status.TheVariants as statuses
+use Rattle.exit_status.specs.Statuses.{code, written_text}
+use Rattle.exit_status.specs.declared.statuses.Status.{Status}
 use Rattle.s3_types.specs.Moment.{IsHonest}
-use Rattle.s3a_shell.specs.Commanded.{Done, DoneOn, init_work, work_said}
+use Rattle.s3_types.specs.Store.{Content, new_content}
+use Rattle.s3_types.specs.declared.limits.TheConstants.{MOST_MINIMUM}
+use Rattle.s3a_shell.specs.Commanded.{Done, DoneOn, IsWork, init_work, plays, work_said}
 use Rattle.s3a_shell.specs.Sendings.{has_changed}
-use Rattle.s3a_words.specs.declared.command.Command.TheVariants.{Init, Twins}
-use Rattle.shelf.specs.declared.kept.ShelfStop.TheVariants as shelves
-use Rattle.twin_script.specs.TwinScripts as twin_scripts
-use Rattle.s3a_top.specs.Traces.{IsLoaded, JobTraced, Shows, StoreTraced, shown_sends, shown_status, store_in}
-use Rattle.s3a_top.specs.Tracings.{AnswerShown, IsShownOf, JobShows, JobTraces, StoreShows, StoreTraces, Traces}
-use Rattle.s3a_top.specs.declared.stop.Stop.TheVariants.{Usage, NoMemory}
 use Rattle.s3a_top.proofs.Coming.{job_wanting, not_both, not_said, store_wanting}
 use Rattle.s3a_top.proofs.Crashing.{loaded_alone}
-use Rattle.s3a_top.proofs.Telling.{counted_done, tells_none, worked_usage, worked_due}
-use Rattle.s3a_top.proofs.Halting.{halted_told, store_halted, no_command, told_counts, told_due, told_usage}
+use Rattle.s3a_top.proofs.Halting.{halted_told, no_command, store_halted, told_counts, told_due, told_usage}
+use Rattle.s3a_top.proofs.Telling.{counted_done, tells_none, worked_due, worked_usage}
+use Rattle.s3a_top.specs.Commands.{StoreStopped}
+use Rattle.s3a_top.specs.Jobs.{JobStopped}
+use Rattle.s3a_top.specs.Openings.{AreJobsOf}
+use Rattle.s3a_top.specs.Statuses.{IsWorked}
+use Rattle.s3a_top.specs.Traces.{IsLoaded, JobTraced, Shows, StoreTraced, shown_sends, shown_status, store_in}
+use Rattle.s3a_top.specs.Tracings.{AnswerShown, IsShownOf, JobShows, JobTraces, StoreShows, StoreTraces, Traces}
+use Rattle.s3a_top.specs.Workings.{Counted, IsAnswered, IsStopped}
+use Rattle.s3a_top.specs.Works.{IsWritten}
+use Rattle.s3a_top.specs.declared.stop.Stop.{Stop}
+use Rattle.s3a_top.specs.declared.stop.Stop.TheVariants.{NoMemory, Usage}
+use Rattle.s3a_top.specs.declared.work.Work.{Work}
+use Rattle.s3a_words.specs.declared.command.Command.{Command}
+use Rattle.s3a_words.specs.declared.command.Command.TheVariants.{Init, Twins}
+use Rattle.shelf.specs.Logged.{CrashesLeave, IsTimed, Sight}
+use Rattle.shelf.specs.Logged.Call.{Load}
+use Rattle.shelf.specs.declared.kept.ShelfStop.{ShelfStop}
+use Rattle.std.proofs.Common.{Bool, Err, IfOk, IsErrOf, List, None, Ok, Option, Result, Some, ap, arith, false, inl, inr, refl, subst, sym}
+use Rattle.std.proofs.Common.{true, ℕ, ◌^◌, ◌∙◌, ◌≡◌, ◌≢◌, ◌≤◌, ◌⊎◌}
+use Rattle.exit_status.specs.declared.statuses.Status.TheVariants as statuses
+use Rattle.shelf.specs.declared.kept.ShelfStop.TheVariants as shelves
+use Rattle.twin_script.specs.TwinScripts as twin_scripts
 
 -- ---- what a command does on what is held
 

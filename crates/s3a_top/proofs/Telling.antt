@@ -1,11 +1,32 @@
 -- Which counts of faults rise, and which causes stops have.
-use Rattle.s3a_top.proofs.Common.{AreJobsOf, Command, Counted, Counts, CountsReads, Err, HasCause, HasReasonIn, Held, IsDue, IsOfStop, IsReadStop, IsSoundly, IsVerdict, IsWorked, Jobs, List, None, Ok, One, Option, ShelfStop, Some, Status, Stop, Stored, TakesIfRead, Tells, Two, Work, code, false, inl, inr, may_read, of_shelf, refl, status_of, subst, sym, takes_input, ℕ, ⊎_elim, ◌<◌, ◌∙◌, ◌≡◌, ◌≢◌}
-use Rattle.shelf.specs.declared.kept.ShelfStop.TheVariants as shelves
-use Rattle.s3a_words.specs.declared.command.Command.TheVariants.{Job, Gen, Twins}
-use Rattle.exit_status.specs.declared.statuses.Status.TheVariants as statuses
-use Rattle.s3a_top.specs.declared.stop.Stop.TheVariants.{ReadFault, Script as BadScript, Twins as BadTwins, NoMemory}
-use Rattle.s3a_top.proofs.Readings.{script_part, twins_part}
+use Rattle.durable_job.specs.Played.{Counts}
+use Rattle.durable_job.specs.declared.jobs.Jobs.{Jobs}
+use Rattle.durable_job.specs.declared.jobs.Jobs.TheVariants.{One, Two}
+use Rattle.durable_store.specs.Outcomes.{Tells}
+use Rattle.durable_store.specs.declared.held.Held.{Held}
+use Rattle.exit_status.specs.Statuses.{code}
+use Rattle.exit_status.specs.declared.statuses.Status.{Status}
 use Rattle.journal_log.specs.Images.{Counts as CountsLoad}
+use Rattle.s3a_shell.specs.Commanded.{takes_input}
+use Rattle.s3a_top.proofs.Readings.{script_part, twins_part}
+use Rattle.s3a_top.specs.Commands.{may_read}
+use Rattle.s3a_top.specs.Jobs.{HasCause}
+use Rattle.s3a_top.specs.Openings.{AreJobsOf, IsSoundly, TakesIfRead}
+use Rattle.s3a_top.specs.Plays.{IsOfStop, IsVerdict}
+use Rattle.s3a_top.specs.Reads.{CountsReads, IsReadStop}
+use Rattle.s3a_top.specs.Statuses.{IsDue, IsWorked}
+use Rattle.s3a_top.specs.Stops.{of_shelf, status_of}
+use Rattle.s3a_top.specs.Workings.{Counted, HasReasonIn}
+use Rattle.s3a_top.specs.declared.stop.Stop.{Stop}
+use Rattle.s3a_top.specs.declared.stop.Stop.TheVariants.{NoMemory, ReadFault, Script as BadScript, Twins as BadTwins}
+use Rattle.s3a_top.specs.declared.work.Work.{Work}
+use Rattle.s3a_words.specs.declared.command.Command.{Command}
+use Rattle.s3a_words.specs.declared.command.Command.TheVariants.{Gen, Job, Twins}
+use Rattle.shelf.specs.Logged.{Stored}
+use Rattle.shelf.specs.declared.kept.ShelfStop.{ShelfStop}
+use Rattle.std.proofs.Common.{Err, List, None, Ok, Option, Some, false, inl, inr, refl, subst, sym, ℕ, ⊎_elim, ◌<◌, ◌∙◌, ◌≡◌, ◌≢◌}
+use Rattle.shelf.specs.declared.kept.ShelfStop.TheVariants as shelves
+use Rattle.exit_status.specs.declared.statuses.Status.TheVariants as statuses
 
 -- ---- counts of faults
 
@@ -57,10 +78,13 @@ verdict_counts statuses.NoMemory before after h same = tells_none 5 9 before aft
 verdict_counts _ before after h same = absurd h
 
 -- of a job that was played
-pub played_counts : (stop : Option ShelfStop) (due : Status) (before after : ℕ) → IsOfStop stop due → Counts stop before after → Tells 5 (code due) before after
+pub played_counts : (stop : Option ShelfStop) (due : Status) (before after : ℕ) → IsOfStop stop due → Counts stop before after
+    → Tells 5 (code due) before after
 played_counts None due before after h counts = verdict_counts due before after h counts
-played_counts (Some shelves.Failed) due before after h counts = subst (λ (s : Status). Tells 5 (code s) before after) (sym h) (tells_one 5 before after counts)
-played_counts (Some shelves.NoMemory) due before after h counts = subst (λ (s : Status). Tells 5 (code s) before after) (sym h) (tells_none 5 9 before after (λ e. cc) counts)
+played_counts (Some shelves.Failed) due before after h counts = subst (λ (s : Status). Tells 5 (code s) before after) (sym h)
+    (tells_one 5 before after counts)
+played_counts (Some shelves.NoMemory) due before after h counts = subst (λ (s : Status). Tells 5 (code s) before after) (sym h)
+    (tells_none 5 9 before after (λ e. cc) counts)
 
 pub verdict_worked : (s : Status) → IsVerdict s → IsWorked s
 verdict_worked statuses.Done h = tt
@@ -77,7 +101,8 @@ stop_worked (Some shelves.NoMemory) due h = subst IsWorked (sym h) tt
 -- ---- causes
 
 -- what was taken from the input was its jobs
-pub jobs_taken : (command : Command) (left rest : Option (List ℕ)) (jobs : Jobs) → AreJobsOf command left rest jobs → TakesIfRead command left rest
+pub jobs_taken : (command : Command) (left rest : Option (List ℕ)) (jobs : Jobs) → AreJobsOf command left rest jobs
+    → TakesIfRead command left rest
 jobs_taken Job left rest (One w) h = inr (refl, script_part left rest w h)
 jobs_taken Twins left rest (Two t) h = inr (refl, twins_part left rest t h)
 jobs_taken (Gen seed tasks files) left rest (One w) h = inl h.1
@@ -106,31 +131,59 @@ module _ (command : Command) (told : Option Stored) (left rest : Option (List �
 
 -- ---- what is counted
 
-pub counted_done : (work : Work) (left rest before after : ℕ) → IsWorked work.answer.due → rest ≡ left → Tells 5 (code work.answer.due) before after → Counted (Ok work) left rest before after
-counted_done work left rest before after own same shelf = record { own = own; read = tells_none 3 (code work.answer.due) left rest (worked_read work.answer.due own) same; shelf = shelf }
+pub counted_done : (work : Work) (left rest before after : ℕ) → IsWorked work.answer.due → rest ≡ left
+    → Tells 5 (code work.answer.due) before after → Counted (Ok work) left rest before after
+counted_done work left rest before after own same shelf = record {
+  own = own;
+  read = tells_none 3 (code work.answer.due) left rest
+      (worked_read work.answer.due own) same;
+  shelf = shelf;
+}
 
 -- neither the input nor the shelf failed
-pub counted_none : (stop : Stop) (left rest before after : ℕ) → code (status_of stop) ≢ 3 → code (status_of stop) ≢ 5 → rest ≡ left → after ≡ before → Counted (Err stop) left rest before after
-counted_none stop left rest before after three five same still = record { own = tt; read = tells_none 3 (code (status_of stop)) left rest three same; shelf = tells_none 5 (code (status_of stop)) before after five still }
+pub counted_none : (stop : Stop) (left rest before after : ℕ) → code (status_of stop) ≢ 3 → code (status_of stop) ≢ 5 → rest ≡ left
+    → after ≡ before → Counted (Err stop) left rest before after
+counted_none stop left rest before after three five same still = record {
+  own = tt;
+  read = tells_none 3 (code (status_of stop)) left rest
+      three same;
+  shelf = tells_none 5 (code (status_of stop)) before after five still;
+}
 
-pub counted_shelf : (stop : ShelfStop) (left rest before after : ℕ) → rest ≡ left → Counts (Some stop) before after → Counted (Err (of_shelf stop)) left rest before after
-counted_shelf shelves.Failed left rest before after same counts = record { own = tt; read = tells_none 3 5 left rest (λ e. cc) same; shelf = tells_one 5 before after counts }
-counted_shelf shelves.NoMemory left rest before after same counts = counted_none NoMemory left rest before after (λ e. cc) (λ e. cc) same counts
+pub counted_shelf : (stop : ShelfStop) (left rest before after : ℕ) → rest ≡ left → Counts (Some stop) before after
+    → Counted (Err (of_shelf stop)) left rest before after
+counted_shelf shelves.Failed left rest before after same counts = record {
+  own = tt;
+  read = tells_none 3 5 left rest (λ e. cc) same;
+  shelf =
+      tells_one 5 before after counts;
+}
+counted_shelf shelves.NoMemory left rest before after same counts = counted_none NoMemory left rest before after (λ e. cc) (λ e. cc) same
+    counts
 
-pub load_counts : (A : Type 0) (stop : ShelfStop) (before after : ℕ) → CountsLoad {A = A} (Err stop) before after → Counts (Some stop) before after
+pub load_counts : (A : Type 0) (stop : ShelfStop) (before after : ℕ) → CountsLoad {A = A} (Err stop) before after
+    → Counts (Some stop) before after
 load_counts A shelves.Failed before after counts = counts
 load_counts A shelves.NoMemory before after counts = counts
 
 -- the jobs were not read
-pub counted_read : (A : Type 0) (stop : Stop) (command : Command) (left rest : Option (List ℕ)) (before after count : ℕ) → IsReadStop stop command left rest → CountsReads {A = A} (Err stop) before after → Counted (Err stop) before after count count
-counted_read A ReadFault command left rest before after count h counts = record { own = tt; read = tells_one 3 before after counts; shelf = tells_none 5 3 count count (λ e. cc) refl }
-counted_read A (BadScript e) command left rest before after count h counts = counted_none (BadScript e) before after count count (λ z. cc) (λ z. cc) counts refl
-counted_read A (BadTwins e) command left rest before after count h counts = counted_none (BadTwins e) before after count count (λ z. cc) (λ z. cc) counts refl
-counted_read A NoMemory command left rest before after count h counts = counted_none NoMemory before after count count (λ z. cc) (λ z. cc) counts refl
+pub counted_read : (A : Type 0) (stop : Stop) (command : Command) (left rest : Option (List ℕ)) (before after count : ℕ)
+    → IsReadStop stop command left rest → CountsReads {A = A} (Err stop) before after → Counted (Err stop) before after count count
+counted_read A ReadFault command left rest before after count h counts = record
+    { own = tt; read = tells_one 3 before after counts; shelf = tells_none 5 3 count count (λ e. cc) refl }
+counted_read A (BadScript e) command left rest before after count h counts = counted_none (BadScript e) before after count count (λ z. cc)
+    (λ z. cc) counts refl
+counted_read A (BadTwins e) command left rest before after count h counts = counted_none (BadTwins e) before after count count (λ z. cc)
+    (λ z. cc) counts refl
+counted_read A NoMemory command left rest before after count h counts = counted_none NoMemory before after count count (λ z. cc) (λ z. cc)
+    counts refl
 counted_read A _ command left rest before after count h counts = absurd h
 
 -- nor were the bytes of a command's input
-pub counted_bytes : (A : Type 0) (stop : Stop) (command : Command) (held : Held) (left rest : Option (List ℕ)) (before after count : ℕ) → HasReasonIn stop command held left rest → CountsReads {A = A} (Err stop) before after → Counted (Err stop) before after count count
-counted_bytes A ReadFault command held left rest before after count h counts = record { own = tt; read = tells_one 3 before after counts; shelf = tells_none 5 3 count count (λ e. cc) refl }
-counted_bytes A NoMemory command held left rest before after count h counts = counted_none NoMemory before after count count (λ z. cc) (λ z. cc) counts refl
+pub counted_bytes : (A : Type 0) (stop : Stop) (command : Command) (held : Held) (left rest : Option (List ℕ)) (before after count : ℕ)
+    → HasReasonIn stop command held left rest → CountsReads {A = A} (Err stop) before after → Counted (Err stop) before after count count
+counted_bytes A ReadFault command held left rest before after count h counts = record
+    { own = tt; read = tells_one 3 before after counts; shelf = tells_none 5 3 count count (λ e. cc) refl }
+counted_bytes A NoMemory command held left rest before after count h counts = counted_none NoMemory before after count count (λ z. cc)
+    (λ z. cc) counts refl
 counted_bytes A _ command held left rest before after count h counts = absurd h

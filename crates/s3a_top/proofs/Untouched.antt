@@ -1,16 +1,22 @@
 -- A command that changes nothing leaves the shelf as it was loaded.
-use Rattle.std.specs.Prelude.{◌≡◌, ◌⊎◌, ℕ, Bool, true, false, List, Option, Some}
-use Rattle.basics.proofs.Common.{false≢true}
-use Rattle.s3a_top.proofs.Common.{CallsBy, Command, Entry, Faulty, Held, IsAnswer, IsWork, Nothing, Sight, Status, Store, ap, inl, inr}
-use Rattle.s3a_top.proofs.Common.{refl, subst, sym, ◌∙◌}
-use Rattle.journal_log.specs.Prelude.{Content}
-use Rattle.durable_store.specs.Works.{Work, Says, Saves}
+use Rattle.durable_store.specs.Outcomes.{CallsBy, IsAnswer}
 use Rattle.durable_store.specs.Outcomes.IsAnswer.{said, saved}
+use Rattle.durable_store.specs.Works.{Saves, Says, Work}
+use Rattle.durable_store.specs.declared.held.Held.{Held}
+use Rattle.durable_store.specs.declared.held.Held.TheVariants.{Faulty, Nothing, Store}
+use Rattle.exit_status.specs.declared.statuses.Status.{Status}
 use Rattle.exit_status.specs.declared.statuses.Status.TheVariants.{Refused}
-use Rattle.s3a_words.specs.declared.command.Command.TheVariants.{Init}
-use Rattle.s3a_shell.specs.Commanded.{Done, DoneOn, work_said}
+use Rattle.s3_types.specs.Store.{Content}
+use Rattle.s3_types.specs.declared.journal.Entry.{Entry}
+use Rattle.s3a_shell.specs.Commanded.{Done, DoneOn, IsWork, work_said}
 use Rattle.s3a_shell.specs.Doings.{is_of_shell, only_looks}
 use Rattle.s3a_shell.specs.Sendings.{has_changed}
+use Rattle.s3a_words.specs.declared.command.Command.{Command}
+use Rattle.s3a_words.specs.declared.command.Command.TheVariants.{Init}
+use Rattle.shelf.specs.Logged.{Sight}
+use Rattle.std.proofs.Common.{ap, inl, inr, refl, subst, sym, ◌∙◌}
+use Rattle.std.proofs.lemmas.Bool.{false≢true}
+use Rattle.std.specs.Prelude.{Bool, List, Option, Some, false, true, ℕ, ◌≡◌, ◌⊎◌}
 
 -- the answer to what was to be saved has what was sent, and is no refusal
 saved_sent : (work : Work) (due : Status) (text : Option (List ℕ)) (es : List Entry) → IsAnswer work due text es

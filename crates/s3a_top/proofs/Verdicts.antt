@@ -1,8 +1,19 @@
 -- Which statuses are due of a job and of a command.
-use Rattle.s3a_top.proofs.Common.{Bool, CommitEnd, Decided, EndedSo, EventEnd, IsFinal, Jobs, List, NotBegun, One, OpEnd, Script, SetupEnd, Told, Two, Unended, end_verdict, false, inl, inr, past, refl, true, verdict, verdict_of, verdict_of_two, verdict_or, ℕ, ◌==◌, if◌then◌else◌}
+use Rattle.durable_job.specs.Jobs.{verdict_of, verdict_of_two}
+use Rattle.durable_job.specs.declared.jobs.Jobs.{Jobs}
+use Rattle.durable_job.specs.declared.jobs.Jobs.TheVariants.{One, Two}
+use Rattle.durable_job.specs.declared.jobs.Told.{Told}
+use Rattle.job_model.specs.JobScript.{Script}
+use Rattle.job_model.specs.declared.ends.CheckEnd.{CheckEnd}
+use Rattle.job_model.specs.declared.ends.CommitEnd.{CommitEnd}
+use Rattle.job_model.specs.declared.ends.EventEnd.{EventEnd}
+use Rattle.job_model.specs.declared.ends.OpEnd.{OpEnd}
+use Rattle.job_model.specs.declared.ends.SetupEnd.{SetupEnd}
+use Rattle.job_spec.specs.States.{Decided, EndedSo, NotBegun, Unended, end_verdict, past, verdict, verdict_or}
+use Rattle.s3a_top.specs.Plays.{IsFinal}
+use Rattle.std.proofs.Common.{Bool, List, false, if◌then◌else◌, inl, inr, refl, true, ℕ, ◌==◌}
 use Rattle.job_model.specs.declared.ends.SetupEnd.TheVariants as setups
 use Rattle.job_model.specs.declared.ends.CommitEnd.TheVariants as commits
-use Rattle.job_model.specs.declared.ends.CheckEnd.{CheckEnd}
 use Rattle.job_model.specs.declared.ends.CheckEnd.TheVariants as checks
 use Rattle.job_model.specs.declared.ends.OpEnd.TheVariants as ends
 
@@ -50,4 +61,5 @@ first_final first second h k = by (first == 0)
 
 pub jobs_final : (jobs : Jobs) (told : Told) → IsFinal (verdict_of jobs told)
 jobs_final (One w) told = verdict_final w told.ends
-jobs_final (Two t) told = first_final (verdict t.first told.ends) (verdict t.second told.second_ends) (verdict_final t.first told.ends) (verdict_final t.second told.second_ends)
+jobs_final (Two t) told = first_final (verdict t.first told.ends) (verdict t.second told.second_ends) (verdict_final t.first told.ends)
+    (verdict_final t.second told.second_ends)

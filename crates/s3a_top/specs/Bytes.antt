@@ -1,7 +1,7 @@
 -- Which bytes were read and which were written.
-use Rattle.std.specs.Prelude.{◌≡◌, ℕ, ◌+◌, ◌≤◌, List, Option, Some, None, take, drop}
-use Rattle.job_spec.specs.Prelude.{MOST_SCRIPT_BYTES}
-use Rattle.journal_log.specs.Prelude.{Appends}
+use Rattle.s3_types.specs.declared.limits.TheConstants.{MOST_SCRIPT_BYTES}
+use Rattle.shelf.specs.Devices.{Appends}
+use Rattle.std.specs.Prelude.{List, None, Option, Some, drop, take, ℕ, ◌+◌, ◌≡◌, ◌≤◌}
 
 -- all that was left was taken, to one byte over the limit, where the source tells it
 abbrev pub IsTaken : (left rest : Option (List ℕ)) → Type 0

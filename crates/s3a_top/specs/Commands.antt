@@ -1,25 +1,27 @@
 -- What comes of the other commands, and of words that are none.
-use Rattle.s3a_words.specs.declared.command.Command.TheVariants.{Job, Twins}
-use Rattle.std.specs.Prelude.{Bool, List, None, Option, Some, [], false, true, ℕ, ◌≡◌, ◌⊎◌}
-use Rattle.journal_log.specs.Prelude.{CrashesLeave, Entry, IsDurable, Load, Sight, Stored}
 use Rattle.durable_job.specs.declared.jobs.Told.{Told}
-use Rattle.durable_store.specs.Works.{Work}
 use Rattle.durable_store.specs.Outcomes.{CallsBy, HasImages, IsAnswer, IsDurableNow, IsHeld, IsSound, MightLeave, WhereSound}
+use Rattle.durable_store.specs.Works.{Work}
 use Rattle.durable_store.specs.declared.held.Held.{Held}
 use Rattle.durable_store.specs.declared.held.Held.TheVariants.{Faulty}
-use Rattle.s3a_words.specs.declared.command.Command.{Command}
+use Rattle.exit_status.specs.Statuses.{code, memory_text, usage_text, written_text}
+use Rattle.exit_status.specs.declared.statuses.Status.{Status}
+use Rattle.exit_status.specs.declared.statuses.Status.TheVariants.{Refused}
+use Rattle.s3_types.specs.declared.journal.Entry.{Entry}
 use Rattle.s3a_shell.specs.Commanded.{IsWork, takes_input}
 use Rattle.s3a_shell.specs.Doings.{is_of_shell, only_looks}
 use Rattle.s3a_shell.specs.Sendings.{has_changed}
 use Rattle.s3a_top.specs.Bytes.{IsRead, TakesPart}
 use Rattle.s3a_top.specs.Openings.{IsFound, IsSoundly}
-use Rattle.exit_status.specs.Statuses.{code, memory_text, usage_text, written_text}
-use Rattle.exit_status.specs.declared.statuses.Status.{Status}
-use Rattle.exit_status.specs.declared.statuses.Status.TheVariants.{Refused}
 use Rattle.s3a_top.specs.Statuses.{IsIdle}
 use Rattle.s3a_top.specs.Stops.{status_of, stop_text}
 use Rattle.s3a_top.specs.declared.stop.Stop.{Stop}
 use Rattle.s3a_top.specs.declared.stop.Stop.TheVariants.{NoMemory, ReadFault, ShelfFault}
+use Rattle.s3a_words.specs.declared.command.Command.{Command}
+use Rattle.s3a_words.specs.declared.command.Command.TheVariants.{Job, Twins}
+use Rattle.shelf.specs.Logged.{CrashesLeave, IsDurable, Sight, Stored}
+use Rattle.shelf.specs.Logged.Call.{Load}
+use Rattle.std.specs.Prelude.{Bool, List, None, Option, Some, false, true, ℕ, [], ◌≡◌, ◌⊎◌}
 
 -- words that are no command: the usage is said, and nothing was done
 pub record NoCommand {S : Type 0} (due : ℕ) (old new : S) (es : List Entry) (told : Told) (Says : List ℕ → Type 0) : Type 0 where
@@ -72,7 +74,8 @@ pub record StoreStopped {S : Type 0} (F : Sight S) (command : Command) (left res
 -- ---- it was done
 
 -- this work was done, with this status
-pub record WorkDone {S : Type 0} (F : Sight S) (work : Work) (old new : S) (status : Status) (es : List Entry) (Says : List ℕ → Type 0) : Type 0 where
+pub record WorkDone {S : Type 0} (F : Sight S) (work : Work) (old new : S) (status : Status) (es : List Entry) (Says : List ℕ → Type 0) :
+    Type 0 where
   pub text : Option (List ℕ)
   pub answer : IsAnswer work status text es
   pub said : Says (written_text status text)

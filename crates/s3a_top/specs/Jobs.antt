@@ -1,35 +1,43 @@
 -- What comes of a job, or of two at one destination: it was played, or it stopped before its first event.
-use Rattle.std.specs.Prelude.{◌≡◌, ◌≢◌, ◌⊎◌, ℕ, true, List, length, Option, Some, None, Result, Err}
-use Rattle.job_spec.specs.Prelude.{Content, Entry, Script}
-use Rattle.journal_log.specs.Prelude.{Holding, Stored, fresh, IsDurable, Sight, CrashesLeave, image, IsContent, KeepsImages, Holds}
-use Rattle.journal_log.specs.Prelude.{HoldsPart, IsKept, AreCalled, AreStopped, Load, Replace}
-use Rattle.job_spec.specs.ReportText.{report_text}
-use Rattle.job_script.specs.Script.{script_of}
-use Rattle.job_script.specs.declared.fault.ScriptFault.TheVariants as faults
-use Rattle.twin_script.specs.Twins.{twins_of}
-use Rattle.twin_script.specs.TwinScripts as twin_scripts
-use Rattle.twin_script.specs.declared.fault.TwinFault.TheVariants as twin_faults
-use Rattle.job_report.specs.TwinText.{twins_report}
-use Rattle.job_gen.specs.Summary.{summary}
-use Rattle.durable_store.specs.Stores.{found}
-use Rattle.durable_store.specs.declared.held.Held.TheVariants.{Faulty}
-use Rattle.journal_log.specs.Changes.{changes}
-use Rattle.journal_log.specs.Crashes.{SurvivesCrashes}
-use Rattle.durable_job.specs.Jobs.{ArePromised, AreFinished, verdict_of}
+use Rattle.durable_job.specs.Jobs.{AreFinished, ArePromised, verdict_of}
 use Rattle.durable_job.specs.Pace.{LacksSince}
 use Rattle.durable_job.specs.Played.{HaveEventsLeft}
 use Rattle.durable_job.specs.declared.jobs.Jobs.{Jobs}
 use Rattle.durable_job.specs.declared.jobs.Jobs.TheVariants.{One, Two}
 use Rattle.durable_job.specs.declared.jobs.Told.{Told}
-use Rattle.s3a_words.specs.declared.command.Command.{Command}
-use Rattle.s3a_words.specs.declared.command.Command.TheVariants.{Job, Gen, Twins}
+use Rattle.durable_store.specs.Stores.{found}
+use Rattle.durable_store.specs.declared.held.Held.TheVariants.{Faulty}
+use Rattle.exit_status.specs.Statuses.{code, memory_text, shelf_text}
+use Rattle.job_gen.specs.Summary.{summary}
+use Rattle.job_model.specs.JobScript.{Script}
+use Rattle.job_report.specs.TwinText.{twins_report}
+use Rattle.job_script.specs.Script.{script_of}
+use Rattle.job_spec.specs.ReportText.{report_text}
+use Rattle.journal_log.specs.Appends.{AreCalled, AreStopped}
+use Rattle.journal_log.specs.Changes.{changes}
+use Rattle.journal_log.specs.Crashes.{SurvivesCrashes}
+use Rattle.journal_log.specs.Kept.{Holds, HoldsPart, IsKept}
+use Rattle.journal_log.specs.Made.{KeepsImages}
+use Rattle.s3_types.specs.Store.{Content}
+use Rattle.s3_types.specs.declared.journal.Entry.{Entry}
 use Rattle.s3a_top.specs.Bytes.{IsTaken, TakesPart}
-use Rattle.s3a_top.specs.Openings.{reads_jobs, AreJobsOf, TakesJobs, IsSoundly, Opens}
-use Rattle.exit_status.specs.Statuses.{code, shelf_text, memory_text}
+use Rattle.s3a_top.specs.Openings.{AreJobsOf, IsSoundly, Opens, TakesJobs, reads_jobs}
 use Rattle.s3a_top.specs.Statuses.{IsIdle}
 use Rattle.s3a_top.specs.Stops.{status_of, stop_text}
 use Rattle.s3a_top.specs.declared.stop.Stop.{Stop}
-use Rattle.s3a_top.specs.declared.stop.Stop.TheVariants.{Usage, ReadFault, ShelfFault, Script as BadScript, Twins as BadTwins, Image, NoMemory}
+use Rattle.s3a_top.specs.declared.stop.Stop.TheVariants.{Image, NoMemory, ReadFault, Script as BadScript, ShelfFault, Twins as BadTwins}
+use Rattle.s3a_top.specs.declared.stop.Stop.TheVariants.{Usage}
+use Rattle.s3a_words.specs.declared.command.Command.{Command}
+use Rattle.s3a_words.specs.declared.command.Command.TheVariants.{Gen, Job, Twins}
+use Rattle.shelf.specs.Logged.{CrashesLeave, Holding, IsDurable, Sight, Stored, fresh}
+use Rattle.shelf.specs.Logged.Call.{Load, Replace}
+use Rattle.std.specs.Prelude.{Err, List, None, Option, Result, Some, length, true, ℕ, ◌≡◌, ◌≢◌, ◌⊎◌}
+use Rattle.store_image.specs.Content.{IsContent}
+use Rattle.store_image.specs.Image.{image}
+use Rattle.twin_script.specs.Twins.{twins_of}
+use Rattle.job_script.specs.declared.fault.ScriptFault.TheVariants as faults
+use Rattle.twin_script.specs.TwinScripts as twin_scripts
+use Rattle.twin_script.specs.declared.fault.TwinFault.TheVariants as twin_faults
 
 -- ---- it stopped before its first event
 
@@ -43,13 +51,17 @@ abbrev pub IsFaultOf : {A E : Type 0} → (List ℕ → Result A E) → Option (
 IsFaultOf read None e = Unit {0}
 IsFaultOf read (Some bytes) e = read bytes ≡ Err e
 
--- a stop has its cause: the shelf comes before the input, and that before what it reads as; nothing is taken from the input before the shelf gave a store, or nothing; by the input stop `job` and `twins` alone, by a script `job`, and by two with their order `twins`, once the input was taken to its end or to one byte over the limit
+-- a stop has its cause: the shelf comes before the input, and that before what it reads as; nothing is taken from the input before the
+-- shelf gave a store, or nothing; by the input stop `job` and `twins` alone, by a script `job`, and by two with their order `twins`, once
+-- the input was taken to its end or to one byte over the limit
 abbrev pub HasCause : Stop → Command → Option Stored → (left rest : Option (List ℕ)) → Type 0
 HasCause Usage command told left rest = ⊥
 HasCause ReadFault command told left rest = IsSoundly told × ((reads_jobs command ≡ true) × TakesPart left rest)
 HasCause ShelfFault command told left rest = TakesJobs command left rest
-HasCause (BadScript e) command told left rest = IsSoundly told × ((command ≡ Job) × (IsFaultOf script_of left e × ((e ≢ faults.NoMemory) × IsTaken left rest)))
-HasCause (BadTwins e) command told left rest = IsSoundly told × ((command ≡ Twins) × (IsFaultOf twins_of left e × ((e ≢ twin_faults.NoMemory) × IsTaken left rest)))
+HasCause (BadScript e) command told left rest = IsSoundly told
+    × ((command ≡ Job) × (IsFaultOf script_of left e × ((e ≢ faults.NoMemory) × IsTaken left rest)))
+HasCause (BadTwins e) command told left rest = IsSoundly told
+    × ((command ≡ Twins) × (IsFaultOf twins_of left e × ((e ≢ twin_faults.NoMemory) × IsTaken left rest)))
 HasCause (Image number place) command told left rest = IsFaulty told number place × (rest ≡ left)
 HasCause NoMemory command told left rest = (rest ≡ left) ⊎ (IsSoundly told × ((reads_jobs command ≡ true) × TakesPart left rest))
 
@@ -60,7 +72,8 @@ AreFew {S} F left rest old new = ((old ≡ new) × (rest ≡ left))
 
 -- what a crash before a job's first event might have left: what one at the beginning may leave, or the image of the job's opening store
 abbrev pub MayHaveLeft : (at_first : Holding → Type 0) → Command → Option Stored → (left rest : Option (List ℕ)) → Holding → Type 0
-MayHaveLeft at_first command told left rest h = at_first h ⊎ ((jobs : Jobs) × ((c : Content) × (AreJobsOf command left rest jobs × (Opens told jobs c × (h ≡ fresh (image c))))))
+MayHaveLeft at_first command told left rest h = at_first h
+    ⊎ ((jobs : Jobs) × ((c : Content) × (AreJobsOf command left rest jobs × (Opens told jobs c × (h ≡ fresh (image c))))))
 
 -- a job stopped before its first event: nothing was sent, what was held is held, and its status has its cause
 pub record JobStopped {S : Type 0} (F : Sight S) (command : Command) (left rest : Option (List ℕ)) (old new : S)
@@ -87,7 +100,8 @@ one_text _ due sent told w = report_text due sent told.picks told.ends w
 
 -- what is said of two jobs: the report of both
 abbrev pub both_text : (due sent : ℕ) → Told → twin_scripts.Twins → List ℕ
-both_text due sent told t = twins_report due sent t.order (record { script = t.first; ends = told.ends; picks = told.picks }) (record { script = t.second; ends = told.second_ends; picks = told.second_picks })
+both_text due sent told t = twins_report due sent t.order (record { script = t.first; ends = told.ends; picks = told.picks })
+    (record { script = t.second; ends = told.second_ends; picks = told.second_picks })
 
 -- what is said of the jobs
 abbrev pub job_text : Command → (due sent : ℕ) → Told → Jobs → List ℕ
@@ -95,7 +109,8 @@ job_text command due sent told (One w) = one_text command due sent told w
 job_text command due sent told (Two t) = both_text due sent told t
 
 -- all events ended, all that was sent is kept, and the status is the verdict of the jobs' commits
-pub record JobEnded {S : Type 0} (F : Sight S) (command : Command) (jobs : Jobs) (c : Content) (loaded new : S) (due : ℕ) (es : List Entry) (told : Told) (Says : List ℕ → Type 0) : Type 0 where
+pub record JobEnded {S : Type 0} (F : Sight S) (command : Command) (jobs : Jobs) (c : Content) (loaded new : S) (due : ℕ) (es : List Entry)
+    (told : Told) (Says : List ℕ → Type 0) : Type 0 where
   -- the promise of a run that went to its end
   pub finished : AreFinished jobs c es told
   -- the shelf holds the opening image with every change of the run, and a crash leaves that and nothing else
@@ -121,14 +136,16 @@ pub record JobCut {S : Type 0} (F : Sight S) (jobs : Jobs) (c : Content) (loaded
 -- Of jobs over a store with this content, since the shelf was loaded: what was sent keeps all that is promised of them.
 pub record JobRan {S : Type 0} (F : Sight S) (command : Command) (jobs : Jobs) (c : Content) (loaded new : S)
     (due : ℕ) (es : List Entry) (told : Told) (Says : List ℕ → Type 0) : Type 0 where
-  -- readers are shown what they may rely on at every moment; each event, turn and operation is as the scripts say; each answer is the one that was due, each sending has the fate that the script names, of two jobs the first's; and no stranger sent anything
+  -- readers are shown what they may rely on at every moment; each event, turn and operation is as the scripts say; each answer is the one
+  -- that was due, each sending has the fate that the script names, of two jobs the first's; and no stranger sent anything
   pub promised : ArePromised jobs c es told
   -- its store can have an image at each moment, up to the most of its counter, so that the next run loads it where it is small
   pub image : IsContent c
   pub images : KeepsImages c es
   pub ended : JobEnded F command jobs c loaded new due es told Says ⊎ JobCut F jobs c loaded new due es told Says
 
--- The headline. Of a job that was played, or of two: the scripts are the command's, the store that they opened with is the shelf's, and the promise holds of all that was sent.
+-- The headline. Of a job that was played, or of two: the scripts are the command's, the store that they opened with is the shelf's, and the
+-- promise holds of all that was sent.
 pub record JobPlayed {S : Type 0} (F : Sight S) (command : Command) (left rest : Option (List ℕ)) (old new : S)
     (due : ℕ) (es : List Entry) (told : Told) (Says : List ℕ → Type 0) : Type 0 where
   -- the jobs that were played, and the store that they opened with

@@ -1,26 +1,30 @@
 -- What a run begins with, by what the shelf held and what the input had left.
-use Rattle.std.specs.Prelude.{◌≡◌, ◌⊎◌, ℕ, Bool, true, false, List, [], Option, Some, None, Result, Ok}
-use Rattle.job_spec.specs.Prelude.{Content, new_content, apply_store, MOST_MINIMUM, MakeBucket}
-use Rattle.journal_log.specs.Prelude.{Stored}
-use Rattle.job_script.specs.Script.{script_of}
-use Rattle.twin_script.specs.Twins.{twins_of}
-use Rattle.job_gen.specs.Made.{made_script}
 use Rattle.durable_job.specs.Jobs.{dest_of}
 use Rattle.durable_job.specs.declared.jobs.Jobs.{Jobs}
 use Rattle.durable_job.specs.declared.jobs.Jobs.TheVariants.{One, Two}
 use Rattle.durable_store.specs.Stores.{found}
 use Rattle.durable_store.specs.declared.held.Held.{Held}
-use Rattle.durable_store.specs.declared.held.Held.TheVariants.{Nothing, Store, Faulty}
-use Rattle.s3a_words.specs.declared.command.Command.{Command}
-use Rattle.s3a_words.specs.declared.command.Command.TheVariants.{Job, Gen, Twins}
+use Rattle.durable_store.specs.declared.held.Held.TheVariants.{Faulty, Nothing, Store}
+use Rattle.job_gen.specs.Made.{made_script}
+use Rattle.job_script.specs.Script.{script_of}
+use Rattle.s3_types.specs.Answer.{apply_store}
+use Rattle.s3_types.specs.Store.{Content, new_content}
+use Rattle.s3_types.specs.declared.limits.TheConstants.{MOST_MINIMUM}
+use Rattle.s3_types.specs.declared.request.Request.TheVariants.{MakeBucket}
 use Rattle.s3a_top.specs.Bytes.{TakesPart}
+use Rattle.s3a_words.specs.declared.command.Command.{Command}
+use Rattle.s3a_words.specs.declared.command.Command.TheVariants.{Gen, Job, Twins}
+use Rattle.shelf.specs.Logged.{Stored}
+use Rattle.std.specs.Prelude.{Bool, List, None, Ok, Option, Result, Some, false, true, ℕ, [], ◌≡◌, ◌⊎◌}
+use Rattle.twin_script.specs.Twins.{twins_of}
 
 -- the whole input reads as this, and nothing of it is left, where the source tells it
 abbrev pub IsAllRead : {A E : Type 0} → (List ℕ → Result A E) → (left rest : Option (List ℕ)) → A → Type 0
 IsAllRead read None rest x = rest ≡ None
 IsAllRead read (Some bytes) rest x = (read bytes ≡ Ok x) × (rest ≡ Some [])
 
--- the jobs of a command: of `job` the input's script, of `twins` its two scripts with their order, and of `gen` the script that its numbers make, where nothing is taken from the input
+-- the jobs of a command: of `job` the input's script, of `twins` its two scripts with their order, and of `gen` the script that its numbers
+-- make, where nothing is taken from the input
 abbrev pub AreJobsOf : Command → (left rest : Option (List ℕ)) → Jobs → Type 0
 AreJobsOf Job left rest (One w) = IsAllRead script_of left rest w
 AreJobsOf Twins left rest (Two t) = IsAllRead twins_of left rest t

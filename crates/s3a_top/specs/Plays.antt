@@ -1,16 +1,23 @@
 -- What comes of a job since its shelf was loaded.
-use Rattle.std.specs.Prelude.{Err, List, None, Ok, Option, Result, Some, length, ℕ, ◌≡◌, ◌⊎◌}
-use Rattle.journal_log.specs.Prelude.{Content, CrashesLeave, Failed, IsMoment, NoMemory, Replace, ShelfStop, Sight, WhereTold, fresh, image}
 use Rattle.durable_job.specs.declared.jobs.Jobs.{Jobs}
 use Rattle.durable_job.specs.declared.playing.Kept.{Kept}
 use Rattle.exit_status.specs.Statuses.{code, memory_text, shelf_text}
 use Rattle.exit_status.specs.declared.statuses.Status.{Status}
-use Rattle.s3a_words.specs.declared.command.Command.{Command}
-use Rattle.s3a_top.specs.Openings.{AreJobsOf, Opens}
+use Rattle.journal_log.specs.Crashes.{WhereTold}
+use Rattle.journal_log.specs.Kept.{IsMoment}
+use Rattle.s3_types.specs.Store.{Content}
 use Rattle.s3a_top.specs.Jobs.{HasCause, JobRan, MayHaveLeft, job_text}
+use Rattle.s3a_top.specs.Openings.{AreJobsOf, Opens}
 use Rattle.s3a_top.specs.Works.{IsWritten}
 use Rattle.s3a_top.specs.declared.stop.Stop.{Stop}
 use Rattle.s3a_top.specs.declared.work.Work.{Work}
+use Rattle.s3a_words.specs.declared.command.Command.{Command}
+use Rattle.shelf.specs.Logged.{CrashesLeave, Sight, fresh}
+use Rattle.shelf.specs.Logged.Call.{Replace}
+use Rattle.shelf.specs.declared.kept.ShelfStop.{ShelfStop}
+use Rattle.shelf.specs.declared.kept.ShelfStop.TheVariants.{Failed, NoMemory}
+use Rattle.std.specs.Prelude.{Err, List, None, Ok, Option, Result, Some, length, ℕ, ◌≡◌, ◌⊎◌}
+use Rattle.store_image.specs.Image.{image}
 use Rattle.exit_status.specs.declared.statuses.Status.TheVariants as statuses
 
 -- ---- what is said of it
@@ -35,7 +42,8 @@ IsOfStop (Some NoMemory) due = due ≡ statuses.NoMemory
 
 -- the jobs' text is said with the verdict, unless it found no memory
 abbrev pub IsReported : Command → Kept → (due : ℕ) → List ℕ → Type 0
-IsReported command kept due text = ((due ≡ kept.verdict) × (text ≡ job_text command due (length kept.journal.entries) kept.told kept.jobs)) ⊎ ((due ≡ 9) × (text ≡ memory_text))
+IsReported command kept due text = ((due ≡ kept.verdict) × (text ≡ job_text command due (length kept.journal.entries) kept.told kept.jobs))
+    ⊎ ((due ≡ 9) × (text ≡ memory_text))
 
 -- what is said, by why it stopped
 abbrev pub IsTold : Option ShelfStop → Command → Kept → (due : ℕ) → List ℕ → Type 0
@@ -45,7 +53,8 @@ IsTold (Some NoMemory) command kept due text = (due ≡ 9) × (text ≡ memory_t
 
 -- ---- what comes of it
 
--- it was played, and a crash left first what one before it might leave or the image of the opening content, and since some state a moment of the run
+-- it was played, and a crash left first what one before it might leave or the image of the opening content, and since some state a moment
+-- of the run
 pub record JobOver {S : Type 0} (F : Sight S) (command : Command) (left rest : Option (List ℕ)) (old new : S) (work : Work) : Type 0 where
   pub jobs : Jobs
   pub opening : Content

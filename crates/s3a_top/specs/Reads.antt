@@ -29,7 +29,8 @@ AreJobsIn _ bytes jobs = ⊥
 abbrev pub IsReadStop : Stop → Command → (left rest : Option (List ℕ)) → Type 0
 IsReadStop ReadFault command left rest = (reads_jobs command ≡ true) × TakesPart left rest
 IsReadStop (BadScript e) command left rest = (command ≡ Job) × (IsFaultOf script_of left e × ((e ≢ faults.NoMemory) × IsTaken left rest))
-IsReadStop (BadTwins e) command left rest = (command ≡ Twins) × (IsFaultOf twins_of left e × ((e ≢ twin_faults.NoMemory) × IsTaken left rest))
+IsReadStop (BadTwins e) command left rest = (command ≡ Twins)
+    × (IsFaultOf twins_of left e × ((e ≢ twin_faults.NoMemory) × IsTaken left rest))
 IsReadStop NoMemory command left rest = TakesIfRead command left rest
 IsReadStop _ command left rest = ⊥
 

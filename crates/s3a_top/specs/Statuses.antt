@@ -1,15 +1,17 @@
 -- What is due and what is written.
-use Rattle.std.specs.Prelude.{List, Option, [], codes, ℕ, ◌++◌, ◌∷◌, ◌≡◌, ◌≢◌}
-use Rattle.journal_log.specs.Prelude.{Appends, Entry, decimal}
-use Rattle.job_script.specs.Fault.{line_of, number_of}
-use Rattle.job_script.specs.declared.fault.ScriptFault.{ScriptFault}
-use Rattle.twin_script.specs.declared.fault.TwinFault.{TwinFault}
 use Rattle.durable_job.specs.Jobs.{nothing_told}
 use Rattle.durable_job.specs.declared.jobs.Told.{Told}
 use Rattle.exit_status.specs.Statuses.{code}
 use Rattle.exit_status.specs.declared.statuses.Status.{Status}
 use Rattle.exit_status.specs.declared.statuses.Status.TheVariants.{BadScript, ReadFault, Usage, WriteFault}
+use Rattle.job_script.specs.Fault.{line_of, number_of}
+use Rattle.job_script.specs.declared.fault.ScriptFault.{ScriptFault}
+use Rattle.s3_types.specs.declared.journal.Entry.{Entry}
 use Rattle.s3a_top.specs.Bytes.{WritesSome}
+use Rattle.shelf.specs.Devices.{Appends}
+use Rattle.std.specs.Fmt.{decimal}
+use Rattle.std.specs.Prelude.{List, Option, codes, ℕ, [], ◌++◌, ◌∷◌, ◌≡◌, ◌≢◌}
+use Rattle.twin_script.specs.declared.fault.TwinFault.{TwinFault}
 use Rattle.twin_script.specs.Fault as twins
 
 -- what may be due: any of them but that of a failed output

@@ -1,14 +1,15 @@
 -- The status and the text of each stop.
-use Rattle.std.specs.Prelude.{ℕ, List}
-use Rattle.journal_log.specs.Prelude.{ShelfStop}
 use Rattle.durable_store.specs.Stores.{fault_text}
-use Rattle.shelf.specs.declared.kept.ShelfStop.TheVariants as shelves
-use Rattle.exit_status.specs.Statuses.{usage_text, read_text, shelf_text, memory_text}
-use Rattle.s3a_top.specs.Statuses.{script_fault_text, twin_fault_text}
+use Rattle.exit_status.specs.Statuses.{memory_text, read_text, shelf_text, usage_text}
 use Rattle.exit_status.specs.declared.statuses.Status.{Status}
-use Rattle.exit_status.specs.declared.statuses.Status.TheVariants as statuses
+use Rattle.s3a_top.specs.Statuses.{script_fault_text, twin_fault_text}
 use Rattle.s3a_top.specs.declared.stop.Stop.{Stop}
-use Rattle.s3a_top.specs.declared.stop.Stop.TheVariants.{Usage, ReadFault, ShelfFault, Script as BadScript, Twins as BadTwins, Image, NoMemory}
+use Rattle.s3a_top.specs.declared.stop.Stop.TheVariants.{Image, NoMemory, ReadFault, Script as BadScript, ShelfFault, Twins as BadTwins}
+use Rattle.s3a_top.specs.declared.stop.Stop.TheVariants.{Usage}
+use Rattle.shelf.specs.declared.kept.ShelfStop.{ShelfStop}
+use Rattle.std.specs.Prelude.{List, ℕ}
+use Rattle.shelf.specs.declared.kept.ShelfStop.TheVariants as shelves
+use Rattle.exit_status.specs.declared.statuses.Status.TheVariants as statuses
 
 -- the exit status of a stop
 abbrev pub status_of : Stop → Status

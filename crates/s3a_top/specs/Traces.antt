@@ -1,28 +1,32 @@
 -- What comes of `trace`: what a command would send is shown, and nothing is kept.
-use Rattle.std.specs.Prelude.{◌≡◌, ◌⊎◌, ℕ, Bool, true, false, cond, List, ◌∷◌, bytes_eq, codes, Option, Some, None, option_and_then}
-use Rattle.job_spec.specs.Prelude.{Content, Entry, MOST_MINIMUM, Script, new_content}
-use Rattle.job_spec.specs.Promise.{Finished}
-use Rattle.job_spec.specs.States.{verdict}
-use Rattle.journal_log.specs.Prelude.{Load, Sight}
 use Rattle.durable_job.specs.Jobs.{KeepsOne, nothing_told}
 use Rattle.durable_job.specs.declared.jobs.Jobs.TheVariants.{One}
 use Rattle.durable_job.specs.declared.jobs.Told.{Told}
 use Rattle.durable_store.specs.Outcomes.{Tells}
-use Rattle.durable_store.specs.Works.{Work, Says, Saves}
+use Rattle.durable_store.specs.Works.{Saves, Says, Work}
 use Rattle.durable_store.specs.declared.held.Held.{Held}
 use Rattle.durable_store.specs.declared.held.Held.TheVariants.{Store}
 use Rattle.exit_status.specs.Statuses.{code, written_text}
 use Rattle.exit_status.specs.declared.statuses.Status.{Status}
-use Rattle.exit_status.specs.declared.statuses.Status.TheVariants as statuses
-use Rattle.s3a_words.specs.Words.{command_of}
-use Rattle.s3a_words.specs.declared.command.Command.{Command}
-use Rattle.s3a_words.specs.declared.command.Command.TheVariants.{Init, Twins}
+use Rattle.job_model.specs.JobScript.{Script}
+use Rattle.job_spec.specs.Promise.{Finished}
+use Rattle.job_spec.specs.States.{verdict}
+use Rattle.s3_types.specs.Store.{Content, new_content}
+use Rattle.s3_types.specs.declared.journal.Entry.{Entry}
+use Rattle.s3_types.specs.declared.limits.TheConstants.{MOST_MINIMUM}
 use Rattle.s3a_shell.specs.Commanded.{IsWork, plays}
-use Rattle.trace_text.specs.Trace.{requests_text, trace_text}
 use Rattle.s3a_top.specs.Commands.{IsInput, NoCommand, StoreStopped, reads_input}
 use Rattle.s3a_top.specs.Jobs.{JobStopped}
 use Rattle.s3a_top.specs.Openings.{AreJobsOf, IsFound, Opens}
 use Rattle.s3a_top.specs.Statuses.{IsDue}
+use Rattle.s3a_words.specs.Words.{command_of}
+use Rattle.s3a_words.specs.declared.command.Command.{Command}
+use Rattle.s3a_words.specs.declared.command.Command.TheVariants.{Init, Twins}
+use Rattle.shelf.specs.Logged.{Sight}
+use Rattle.shelf.specs.Logged.Call.{Load}
+use Rattle.std.specs.Prelude.{Bool, List, None, Option, Some, bytes_eq, codes, cond, false, option_and_then, true, ℕ, ◌∷◌, ◌≡◌, ◌⊎◌}
+use Rattle.trace_text.specs.Trace.{requests_text, trace_text}
+use Rattle.exit_status.specs.declared.statuses.Status.TheVariants as statuses
 
 -- ---- the words
 

@@ -1,9 +1,4 @@
 -- What the tracing of a command gives before its text is written.
-use Rattle.std.specs.Prelude.{◌≡◌, ℕ, [], true, false, List, Option, Result, Ok, Err}
-use Rattle.job_spec.specs.Prelude.{Content, EventEnd, Pick, Script}
-use Rattle.job_spec.specs.Promise.{Finished}
-use Rattle.job_spec.specs.States.{verdict}
-use Rattle.journal_log.specs.Prelude.{Sight, Stored}
 use Rattle.durable_job.specs.Jobs.{KeepsOne}
 use Rattle.durable_job.specs.declared.jobs.Jobs.TheVariants.{One}
 use Rattle.durable_job.specs.declared.jobs.Told.{Told}
@@ -11,9 +6,13 @@ use Rattle.durable_store.specs.Works.{IsPlain, Work as Doing}
 use Rattle.durable_store.specs.declared.held.Held.{Held}
 use Rattle.durable_store.specs.declared.work.Answer.{Answer}
 use Rattle.exit_status.specs.Statuses.{code}
-use Rattle.s3a_words.specs.declared.command.Command.{Command}
+use Rattle.job_model.specs.JobScript.{Script}
+use Rattle.job_model.specs.declared.ends.EventEnd.{EventEnd}
+use Rattle.job_model.specs.declared.ends.Pick.{Pick}
+use Rattle.job_spec.specs.Promise.{Finished}
+use Rattle.job_spec.specs.States.{verdict}
+use Rattle.s3_types.specs.Store.{Content}
 use Rattle.s3a_shell.specs.Commanded.{IsWork, plays}
-use Rattle.trace_text.specs.Trace.{trace_text}
 use Rattle.s3a_top.specs.Commands.{HasReason, IsInput, reads_input}
 use Rattle.s3a_top.specs.Jobs.{HasCause}
 use Rattle.s3a_top.specs.Openings.{AreJobsOf, IsFound, Opens}
@@ -22,6 +21,10 @@ use Rattle.s3a_top.specs.Workings.{IsQuiet, JobHalted, StoreHalted}
 use Rattle.s3a_top.specs.Works.{IsWritten}
 use Rattle.s3a_top.specs.declared.stop.Stop.{Stop}
 use Rattle.s3a_top.specs.declared.work.Work.{Work}
+use Rattle.s3a_words.specs.declared.command.Command.{Command}
+use Rattle.shelf.specs.Logged.{Sight, Stored}
+use Rattle.std.specs.Prelude.{Err, List, Ok, Option, Result, false, true, ℕ, [], ◌≡◌}
+use Rattle.trace_text.specs.Trace.{trace_text}
 
 -- ---- behind the load
 

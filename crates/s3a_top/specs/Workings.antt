@@ -1,28 +1,30 @@
 -- What the work of the words gives before its text is written.
-use Rattle.std.specs.Prelude.{Err, IfOk, List, None, Ok, Option, Result, Some, false, true, ℕ, ◌-◌, ◌<◌, ◌^◌, ◌≡◌, ◌⊎◌}
-use Rattle.journal_log.specs.Prelude.{CrashesLeave, Entry, Load, Sight}
 use Rattle.durable_job.specs.Jobs.{nothing_told}
 use Rattle.durable_job.specs.declared.jobs.Told.{Told}
+use Rattle.durable_store.specs.Outcomes.{CallsBy, Tells}
+use Rattle.durable_store.specs.Works.{Work as Doing}
+use Rattle.durable_store.specs.declared.held.Held.{Held}
+use Rattle.durable_store.specs.declared.work.Answer.{Answer}
 use Rattle.exit_status.specs.Statuses.{code, memory_text, written_text}
 use Rattle.exit_status.specs.declared.statuses.Status.{Status}
-use Rattle.durable_store.specs.Outcomes.{CallsBy, Tells}
-use Rattle.durable_store.specs.declared.work.Answer.{Answer}
-use Rattle.durable_store.specs.declared.held.Held.{Held}
-use Rattle.s3a_words.specs.Words.{IsBounded}
-use Rattle.s3a_words.specs.declared.command.Command.{Command}
+use Rattle.s3_types.specs.declared.journal.Entry.{Entry}
 use Rattle.s3a_shell.specs.Commanded.{IsWork, plays, takes_input}
 use Rattle.s3a_top.specs.Bytes.{TakesPart}
+use Rattle.s3a_top.specs.Commands.{HasReason, IsInput, NoCommand, StoreDone, StoreStopped, WorkDone, reads_input}
+use Rattle.s3a_top.specs.Jobs.{AreFew, HasCause, JobPlayed, JobStopped, MayHaveLeft}
 use Rattle.s3a_top.specs.Openings.{is_sound}
 use Rattle.s3a_top.specs.Statuses.{IsDue, IsIdle, IsWorked}
 use Rattle.s3a_top.specs.Stops.{status_of, stop_text}
-use Rattle.s3a_top.specs.Jobs.{AreFew, HasCause, JobPlayed, JobStopped, MayHaveLeft}
-use Rattle.s3a_top.specs.Commands.{HasReason, IsInput, NoCommand, StoreDone, StoreStopped, WorkDone, reads_input}
 use Rattle.s3a_top.specs.Works.{IsWritten}
 use Rattle.s3a_top.specs.declared.stop.Stop.{Stop}
+use Rattle.s3a_top.specs.declared.stop.Stop.TheVariants.{Image, NoMemory, ReadFault, Script as BadScript, Twins as BadTwins}
 use Rattle.s3a_top.specs.declared.work.Work.{Work}
+use Rattle.s3a_words.specs.Words.{IsBounded}
+use Rattle.s3a_words.specs.declared.command.Command.{Command}
+use Rattle.shelf.specs.Logged.{CrashesLeave, Sight}
+use Rattle.shelf.specs.Logged.Call.{Load}
+use Rattle.std.specs.Prelude.{Err, IfOk, List, None, Ok, Option, Result, Some, false, true, ℕ, ◌-◌, ◌<◌, ◌^◌, ◌≡◌, ◌⊎◌}
 use Rattle.exit_status.specs.declared.statuses.Status.TheVariants as statuses
-use Rattle.s3a_top.specs.declared.stop.Stop.TheVariants.{ReadFault, Script as BadScript, Twins as BadTwins, Image, NoMemory}
-use Rattle.durable_store.specs.Works.{Work as Doing}
 
 -- the counts of faults of the input and of the shelf may rise, and the command's numbers are within their bounds
 pub record MayDo (input shelf : ℕ) (command : Command) : Type 0 where
@@ -54,7 +56,8 @@ IsMade _ = ⊥
 
 -- a stop is told by its status and its text, or by want of memory for that
 abbrev pub IsToldOf : Stop → Status → List ℕ → Type 0
-IsToldOf stop due text = ((due ≡ status_of stop) × (text ≡ stop_text stop)) ⊎ ((due ≡ statuses.NoMemory) × ((text ≡ memory_text) × IsMade stop))
+IsToldOf stop due text = ((due ≡ status_of stop) × (text ≡ stop_text stop))
+    ⊎ ((due ≡ statuses.NoMemory) × ((text ≡ memory_text) × IsMade stop))
 
 -- and nothing was done
 pub record IsStopped (stop : Stop) (work : Work) : Type 0 where
@@ -74,11 +77,12 @@ pub record JobHalted {S : Type 0} (F : Sight S) (command : Command) (left rest :
   pub leaves : CrashesLeave F old new (MayHaveLeft (F.may_leave old) command (F.held old) left rest)
 
 -- a command stopped before anything was done
-pub record StoreHalted {S : Type 0} (F : Sight S) (command : Command) (left rest : Option (List ℕ)) (old new : S) (stop : Stop) : Type 0 where
-  pub reason : HasReason stop command (F.held old) left rest
-  pub same : F.held new ≡ F.held old
-  pub calls : (old ≡ new) ⊎ (F.fails Load old new ⊎ F.answers Load old new)
-  pub leaves : CrashesLeave F old new (F.may_leave old)
+pub record StoreHalted {S : Type 0} (F : Sight S) (command : Command) (left rest : Option (List ℕ)) (old new : S) (stop : Stop) : Type 0
+  where
+    pub reason : HasReason stop command (F.held old) left rest
+    pub same : F.held new ≡ F.held old
+    pub calls : (old ≡ new) ⊎ (F.fails Load old new ⊎ F.answers Load old new)
+    pub leaves : CrashesLeave F old new (F.may_leave old)
 
 -- ---- a command, by what was found
 
@@ -89,7 +93,8 @@ HasReasonIn NoMemory command before left rest = (rest ≡ left) ⊎ (is_sound be
 HasReasonIn _ command before left rest = ⊥
 
 -- it was done
-pub record StoreOver {S : Type 0} (F : Sight S) (command : Command) (before : Held) (left rest : Option (List ℕ)) (old new : S) (answer : Answer) : Type 0 where
+pub record StoreOver {S : Type 0} (F : Sight S) (command : Command) (before : Held) (left rest : Option (List ℕ)) (old new : S)
+    (answer : Answer) : Type 0 where
   pub bytes : List ℕ
   pub input : IsInput (reads_input command before) left rest bytes
   pub work : Doing
@@ -110,28 +115,34 @@ StoreSince F command before left rest old new (Err stop) = HasReasonIn stop comm
 
 -- of a job, before the text of a stop is made
 abbrev pub JobGoes : {S : Type 0} → Sight S → Command → (left rest : Option (List ℕ)) (old new : S) → Result Work Stop → Type 0
-JobGoes F command left rest old new (Ok work) = JobPlayed F command left rest old new (code work.answer.due) work.answer.sent.entries work.told (IsWritten work.answer)
+JobGoes F command left rest old new (Ok work) = JobPlayed F command left rest old new (code work.answer.due) work.answer.sent.entries
+    work.told (IsWritten work.answer)
 JobGoes F command left rest old new (Err stop) = JobHalted F command left rest old new stop
 
 -- of another command, before the text of a stop is made
 abbrev pub StoreGoes : {S : Type 0} → Sight S → Command → (left rest : Option (List ℕ)) (old new : S) → Result Work Stop → Type 0
-StoreGoes F command left rest old new (Ok work) = StoreDone F command left rest old new (code work.answer.due) work.answer.sent.entries (IsWritten work.answer) × IsQuiet work
+StoreGoes F command left rest old new (Ok work) = StoreDone F command left rest old new (code work.answer.due) work.answer.sent.entries
+    (IsWritten work.answer) × IsQuiet work
 StoreGoes F command left rest old new (Err stop) = StoreHalted F command left rest old new stop
 
 -- of a job or of another command
-pub record Goes {S : Type 0} (F : Sight S) (command : Command) (left rest : Option (List ℕ)) (old new : S) (result : Result Work Stop) : Type 0 where
+pub record Goes {S : Type 0} (F : Sight S) (command : Command) (left rest : Option (List ℕ)) (old new : S) (result : Result Work Stop) :
+    Type 0 where
   pub job : plays command ≡ true → JobGoes F command left rest old new result
   pub store : plays command ≡ false → StoreGoes F command left rest old new result
 
 -- ---- what comes of words, where this is what they say, by the counts of faults of the input and of the shelf before and after
 
 -- the status that is due is one of the program's, and what was done or stopped is as the headline has it
-pub record Comes {S : Type 0} (F : Sight S) (said : Option Command) (left rest : Option (List ℕ)) (old new : S) (i j m n status : ℕ) (es : List Entry) (told : Told) (Says : List ℕ → Type 0) : Type 0 where
+pub record Comes {S : Type 0} (F : Sight S) (said : Option Command) (left rest : Option (List ℕ)) (old new : S) (i j m n status : ℕ)
+    (es : List Entry) (told : Told) (Says : List ℕ → Type 0) : Type 0 where
   pub due : IsDue status
   pub read : Tells 3 status i j
   pub shelf : Tells 5 status m n
-  pub job : (c : Command) → said ≡ Some c → plays c ≡ true → JobPlayed F c left rest old new status es told Says ⊎ JobStopped F c left rest old new status es told Says
-  pub store : (c : Command) → said ≡ Some c → plays c ≡ false → StoreDone F c left rest old new status es Says ⊎ StoreStopped F c left rest old new status es Says
+  pub job : (c : Command) → said ≡ Some c → plays c ≡ true → JobPlayed F c left rest old new status es told Says
+      ⊎ JobStopped F c left rest old new status es told Says
+  pub store : (c : Command) → said ≡ Some c → plays c ≡ false → StoreDone F c left rest old new status es Says
+      ⊎ StoreStopped F c left rest old new status es Says
   pub quiet : (c : Command) → said ≡ Some c → plays c ≡ false → told ≡ nothing_told
   pub usage : said ≡ None → NoCommand status old new es told Says
   pub command : status ≡ 2 → said ≡ None

@@ -1,5 +1,5 @@
 ghost use Rattle.std.specs.Prelude.{◌≡◌, ℕ, ◌<◌, ◌≤◌, ◌^◌, ◌-◌, true, false, None, Some, Option, IfOk};
-ghost use Rattle.journal_log.specs.Prelude.{Stored};
+ghost use Rattle.shelf.specs.Logged.{Stored};
 ghost use Rattle.durable_store.specs.Doing.{work_in};
 ghost use Rattle.durable_store.specs.Outcomes.{IsSound};
 ghost use Rattle.durable_store.specs.Works as works;

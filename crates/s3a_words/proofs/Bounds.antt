@@ -1,11 +1,13 @@
 -- The numbers that words name are within their bounds.
-use Rattle.std.specs.Prelude.{◌≡◌, ℕ, ◌≤◌, ◌&&◌, nat_le, Bool, true, false, cond, List, [], ◌∷◌, Option, Some, None, option_map, option_and_then}
-use Rattle.s3a_words.proofs.Common.{and_parts, leb-true, refl, subst}
 use Rattle.s3_types.specs.declared.limits.TheConstants.{MOST_MINIMUM}
-use Rattle.s3a_words.specs.Numbers.{number_in, is_minimum, minimum_in, number_within}
-use Rattle.s3a_words.specs.Words.{alone, with_path, with_operand, with_paths, with_two, made, with_three, said, command_of, IsBounded}
+use Rattle.s3a_words.specs.Numbers.{is_minimum, minimum_in, number_in, number_within}
+use Rattle.s3a_words.specs.Words.{IsBounded, alone, command_of, made, said, with_operand, with_path, with_paths, with_three, with_two}
 use Rattle.s3a_words.specs.declared.command.Command.{Command}
-use Rattle.s3a_words.specs.declared.command.Command.TheVariants.{Init, Gen}
+use Rattle.s3a_words.specs.declared.command.Command.TheVariants.{Gen, Init}
+use Rattle.std.proofs.Common.{refl, subst}
+use Rattle.std.proofs.lemmas.Bool.{and_parts, leb-true}
+use Rattle.std.specs.Prelude.{Bool, List, None, Option, Some, cond, false, nat_le, option_and_then, option_map, true, ℕ, [], ◌&&◌, ◌∷◌, ◌≡◌}
+use Rattle.std.specs.Prelude.{◌≤◌}
 
 abbrev Of : Option Command → Type 0
 Of None = Unit {0}
@@ -38,7 +40,8 @@ unfolding alone
 alone_bounded name = search each depth 40
 
 least : (n : ℕ) (b : Bool) → is_minimum n ≡ b → AreBounded (option_map (λ m. Init (Some m)) (cond b (Some n) None))
-least n true e = let both = and_parts (nat_le 1 n) (nat_le n MOST_MINIMUM) e in is (Init (Some n)) (leb-true 1 n both.0, leb-true n MOST_MINIMUM both.1)
+least n true e = let both = and_parts (nat_le 1 n) (nat_le n MOST_MINIMUM) e in is (Init (Some n))
+    (leb-true 1 n both.0, leb-true n MOST_MINIMUM both.1)
 least n false e = none
 
 least_in : (o : Option ℕ) → AreBounded (option_map (λ m. Init (Some m)) (option_and_then (λ n. cond (is_minimum n) (Some n) None) o))
@@ -83,7 +86,8 @@ made_bounded (Some seed) (Some tasks) (Some files) is_s is_t is_f = is (Gen seed
 
 three_bounded : (name first second third : List ℕ) → AreBounded (with_three name first second third)
 unfolding with_three made
-three_bounded name first second third = either _ _ _ (made_bounded _ _ _ (within 0 4294967295 first) (within 1 200 second) (within 1 50 third)) none
+three_bounded name first second third = either _ _ _ (made_bounded _ _ _ (within 0 4294967295 first) (within 1 200 second)
+    (within 1 50 third)) none
 
 said_bounded : (words : List (List ℕ)) → AreBounded (said words)
 said_bounded [] = none

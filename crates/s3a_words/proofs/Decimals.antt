@@ -1,8 +1,16 @@
 -- A word writes a number exactly where it is the number's decimal text.
-use Rattle.s3a_words.proofs.Common.{List, None, Some, all_ascii_digits, and_parts, ap, arith, cond_some, decimal, decimal-digits_value, decimal_digit, decimal_nonempty, digits_decimal, digits_value, digits_value-decimal, false, first_decimal, get_or, le-leb, leb-true, length, length-decimal-le, nat_le, nat_tests, not, refl, subst, true, ℕ, ◌&&◌, ◌<◌, ◌==◌, ◌^◌, ◌||◌, ◌≡◌, ◌≤◌}
-use Rattle.std.proofs.lemmas.Bool.{false_from_ne_true}
-use Rattle.std.proofs.lemmas.Str.Parse.{IsNumeralModel, numerals_by_value, tells_all_ascii_digits, digits_value_short}
-use Rattle.s3a_words.specs.Numbers.{is_number, number_in, WritesDecimals}
+use Rattle.s3a_words.specs.Numbers.{WritesDecimals, is_number, number_in}
+use Rattle.std.proofs.Common.{List, None, Some, ap, arith, false, get_or, length, nat_le, not, refl, subst, true, ℕ, ◌&&◌, ◌<◌, ◌==◌, ◌^◌}
+use Rattle.std.proofs.Common.{◌||◌, ◌≡◌, ◌≤◌}
+use Rattle.std.proofs.lemmas.Bool.{and_parts, false_from_ne_true, le-leb, leb-true}
+use Rattle.std.proofs.lemmas.Bool.Decides.{nat_tests}
+use Rattle.std.proofs.lemmas.Fmt.{decimal-digits_value, decimal_digit, decimal_nonempty, digits_decimal, digits_value-decimal}
+use Rattle.std.proofs.lemmas.Fmt.{first_decimal, length-decimal-le}
+use Rattle.std.proofs.lemmas.Option.{cond_some}
+use Rattle.std.proofs.lemmas.Str.Parse.{IsNumeralModel, digits_value_short, numerals_by_value, tells_all_ascii_digits}
+use Rattle.std.specs.Fmt.{decimal}
+use Rattle.std.specs.Str.{all_ascii_digits}
+use Rattle.std.specs.Str.Parse.{digits_value}
 
 own : IsNumeralModel (λ ds. all_ascii_digits ds ≡ true) (digits_value 10)
 own = numerals_by_value (λ ds. all_ascii_digits ds ≡ true) tells_all_ascii_digits
@@ -19,7 +27,8 @@ first_of first count h e = grind (arith, nat_tests)
 
 word_parts : (word : List ℕ) → is_number word ≡ true → IsWord word
 word_parts word h =
-    let whole = and_parts (nat_le 1 (length word) && nat_le (length word) 18 && all_ascii_digits word) ((length word == 1) || not (get_or word 0 0 == 48)) h in
+    let whole = and_parts (nat_le 1 (length word) && nat_le (length word) 18 && all_ascii_digits word)
+    ((length word == 1) || not (get_or word 0 0 == 48)) h in
     let digits = and_parts (nat_le 1 (length word) && nat_le (length word) 18) (all_ascii_digits word) whole.0 in
     let count = and_parts (nat_le 1 (length word)) (nat_le (length word) 18) digits.0 in
     record {
@@ -41,7 +50,8 @@ written word is =
 pub none_written : (word : List ℕ) → ((n : ℕ) → n < 10 ^ 18 → decimal n ≡ word → ⊥) → number_in word ≡ None
 unfolding number_in
 none_written word other =
-    let fails : is_number word ≡ false = false_from_ne_true (is_number word) (λ h. other (digits_value 10 word) (small word (word_parts word h)) (written word (word_parts word h))) in
+    let fails : is_number word ≡ false = false_from_ne_true (is_number word) (λ h. other (digits_value 10 word)
+    (small word (word_parts word h)) (written word (word_parts word h))) in
     rw fails refl
 
 test_of : (first count : ℕ) → (first ≡ 48 → count ≡ 1) → ((count == 1) || not (first == 48)) ≡ true

@@ -1,4 +1,3 @@
 mod Decimals
 mod Bounds
 mod Parse
-mod Common

@@ -1,16 +1,25 @@
 -- What clap makes of words that do not begin with `-`.
-use Rattle.s3a_words.proofs.Common.{Bool, Err, Gives, IfOk, IsErr, List, None, Ok, Option, Result, [], and_parts, ap, ap₂, arith, bytes_eq, codes, false, fold, found_of, given, grammar, is_plain, is_some, list_all, listed, nat_tests, refl, rows_of, said, subst, sym, true, ℕ, ◌&&◌, ◌==◌, ◌∙◌, ◌∷◌, ◌≡◌}
-use Rattle.clap.specs.Lexer.{long_of, short_of}
-use Rattle.clap.specs.Walk.{Held, Row, Text, Walk, arg_by_index, finished, first_of, idle, nothing_held, to_positional, value, walk, walked}
-use Rattle.clap.specs.Simple.{Shape, built, entered, is_simple, matches_of}
-use Rattle.clap.specs.Takes.{entered_passes, is_valid, default_passes, settle_passes, step_passes, takes, walk_passes}
+use Rattle.clap.proofs.OnLiterals.{clap_on_literals}
+use Rattle.clap.proofs.WalkLemmas.{first_value-rows}
 use Rattle.clap.specs.Faults.{fault_of, is_simple_and_free, step_fault, walk_fault}
 use Rattle.clap.specs.Kinds.{Kinds, or_else}
+use Rattle.clap.specs.Lexer.{long_of, short_of}
+use Rattle.clap.specs.Simple.{Shape, built, entered, is_simple, matches_of}
+use Rattle.clap.specs.Takes.{default_passes, entered_passes, is_valid, settle_passes, step_passes, takes, walk_passes}
+use Rattle.clap.specs.Walk.{Held, Row, Text, Walk, arg_by_index, finished, first_of, idle, nothing_held, to_positional, value, walk, walked}
+use Rattle.clap.specs.Words.{found_of, rows_of}
 use Rattle.clap.specs.declared.error.kind.ErrorKind.{ErrorKind}
-use Rattle.clap.specs.declared.error.kind.ErrorKind.TheVariants as kind
-use Rattle.clap.proofs.OnLiterals.{clap_on_literals}
 use Rattle.clap.specs.declared.parser.matches.ArgMatches.{ArgMatches}
-use Rattle.clap.proofs.WalkLemmas.{first_value-rows}
+use Rattle.s3a_words.specs.Grammar.{Gives, given, grammar, listed}
+use Rattle.s3a_words.specs.Words.{is_plain, said}
+use Rattle.std.proofs.Common.{Bool, List, None, Option, ap, ap₂, arith, codes, false, fold, is_some, refl, subst, sym, true, ℕ, [], ◌&&◌}
+use Rattle.std.proofs.Common.{◌==◌, ◌∙◌, ◌∷◌, ◌≡◌}
+use Rattle.std.proofs.lemmas.Bool.{and_parts}
+use Rattle.std.proofs.lemmas.Bool.Decides.{nat_tests}
+use Rattle.std.specs.List.{list_all}
+use Rattle.std.specs.Prelude.{Err, IfOk, IsErr, Ok, Result}
+use Rattle.std.specs.Str.{bytes_eq}
+use Rattle.clap.specs.declared.error.kind.ErrorKind.TheVariants as kind
 
 -- clap takes the word for no flag
 record IsBare (word : Text) : Type 0 where
@@ -75,7 +84,8 @@ takes_after w passed = entered_passes (built grammar) w.stopped
     && (passed && (settle_passes top.rules top.args_override_self w.held
     && (list_all default_passes top.rules && is_valid top (finished top.rules w.held) (is_some (entered (built grammar) w.stopped)))))
 
-takes_is : (words : List Text) → takes grammar words ≡ takes_after (walk top.rules [] nothing_held words) (walk_passes top [] (at nothing_held 1) words)
+takes_is : (words : List Text) → takes grammar words ≡ takes_after (walk top.rules [] nothing_held words)
+    (walk_passes top [] (at nothing_held 1) words)
 unfolding takes_after
 takes_is words = refl
 
@@ -136,13 +146,16 @@ module _ (a b : Text) (is_a : IsBare a) (is_b : IsBare b) where
   read_two = read_by (a ∷ b ∷ []) (at (second_held a b) 3) (walks_two []) (passes_two [] ∙ passes_none _) refl refl
 
 module _ (a b c : Text) (is_a : IsBare a) (is_b : IsBare b) (is_c : IsBare c) where
-  walks_three : (rest : List Text) → walk top.rules [] nothing_held (a ∷ b ∷ c ∷ rest) ≡ fold (walked top.rules []) (at (third_held a b c) 4) rest
+  walks_three : (rest : List Text) → walk top.rules [] nothing_held (a ∷ b ∷ c ∷ rest) ≡ fold (walked top.rules [])
+      (at (third_held a b c) 4) rest
   walks_three rest = walks_two a b is_a is_b (c ∷ rest) ∙ ap (λ w. fold (walked top.rules []) w rest) (walks c (second_held a b) 3 is_c)
 
-  passes_three : (rest : List Text) → walk_passes top [] (at nothing_held 1) (a ∷ b ∷ c ∷ rest) ≡ walk_passes top [] (at (third_held a b c) 4) rest
+  passes_three : (rest : List Text) → walk_passes top [] (at nothing_held 1) (a ∷ b ∷ c ∷ rest) ≡ walk_passes top []
+      (at (third_held a b c) 4) rest
   passes_three rest = passes_two a b is_a is_b (c ∷ rest) ∙ passes c rest (second_held a b) 3 is_c
 
-  fails_three : (rest : List Text) → walk_fault top [] (at nothing_held 1) (a ∷ b ∷ c ∷ rest) ≡ walk_fault top [] (at (third_held a b c) 4) rest
+  fails_three : (rest : List Text) → walk_fault top [] (at nothing_held 1) (a ∷ b ∷ c ∷ rest) ≡ walk_fault top [] (at (third_held a b c) 4)
+      rest
   fails_three rest = fails_two a b is_a is_b (c ∷ rest) ∙ fails c rest (second_held a b) 3 is_c
 
   read_three : IsRead (a ∷ b ∷ c ∷ [])
@@ -156,7 +169,8 @@ module _ (a b c d : Text) (is_a : IsBare a) (is_b : IsBare b) (is_c : IsBare c) 
   passes_four : walk_passes top [] (at nothing_held 1) (a ∷ b ∷ c ∷ d ∷ []) ≡ true
   passes_four = passes_three a b c is_a is_b is_c (d ∷ []) ∙ passes d [] (third_held a b c) 4 is_d ∙ passes_none _
 
-  fails_four : (rest : List Text) → walk_fault top [] (at nothing_held 1) (a ∷ b ∷ c ∷ d ∷ rest) ≡ walk_fault top [] (at (fourth_held a b c d) 5) rest
+  fails_four : (rest : List Text) → walk_fault top [] (at nothing_held 1) (a ∷ b ∷ c ∷ d ∷ rest) ≡ walk_fault top []
+      (at (fourth_held a b c d) 5) rest
   fails_four rest = fails_three a b c is_a is_b is_c (d ∷ rest) ∙ fails d rest (third_held a b c) 4 is_d
 
   read_four : IsRead (a ∷ b ∷ c ∷ d ∷ [])
@@ -164,7 +178,8 @@ module _ (a b c d : Text) (is_a : IsBare a) (is_b : IsBare b) (is_c : IsBare c) 
   read_four = read_by (a ∷ b ∷ c ∷ d ∷ []) (at (fourth_held a b c d) 5) walks_four passes_four refl refl
 
   -- one word more is an argument that clap does not know
-  fails_five : (e : Text) (rest : List Text) → IsBare e → walk_fault top [] (at nothing_held 1) (a ∷ b ∷ c ∷ d ∷ e ∷ rest) ≡ kind.UnknownArgument ∷ []
+  fails_five : (e : Text) (rest : List Text) → IsBare e
+      → walk_fault top [] (at nothing_held 1) (a ∷ b ∷ c ∷ d ∷ e ∷ rest) ≡ kind.UnknownArgument ∷ []
   fails_five e rest is_e = fails_four (e ∷ rest) ∙ fails e rest (fourth_held a b c d) 5 is_e
 
 first_fails : (first next : Kinds) (x : ErrorKind) → first ≡ x ∷ [] → or_else first next ≡ [] → ⊥
@@ -182,7 +197,8 @@ none_fails h =
 five_fail : (a b c d e : Text) (rest : List Text) → IsBare a → IsBare b → IsBare c → IsBare d → IsBare e
     → fault_of grammar (a ∷ b ∷ c ∷ d ∷ e ∷ rest) ≡ [] → ⊥
 five_fail a b c d e rest is_a is_b is_c is_d is_e h =
-    first_fails (walk_fault top [] (at nothing_held 1) (a ∷ b ∷ c ∷ d ∷ e ∷ rest)) _ kind.UnknownArgument (fails_five a b c d is_a is_b is_c is_d e rest is_e) h
+    first_fails (walk_fault top [] (at nothing_held 1) (a ∷ b ∷ c ∷ d ∷ e ∷ rest)) _ kind.UnknownArgument
+    (fails_five a b c d is_a is_b is_c is_d e rest is_e) h
 
 one_plain : (word : Text) (rest : List Text) → list_all is_plain (word ∷ rest) ≡ true → IsBare word × (list_all is_plain rest ≡ true)
 one_plain word rest h = let both = and_parts (is_plain word) (list_all is_plain rest) h in (bare_word word both.0, both.1)
@@ -229,7 +245,8 @@ refused words h not_taken = go (count words h) not_taken
     go (uncounted ws faulty none) other = none
 
 -- where clap gives no matches of words that it takes only for want of memory
-pub without : {E : Type 0} (words : List Text) (r : Result (Option ArgMatches) E) → IfOk r (λ o. o ≡ None) → (takes grammar words ≡ true → IsErr r)
+pub without : {E : Type 0} (words : List Text) (r : Result (Option ArgMatches) E) → IfOk r (λ o. o ≡ None)
+    → (takes grammar words ≡ true → IsErr r)
     → list_all is_plain words ≡ true → IfOk r (Gives words)
 without words (Err e) none wanting h = tt
 without words (Ok o) none wanting h = subst (Gives words) (sym none) (refused words h (λ taken.

@@ -15,7 +15,8 @@ bare = on_top (λ s. record s { no_binary_name = true; disable_help_flag = true 
 
 -- the name of a command, and up to three operands
 abbrev pub grammar : App
-grammar = with_rule (with_rule (with_rule (with_rule bare command_rule) (new_rule (codes "first"))) (new_rule (codes "second"))) (new_rule (codes "third"))
+grammar = with_rule (with_rule (with_rule (with_rule bare command_rule) (new_rule (codes "first"))) (new_rule (codes "second")))
+    (new_rule (codes "third"))
 
 -- a word and those behind it, or none where it is not there
 abbrev pub listed : Option Text → List Text → List Text

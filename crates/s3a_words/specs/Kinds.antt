@@ -1,10 +1,12 @@
 -- What each command does with a store and with the input, and the path that it names.
-use Rattle.std.specs.Prelude.{ℕ, Bool, true, false, List, []}
 use Rattle.path_keys.specs.Paths.{Path}
 use Rattle.s3a_words.specs.declared.command.Command.{Command}
-use Rattle.s3a_words.specs.declared.command.Command.TheVariants.{Init, Mb, Ls, Stat, Cat, Put, PutForce, PutDrop, Mkdir, Rm, Rmr, Mv, Cp, Uploads, AbortUploads, Markers, CleanMarkers, FillMarkers, Job, Gen, Twins}
+use Rattle.s3a_words.specs.declared.command.Command.TheVariants.{AbortUploads, Cat, CleanMarkers, Cp, FillMarkers, Gen, Init, Job, Ls}
+use Rattle.s3a_words.specs.declared.command.Command.TheVariants.{Markers, Mb, Mkdir, Mv, Put, PutDrop, PutForce, Rm, Rmr, Stat, Twins}
+use Rattle.s3a_words.specs.declared.command.Command.TheVariants.{Uploads}
 use Rattle.s3a_words.specs.declared.command.CommandKind.{CommandKind}
-use Rattle.s3a_words.specs.declared.command.CommandKind.TheVariants.{Begins, Looks, Changes, Puts, Aborts, Plays}
+use Rattle.s3a_words.specs.declared.command.CommandKind.TheVariants.{Aborts, Begins, Changes, Looks, Plays, Puts}
+use Rattle.std.specs.Prelude.{Bool, List, false, true, ℕ, []}
 
 -- the root of a bucket
 abbrev root_of : List ℕ → Path

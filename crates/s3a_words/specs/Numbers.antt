@@ -1,11 +1,15 @@
 -- Numbers among the program's words.
-use Rattle.std.specs.Prelude.{◌≡◌, ◌↔◌, ◌<◌, ◌^◌, ℕ, ◌==◌, ◌&&◌, ◌||◌, nat_le, not, Bool, List, length, slice_index, Option, Some, None, option_and_then, if◌then◌else◌}
-use Rattle.s3_types.specs.Prelude.{decimal, all_ascii_digits, digits_value}
 use Rattle.s3_types.specs.declared.limits.TheConstants.{MOST_MINIMUM}
+use Rattle.std.specs.Fmt.{decimal}
+use Rattle.std.specs.Prelude.{Bool, List, None, Option, Some, if◌then◌else◌, length, nat_le, not, option_and_then, slice_index, ℕ, ◌&&◌}
+use Rattle.std.specs.Prelude.{◌<◌, ◌==◌, ◌^◌, ◌||◌, ◌↔◌, ◌≡◌}
+use Rattle.std.specs.Str.{all_ascii_digits}
+use Rattle.std.specs.Str.Parse.{digits_value}
 
 -- a number is 1 to 18 decimal digits, of which the first is no 0 unless it is the only one
 abbrev pub is_number : List ℕ → Bool
-is_number word = nat_le 1 (length word) && nat_le (length word) 18 && all_ascii_digits word && (length word == 1 || not (slice_index word 0 == 48))
+is_number word = nat_le 1 (length word) && nat_le (length word) 18 && all_ascii_digits word &&
+    (length word == 1 || not (slice_index word 0 == 48))
 
 -- the number that a word writes
 unfoldable pub number_in : List ℕ → Option ℕ

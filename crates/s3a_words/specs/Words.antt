@@ -1,14 +1,17 @@
 -- What the program's words say: the folder, the name of a command, and its operands.
-use Rattle.std.specs.Prelude.{◌≡◌, ◌≤◌, ℕ, List, [], ◌∷◌, Bool, not, nat_eq, codes, bytes_eq, Option, Some, None, option_map, option_and_then, Result, Ok, Err, if◌then◌else◌}
-use Rattle.s3_types.specs.Prelude.{list_all, starts_with}
-use Rattle.s3_types.specs.declared.limits.TheConstants.{MOST_MINIMUM}
 use Rattle.path_keys.specs.Paths.{Path, path_in}
 use Rattle.path_keys.specs.declared.fault.PathFault.{PathFault}
+use Rattle.s3_types.specs.declared.limits.TheConstants.{MOST_MINIMUM}
 use Rattle.s3a_words.specs.Numbers.{minimum_in, number_within}
 use Rattle.s3a_words.specs.declared.command.Command.{Command}
-use Rattle.s3a_words.specs.declared.command.Command.TheVariants.{Init, Mb, Ls, Stat, Cat, Put, PutForce, PutDrop, Mkdir, Rm, Rmr, Mv, Cp, Uploads, AbortUploads, Markers, CleanMarkers, FillMarkers, Job, Gen, Twins}
+use Rattle.s3a_words.specs.declared.command.Command.TheVariants.{AbortUploads, Cat, CleanMarkers, Cp, FillMarkers, Gen, Init, Job, Ls}
+use Rattle.s3a_words.specs.declared.command.Command.TheVariants.{Markers, Mb, Mkdir, Mv, Put, PutDrop, PutForce, Rm, Rmr, Stat, Twins}
+use Rattle.s3a_words.specs.declared.command.Command.TheVariants.{Uploads}
 use Rattle.s3a_words.specs.declared.command.WordFault.{WordFault}
-use Rattle.s3a_words.specs.declared.command.WordFault.TheVariants.{Usage, NoMemory}
+use Rattle.s3a_words.specs.declared.command.WordFault.TheVariants.{NoMemory, Usage}
+use Rattle.std.specs.List.{list_all, starts_with}
+use Rattle.std.specs.Prelude.{Bool, Err, List, None, Ok, Option, Result, Some, bytes_eq, codes, if◌then◌else◌, nat_eq, not, option_and_then}
+use Rattle.std.specs.Prelude.{option_map, ℕ, [], ◌∷◌, ◌≡◌, ◌≤◌}
 
 -- a word that does not begin with `-`
 abbrev pub is_plain : List ℕ → Bool
@@ -71,7 +74,8 @@ with_two name first second = option_and_then (λ from. option_and_then (with_pat
 -- the script that a seed, a number of tasks and a number of files make
 unfoldable pub made : List ℕ → List ℕ → List ℕ → Option Command
 made seed tasks files =
-    option_and_then (λ s. option_and_then (λ t. option_map (λ f. Gen s t f) (number_within 1 50 files)) (number_within 1 200 tasks)) (number_within 0 4294967295 seed)
+    option_and_then (λ s. option_and_then (λ t. option_map (λ f. Gen s t f) (number_within 1 50 files)) (number_within 1 200 tasks))
+    (number_within 0 4294967295 seed)
 
 -- what a name says with three operands
 unfoldable pub with_three : List ℕ → List ℕ → List ℕ → List ℕ → Option Command

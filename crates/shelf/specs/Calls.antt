@@ -1,7 +1,7 @@
 -- Which calls of a device in memory fail, and how its counts go on.
-use Rattle.std.specs.Prelude.{◌≡◌, ◌⊎◌, ℕ, ◌+◌, ◌-◌, ◌^◌, ◌==◌, ◌||◌, nat_lt, min, Bool, true, false, List, Option, Some, None}
-use Rattle.s3_types.specs.Prelude.{list_any}
 use Rattle.shelf.specs.declared.calls.Calls.{Calls}
+use Rattle.std.specs.List.{list_any}
+use Rattle.std.specs.Prelude.{Bool, List, None, Option, Some, false, min, nat_lt, true, ℕ, ◌+◌, ◌-◌, ◌==◌, ◌^◌, ◌||◌, ◌≡◌, ◌⊎◌}
 
 -- a count that rose by one, or stands at 2^64 - 1
 abbrev pub one_more : ℕ → ℕ

@@ -1,9 +1,9 @@
 -- A shelf that takes changes one by one: what it holds, what its calls make of that, and what a crash leaves of it.
-use Rattle.std.specs.Prelude.{◌≡◌, ◌⊎◌, ℕ, ◌<◌, ◌≤◌, List, [], ◌∷◌, ◌++◌, length, Option, Some, None}
-use Rattle.s3_types.specs.Prelude.{option_map}
-use Rattle.s3_types.specs.declared.request.Request.{Request}
 use Rattle.log_format.specs.Log.{log}
 use Rattle.log_format.specs.declared.held.Held.{Held}
+use Rattle.s3_types.specs.declared.request.Request.{Request}
+use Rattle.std.specs.Option.{option_map}
+use Rattle.std.specs.Prelude.{List, None, Option, Some, length, ℕ, [], ◌++◌, ◌<◌, ◌∷◌, ◌≡◌, ◌≤◌, ◌⊎◌}
 
 -- nothing, a base and the changes after it, or a file that is bad at a place
 pub data Holding : Type 0 where

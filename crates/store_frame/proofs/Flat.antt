@@ -1,7 +1,27 @@
 -- A listing without a delimiter has the keys that stand, in order.
-use Rattle.store_frame.proofs.Common.{AllByRecursion, Bool, IsIn, IsStrictlySortedBy, Less, List, None, Object, Objects, PageEntry, RisesFrom, Some, [], ap, arith, begins, contrary, entry_of, eq_by_cmp, false, false_true, filter, filter_in, find, folded_from, in_filter, in_map, inl, inr, irrefl, is_again, is_lt, keys_of, last_from, length, listed, lt, lt_trans, ltb-false, map, map_in, map_sorted, nat_lt, none_some, refl, some_is, sorted_head, sorted_tail, subst, suc, sym, take, text_cmp, text_exact, text_false, text_in, text_ties, text_total, text_true, tied, true, true_or_false, zero, ℕ, ◌++◌, ◌∙◌, ◌∷◌, ◌≡◌, ◌≤◌, ◌⊎◌}
-use Rattle.std.specs.FinMap as fin
+use Rattle.basics.proofs.Bools.{contrary}
+use Rattle.basics.proofs.Less.{irrefl, lt, lt_trans}
+use Rattle.basics.proofs.Members.{false_true, filter_in, in_filter, in_map, map_in, none_some, some_is, text_exact, text_false, text_true}
+use Rattle.basics.proofs.Members.{true_or_false}
+use Rattle.basics.proofs.Tree.{map_sorted, tied}
+use Rattle.basics.specs.Members.{IsIn, RisesFrom, last_from}
+use Rattle.basics.specs.Order.{text_cmp, text_ties, text_total}
+use Rattle.s3_types.specs.Pages.{begins, entry_of, folded_from, is_again, listed, text_in}
+use Rattle.s3_types.specs.Store.{Objects}
+use Rattle.s3_types.specs.declared.object.Object.{Object}
+use Rattle.s3_types.specs.declared.reply.PageEntry.{PageEntry}
+use Rattle.std.proofs.Common.{Bool, List, None, Some, ap, arith, false, inl, inr, length, map, nat_lt, refl, subst, suc, sym, take, true}
+use Rattle.std.proofs.Common.{zero, ℕ, [], ◌++◌, ◌∙◌, ◌∷◌, ◌≡◌, ◌≤◌, ◌⊎◌}
+use Rattle.std.proofs.lemmas.Bool.{ltb-false}
+use Rattle.std.proofs.lemmas.Map.Keys.{sorted_head, sorted_tail}
+use Rattle.std.specs.FinMap.Entries.{find}
+use Rattle.std.specs.List.{AllByRecursion, filter}
+use Rattle.std.specs.List.Sorted.{IsStrictlySortedBy}
+use Rattle.std.specs.Map.{keys_of}
+use Rattle.std.specs.Ordering.{eq_by_cmp, is_lt}
+use Rattle.std.specs.declared.cmp.Ordering.TheVariants.{Less}
 use Rattle.store_frame.specs.Laws.{keys_listed}
+use Rattle.std.specs.FinMap as fin
 
 -- ---- what is listed rises
 
@@ -15,13 +35,18 @@ texts xs = map text_in xs
 abbrev flat : List ℕ → List Entry → List PageEntry
 flat p es = map (entry_of p false) (filter (λ e. begins p e.0) es)
 
-rises_above : (p k : List ℕ) (t : PageEntry → Bool) (es : List Entry) → AllByRecursion (λ q. text_cmp k q ≡ Less) (keys_of es) → IsStrictlySortedBy text_cmp (keys_of es) → RisesFrom k (texts (filter t (flat p es)))
+rises_above : (p k : List ℕ) (t : PageEntry → Bool) (es : List Entry) → AllByRecursion (λ q. text_cmp k q ≡ Less) (keys_of es)
+    → IsStrictlySortedBy text_cmp (keys_of es) → RisesFrom k (texts (filter t (flat p es)))
 rises_above p k t [] a s = tt
 rises_above p k t (e ∷ es) a s = elim (true_or_false (begins p e.0)) [
   | inr b ↦ rw b (rises_above p k t es a.1 (sorted_tail text_cmp e.0 (keys_of es) s))
   | inl b ↦ elim (true_or_false (t (entry_of p false e))) [
     | inr c ↦ rw (b, c) (rises_above p k t es a.1 (sorted_tail text_cmp e.0 (keys_of es) s))
-    | inl c ↦ rw (b, c) (ap is_lt a.0, rises_above p e.0 t es (sorted_head text_cmp e.0 (keys_of es) s) (sorted_tail text_cmp e.0 (keys_of es) s))
+    | inl c ↦ rw (b, c) (
+      ap is_lt a.0,
+      rises_above p e.0 t es (sorted_head text_cmp e.0 (keys_of es) s)
+          (sorted_tail text_cmp e.0 (keys_of es) s),
+    )
   ]
 ]
 
@@ -35,7 +60,11 @@ rises_behind p l (e ∷ es) s = elim (true_or_false (begins p e.0)) [
   | inr b ↦ rw b (rises_behind p l es (sorted_tail text_cmp e.0 (keys_of es) s))
   | inl b ↦ elim (true_or_false (is_lt (text_cmp l e.0))) [
     | inr h ↦ rw (b, h) (rises_behind p l es (sorted_tail text_cmp e.0 (keys_of es) s))
-    | inl h ↦ rw (b, h) (h, rises_above p e.0 (λ x. is_lt (text_cmp l (text_in x))) es (sorted_head text_cmp e.0 (keys_of es) s) (sorted_tail text_cmp e.0 (keys_of es) s))
+    | inl h ↦ rw (b, h) (
+      h,
+      rises_above p e.0 (λ x. is_lt (text_cmp l (text_in x))) es (sorted_head text_cmp e.0 (keys_of es) s)
+          (sorted_tail text_cmp e.0 (keys_of es) s),
+    )
   ]
 ]
 
@@ -92,7 +121,8 @@ found_in (p ∷ es) k x e = elim (true_or_false (eq_by_cmp text_cmp k p.0)) [
   | inl h ↦ inl (ap (λ q. (q, x)) (text_exact k p.0 (tied _ h)) ∙ ap (λ v. (p.0, v)) (sym (some_is (rw h at e))))
 ]
 
-above_all : (k : List ℕ) (es : List Entry) (e : Entry) → AllByRecursion (λ q. text_cmp k q ≡ Less) (keys_of es) → IsIn e es → text_cmp k e.0 ≡ Less
+above_all : (k : List ℕ) (es : List Entry) (e : Entry) → AllByRecursion (λ q. text_cmp k q ≡ Less) (keys_of es) → IsIn e es
+    → text_cmp k e.0 ≡ Less
 above_all k [] e a i = absurd i
 above_all k (p ∷ es) e a (inl is) = ap (λ (x : Entry). text_cmp k x.0) is ∙ a.0
 above_all k (p ∷ es) e a (inr i) = above_all k es e a.1 i
@@ -105,23 +135,27 @@ found_at (p ∷ es) e s (inl is) =
     rw tie (ap (λ (x : Entry). Some x.1) (sym is))
 found_at (p ∷ es) e s (inr i) =
     let above : is_lt (text_cmp p.0 e.0) ≡ true = ap is_lt (above_all p.0 es e (sorted_head text_cmp p.0 (keys_of es) s) i) in
-    let tie : eq_by_cmp text_cmp e.0 p.0 ≡ false = sym (text_ties e.0 p.0) ∙ text_false e.0 p.0 (λ h. false_true (irrefl text_total p.0) (ap (lt text_cmp p.0) (sym h) ∙ above)) in
+    let tie : eq_by_cmp text_cmp e.0 p.0 ≡ false = sym (text_ties e.0 p.0) ∙ text_false e.0 p.0
+    (λ h. false_true (irrefl text_total p.0) (ap (lt text_cmp p.0) (sym h) ∙ above)) in
     rw tie (found_at es e (sorted_tail text_cmp p.0 (keys_of es) s) i)
 
-pub listed_all : (p l : List ℕ) (m : Objects) (k : List ℕ) (x : Object) → fin.get m k ≡ Some x → begins p k ≡ true → is_lt (text_cmp l k) ≡ true → IsIn k (texts (listed p false l m))
+pub listed_all : (p l : List ℕ) (m : Objects) (k : List ℕ) (x : Object) → fin.get m k ≡ Some x → begins p k ≡ true
+    → is_lt (text_cmp l k) ≡ true → IsIn k (texts (listed p false l m))
 listed_all p l m k x e h g =
     let stands : IsIn (k, x) (fin.entries m) = found_in (fin.entries m) k x (sym (fin.get-entries m k) ∙ e) in
     let a = filter_in (λ (y : Entry). begins p y.0) (k, x) (fin.entries m) stands h in
     let b = map_in (entry_of p false) (k, x) (filter (λ (y : Entry). begins p y.0) (fin.entries m)) a in
     let d = filter_in (λ y. is_lt (text_cmp l (text_in y))) (entry_of p false (k, x)) (flat p (fin.entries m)) b g in
-    subst (λ xs. IsIn k (texts xs)) (sym (flat_is p l m)) (map_in text_in (entry_of p false (k, x)) (behind_of l (flat p (fin.entries m))) d)
+    subst (λ xs. IsIn k (texts xs)) (sym (flat_is p l m)) (map_in text_in (entry_of p false (k, x)) (behind_of l (flat p (fin.entries m)))
+    d)
 
 taken_in : (n : ℕ) (xs : List PageEntry) (k : List ℕ) → IsIn k (texts (take n xs)) → IsIn k (texts xs)
 taken_in (suc n) (x ∷ xs) k (inl e) = inl e
 taken_in (suc n) (x ∷ xs) k (inr i) = inr (taken_in n xs k i)
 taken_in _ _ k i = absurd i
 
-pub page_begins : (n : ℕ) (p l k : List ℕ) (m : Objects) → IsIn k (keys_listed n p l m) → (begins p k ≡ true) × ((x : Object) × (fin.get m k ≡ Some x))
+pub page_begins : (n : ℕ) (p l k : List ℕ) (m : Objects) → IsIn k (keys_listed n p l m) → (begins p k ≡ true)
+    × ((x : Object) × (fin.get m k ≡ Some x))
 page_begins n p l k m i =
     let a = in_map text_in k (listed p false l m) (taken_in n (listed p false l m) k i) in
     let b = subst (λ xs. IsIn a.0 xs) (flat_is p l m) a.1 in
@@ -133,13 +167,15 @@ page_begins n p l k m i =
     (ap (begins p) key ∙ g.1, (e.0.1, ap (fin.get m) key ∙ at))
 
 -- a key of rising ones is among the first n of them or behind the last of these
-take_or : (n : ℕ) (xs : List PageEntry) (l k : List ℕ) → RisesFrom l (texts xs) → IsIn k (texts xs) → IsIn k (texts (take n xs)) ⊎ (lt text_cmp (last_from l (texts (take n xs))) k ≡ true)
+take_or : (n : ℕ) (xs : List PageEntry) (l k : List ℕ) → RisesFrom l (texts xs) → IsIn k (texts xs) → IsIn k (texts (take n xs))
+    ⊎ (lt text_cmp (last_from l (texts (take n xs))) k ≡ true)
 take_or zero xs l k h i = inr (behind l k (texts xs) h i)
 take_or (suc n) [] l k h i = absurd i
 take_or (suc n) (x ∷ xs) l k h (inl e) = inl (inl e)
 take_or (suc n) (x ∷ xs) l k h (inr i) = elim (take_or n xs (text_in x) k h.1 i) [ inl g ↦ inl (inr g) | inr g ↦ inr g ]
 
-pub page_covers : (n : ℕ) (p l k : List ℕ) (m : Objects) (x : Object) → fin.get m k ≡ Some x → begins p k ≡ true → is_lt (text_cmp l k) ≡ true
+pub page_covers : (n : ℕ) (p l k : List ℕ) (m : Objects) (x : Object) → fin.get m k ≡ Some x → begins p k ≡ true
+    → is_lt (text_cmp l k) ≡ true
     → IsIn k (keys_listed n p l m) ⊎ (is_lt (text_cmp (last_from l (keys_listed n p l m)) k) ≡ true)
 page_covers n p l k m x e h g = take_or n (listed p false l m) l k (listed_rises p l m) (listed_all p l m k x e h g)
 
@@ -149,5 +185,7 @@ take_whole zero (x ∷ xs) h = absurd (omega arith)
 take_whole (suc n) [] h = refl
 take_whole (suc n) (x ∷ xs) h = ap (λ l. x ∷ l) (take_whole n xs (omega arith))
 
-pub page_all : (n : ℕ) (p l k : List ℕ) (m : Objects) (x : Object) → nat_lt n (length (listed p false l m)) ≡ false → fin.get m k ≡ Some x → begins p k ≡ true → is_lt (text_cmp l k) ≡ true → IsIn k (keys_listed n p l m)
-page_all n p l k m x few e h g = subst (λ xs. IsIn k (texts xs)) (sym (take_whole n (listed p false l m) (ltb-false n (length (listed p false l m)) few))) (listed_all p l m k x e h g)
+pub page_all : (n : ℕ) (p l k : List ℕ) (m : Objects) (x : Object) → nat_lt n (length (listed p false l m)) ≡ false → fin.get m k ≡ Some x
+    → begins p k ≡ true → is_lt (text_cmp l k) ≡ true → IsIn k (keys_listed n p l m)
+page_all n p l k m x few e h g = subst (λ xs. IsIn k (texts xs)) (sym
+    (take_whole n (listed p false l m) (ltb-false n (length (listed p false l m)) few))) (listed_all p l m k x e h g)

@@ -5,4 +5,3 @@ pub mod Prefix
 pub mod Stem
 pub mod Walked
 pub mod Listed
-mod Common

@@ -1,7 +1,27 @@
 -- What the walk finds is what is listed.
-use Rattle.store_frame.proofs.Common.{Bool, Equal, Greater, IsStrictlySortedBy, Less, List, None, Object, Objects, Option, PageEntry, Some, [], ap, arith, begins, between, cases_Bool, cond, contrary, entries, entry_by, entry_of, exact_bytes, false, false≢true, filter, folded_from, inl, inr, irrefl, is_again, is_eq, is_gt, is_lt, keys_of, le_lt, length, listed, lt_back, lt_le, map, map_sorted, refl, sorted_head, sorted_tail, stem_if, subst, sym, text_by, text_cmp, text_in, text_of, text_total, tied, true, walked, ℕ, ◌++◌, ◌∙◌, ◌∷◌, ◌≡◌}
-use Rattle.store_frame.proofs.Prefix.{lt, le_le, lt_not}
+use Rattle.basics.proofs.Bools.{contrary}
+use Rattle.basics.proofs.Less.{irrefl, le_lt, lt_back, lt_le}
+use Rattle.basics.proofs.Tree.{map_sorted, tied}
+use Rattle.basics.specs.Order.{text_cmp, text_total}
+use Rattle.s3_types.proofs.Begins.{between}
+use Rattle.s3_types.specs.Pages.{begins, entry_by, entry_of, folded_from, is_again, listed, stem_if, text_in}
+use Rattle.s3_types.specs.Store.{Objects}
+use Rattle.s3_types.specs.declared.object.Object.{Object}
+use Rattle.s3_types.specs.declared.reply.PageEntry.{PageEntry}
+use Rattle.std.proofs.Common.{Bool, List, None, Option, Some, ap, arith, cond, false, inl, inr, length, map, refl, subst, sym, true, ℕ, []}
+use Rattle.std.proofs.Common.{◌++◌, ◌∙◌, ◌∷◌, ◌≡◌}
+use Rattle.std.proofs.lemmas.Bool.{cases_Bool, false≢true}
+use Rattle.std.proofs.lemmas.Map.Keys.{sorted_head, sorted_tail}
+use Rattle.std.proofs.lemmas.Map.Lookups.{exact_bytes}
+use Rattle.std.specs.FinMap.{entries}
+use Rattle.std.specs.List.{filter}
+use Rattle.std.specs.List.Sorted.{IsStrictlySortedBy}
+use Rattle.std.specs.Map.{keys_of}
+use Rattle.std.specs.Ordering.{is_eq, is_gt, is_lt}
+use Rattle.std.specs.declared.cmp.Ordering.TheVariants.{Equal, Greater, Less}
+use Rattle.store_frame.proofs.Prefix.{le_le, lt, lt_not}
 use Rattle.store_frame.proofs.Walked.{stems, text_le}
+use Rattle.store_frame.specs.Walk.{text_by, text_of, walked}
 
 -- each entry whose text is greater than the last
 abbrev given : List ℕ → List PageEntry → List PageEntry
@@ -17,7 +37,13 @@ entries_below p d es = map (entry_of p d) (filter (λ e. begins p e.0) es)
 walked_given : (p : List ℕ) (d : Bool) (a : List ℕ) (es : List (List ℕ × Object)) → walked p d a es ≡ given a (entries_below p d es)
 walked_given p d a [] = refl
 walked_given p d a (e ∷ es) = elim (cases_Bool (begins p e.0)) [
-  | inl t ↦ rw (t, text_by_entry (stem_if d p e.0) e.0 (length e.1.bytes), walked_given p d (text_in (entry_of p d e)) es, walked_given p d a es) refl
+  | inl t ↦ rw (
+    t,
+    text_by_entry (stem_if d p e.0) e.0 (length e.1.bytes),
+    walked_given p d (text_in (entry_of p d e)) es,
+    walked_given p d
+        a es,
+  ) refl
   | inr n ↦ rw (n, walked_given p d a es) refl
 ]
 
@@ -43,7 +69,8 @@ same_after a u [] l r = refl
 same_after a u (x ∷ xs) l r =
     let h : lt a (text_in x) ≡ true = lt_le text_total a u (text_in x) l r.0 in
     rw h ((elim (text_cmp u (text_in x)) as (λ o. text_cmp u (text_in x) ≡ o
-    → (is_again (Some u) x ≡ is_eq o) → folded_from (Some u) (x ∷ filter (λ x. lt a (text_in x)) xs) ≡ folded_from (Some u) (filter (λ x. lt u (text_in x)) (x ∷ xs))) [
+    → (is_again (Some u) x ≡ is_eq o) → folded_from (Some u) (x ∷ filter (λ x. lt a (text_in x)) xs) ≡ folded_from (Some u)
+    (filter (λ x. lt u (text_in x)) (x ∷ xs))) [
       | Equal ↦ λ e g. rw e (same_after a u xs l (lower u (text_in x) xs r.0 r.1))
       | Less ↦ λ e g. rw (e, all_kept a (text_in x) xs h r.1, all_kept u (text_in x) xs (ap is_lt e) r.1, e) refl
       | Greater ↦ λ e g. absurd (false≢true (sym r.0 ∙ lt_back text_total u (text_in x) ∙ ap is_gt e))
@@ -65,12 +92,18 @@ not_again : (a : List ℕ) (o : Option (List ℕ)) (x : PageEntry) → Last a o 
 not_again a None x h l = refl
 not_again a (Some t) x h l = contrary _ (λ e. sym h ∙ ap (lt a) (exact_bytes t (text_in x) (tied (text_cmp t (text_in x)) e)) ∙ l)
 
-given_listed : (a : List ℕ) (o : Option (List ℕ)) (xs : List PageEntry) → Last a o → Started xs → given a xs ≡ folded_from o (filter (λ x. lt a (text_in x)) xs)
+given_listed : (a : List ℕ) (o : Option (List ℕ)) (xs : List PageEntry) → Last a o → Started xs
+    → given a xs ≡ folded_from o (filter (λ x. lt a (text_in x)) xs)
 given_listed a o [] h s = refl
 given_listed a o (x ∷ xs) h s = elim (cases_Bool (lt a (text_in x))) [
   | inr n ↦ rw (n, given_listed a o xs h (start (text_in x) xs s)) refl
   | inl t ↦
-      rw (t, not_again a o x h t, given_listed (text_in x) (Some (text_in x)) xs (irrefl text_total (text_in x)) (start (text_in x) xs s), same_after a (text_in x) xs t s) refl
+      rw (
+        t,
+        not_again a o x h t,
+        given_listed (text_in x) (Some (text_in x)) xs (irrefl text_total (text_in x)) (start (text_in x) xs s),
+        same_after a (text_in x) xs t s,
+      ) refl
 ]
 
 -- a greater key below p has no smaller text
@@ -83,16 +116,21 @@ text_rises p d k q l = by (stem_if d p q) refl
     by : (o : Option (List ℕ)) → stem_if d p q ≡ o → lt (text_of p d q) (text_of p d k) ≡ false
     by None n = rw n (le_le (text_of p d k) k q tk (lt_not k q l))
     by (Some s) n = rw n (contrary (lt (s ++ 47 ∷ []) (text_of p d k)) (λ t.
-        let b : begins (s ++ 47 ∷ []) k ≡ true = between (s ++ 47 ∷ []) k q (lt_not (s ++ 47 ∷ []) k (lt_le text_total (s ++ 47 ∷ []) (text_of p d k) k t tk)) (lt_not k q l)
+        let b : begins (s ++ 47 ∷ []) k ≡ true = between (s ++ 47 ∷ []) k q (lt_not (s ++ 47 ∷ []) k
+        (lt_le text_total (s ++ 47 ∷ []) (text_of p d k) k t tk)) (lt_not k q l)
         ((stems p d).below q s n) in
         sym (irrefl text_total (s ++ 47 ∷ [])) ∙ (rw ((stems p d).same q s k n b) at t)))
 
-rises_after : (p : List ℕ) (d : Bool) (k : List ℕ) (es : List (List ℕ × Object)) → IsStrictlySortedBy text_cmp (k ∷ keys_of es) → Rising (text_of p d k) (entries_below p d es)
+rises_after : (p : List ℕ) (d : Bool) (k : List ℕ) (es : List (List ℕ × Object)) → IsStrictlySortedBy text_cmp (k ∷ keys_of es)
+    → Rising (text_of p d k) (entries_below p d es)
 rises_after p d k [] s = tt
 rises_after p d k (f ∷ es) s =
-    let up : lt (text_in (entry_of p d f)) (text_of p d k) ≡ false = rw same at (text_rises p d k f.0 (ap is_lt (sorted_head text_cmp k (f.0 ∷ keys_of es) s).0)) in
-    let ih : Rising (text_in (entry_of p d f)) (entries_below p d es) = rw same at (rises_after p d f.0 es (sorted_tail text_cmp k (f.0 ∷ keys_of es) s)) in
-    elim (begins p f.0) as (λ b. Rising (text_of p d k) (map (entry_of p d) (cond b (f ∷ filter (λ e. begins p e.0) es) (filter (λ e. begins p e.0) es)))) [
+    let up : lt (text_in (entry_of p d f)) (text_of p d k) ≡ false = rw same at
+    (text_rises p d k f.0 (ap is_lt (sorted_head text_cmp k (f.0 ∷ keys_of es) s).0)) in
+    let ih : Rising (text_in (entry_of p d f)) (entries_below p d es) = rw same at
+    (rises_after p d f.0 es (sorted_tail text_cmp k (f.0 ∷ keys_of es) s)) in
+    elim (begins p f.0) as (λ b. Rising (text_of p d k) (map (entry_of p d)
+    (cond b (f ∷ filter (λ e. begins p e.0) es) (filter (λ e. begins p e.0) es)))) [
       | true ↦ (up, ih)
       | false ↦ lower (text_of p d k) (text_in (entry_of p d f)) (entries_below p d es) up ih
     ]
@@ -102,10 +140,12 @@ rises_after p d k (f ∷ es) s =
 
 started : (p : List ℕ) (d : Bool) (es : List (List ℕ × Object)) → IsStrictlySortedBy text_cmp (keys_of es) → Started (entries_below p d es)
 started p d [] s = tt
-started p d (e ∷ es) s = elim (begins p e.0) as (λ b. Started (map (entry_of p d) (cond b (e ∷ filter (λ e. begins p e.0) es) (filter (λ e. begins p e.0) es)))) [
-  | true ↦ subst (λ t. Rising t (entries_below p d es)) (text_by_entry (stem_if d p e.0) e.0 (length e.1.bytes)) (rises_after p d e.0 es s)
-  | false ↦ (started p d es (sorted_tail text_cmp e.0 (keys_of es) s))
-]
+started p d (e ∷ es) s = elim (begins p e.0) as (λ b. Started (map (entry_of p d)
+    (cond b (e ∷ filter (λ e. begins p e.0) es) (filter (λ e. begins p e.0) es)))) [
+      | true ↦ subst (λ t. Rising t (entries_below p d es)) (text_by_entry (stem_if d p e.0) e.0 (length e.1.bytes))
+          (rises_after p d e.0 es s)
+      | false ↦ (started p d es (sorted_tail text_cmp e.0 (keys_of es) s))
+    ]
 
 pub walked_listed : (p : List ℕ) (d : Bool) (a : List ℕ) (m : Objects) → walked p d a (entries m) ≡ listed p d a m
 walked_listed p d a m =
@@ -121,12 +161,14 @@ given_greater a (y ∷ ys) x rest h = elim (cases_Bool (lt a (text_in y))) [
   | inl t ↦ let e : y ∷ given (text_in y) ys ≡ x ∷ rest = rw t at h in let f : y ≡ x = cc in rw f at t
 ]
 
-given_behind : (a : List ℕ) (xs : List PageEntry) (x : PageEntry) (rest : List PageEntry) → given a xs ≡ x ∷ rest → given (text_in x) xs ≡ rest
+given_behind : (a : List ℕ) (xs : List PageEntry) (x : PageEntry) (rest : List PageEntry) → given a xs ≡ x ∷ rest
+    → given (text_in x) xs ≡ rest
 given_behind a [] x rest h = absurd (cc)
 given_behind a (y ∷ ys) x rest h = elim (cases_Bool (lt a (text_in y))) [
   | inr n ↦
       let g : given a ys ≡ x ∷ rest = rw n at h in
-      rw (lt_not (text_in y) (text_in x) (le_lt text_total (text_in y) a (text_in x) n (given_greater a ys x rest g))) (given_behind a ys x rest g)
+      rw (lt_not (text_in y) (text_in x) (le_lt text_total (text_in y) a (text_in x) n (given_greater a ys x rest g)))
+      (given_behind a ys x rest g)
   | inl t ↦
       let e : y ∷ given (text_in y) ys ≡ x ∷ rest = rw t at h in
       let f : y ≡ x = cc in
@@ -135,7 +177,8 @@ given_behind a (y ∷ ys) x rest h = elim (cases_Bool (lt a (text_in y))) [
 ]
 
 -- what is listed behind the first entry are the others
-pub listed_behind : (p : List ℕ) (d : Bool) (a : List ℕ) (m : Objects) (x : PageEntry) (rest : List PageEntry) → listed p d a m ≡ x ∷ rest → listed p d (text_in x) m ≡ rest
+pub listed_behind : (p : List ℕ) (d : Bool) (a : List ℕ) (m : Objects) (x : PageEntry) (rest : List PageEntry) → listed p d a m ≡ x ∷ rest
+    → listed p d (text_in x) m ≡ rest
 listed_behind p d a m x rest h =
     let s = started p d (entries m) (map_sorted text_cmp m) in
     sym (given_listed (text_in x) None (entries_below p d (entries m)) tt s)

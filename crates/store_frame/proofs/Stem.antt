@@ -1,5 +1,10 @@
 -- Common prefixes.
-use Rattle.store_frame.proofs.Common.{Bool, List, Option, Some, [], and_parts, ap, arith, before_slash, begins, cases_Bool, eq-eqb, eqb-true, false, false≢true, inl, inr, nat_eq, option_map, refl, some_is, stem, subst, sym, true, ℕ, ◌&&◌, ◌++◌, ◌∙◌, ◌∷◌, ◌≡◌}
+use Rattle.basics.proofs.Members.{some_is}
+use Rattle.s3_types.specs.Pages.{before_slash, begins, stem}
+use Rattle.std.proofs.Common.{Bool, List, Option, Some, ap, arith, false, inl, inr, nat_eq, refl, subst, sym, true, ℕ, [], ◌&&◌, ◌++◌, ◌∙◌}
+use Rattle.std.proofs.Common.{◌∷◌, ◌≡◌}
+use Rattle.std.proofs.lemmas.Bool.{and_parts, cases_Bool, eq-eqb, eqb-true, false≢true}
+use Rattle.std.specs.Option.{option_map}
 
 record Mapped {A : Type 0} (f : A → A) (o : Option A) (s : A) : Type 0 where
   pub from : A
@@ -40,7 +45,8 @@ slash_same (x ∷ q) s w e h = elim (cases_Bool (nat_eq x 47)) [
     here [] h = absurd (false≢true h)
     here (y ∷ w) h = rw (← same_head 47 y true h) refl
 
-    later : ((r w : List ℕ) → before_slash q ≡ Some r → begins (r ++ 47 ∷ []) w ≡ true → before_slash w ≡ Some r) → (r w : List ℕ) → before_slash q ≡ Some r → nat_eq x 47 ≡ false → begins ((x ∷ r) ++ 47 ∷ []) w ≡ true → before_slash w ≡ Some (x ∷ r)
+    later : ((r w : List ℕ) → before_slash q ≡ Some r → begins (r ++ 47 ∷ []) w ≡ true → before_slash w ≡ Some r) → (r w : List ℕ)
+        → before_slash q ≡ Some r → nat_eq x 47 ≡ false → begins ((x ∷ r) ++ 47 ∷ []) w ≡ true → before_slash w ≡ Some (x ∷ r)
     later h r w g e f = grind arith
 
 -- ---- after a prefix
@@ -71,5 +77,6 @@ stem_same (x ∷ p) (y ∷ q) s w e h = at (stem_same p q) w (rw (← m.1.is) at
     m : (x ≡ y) × Mapped (λ s. y ∷ s) (stem p q) s
     m = stem_step x p y q s e
 
-    at : ((s w : List ℕ) → stem p q ≡ Some s → begins (s ++ 47 ∷ []) w ≡ true → stem p w ≡ Some s) → (w : List ℕ) → begins (y ∷ (m.1.from ++ 47 ∷ [])) w ≡ true → stem (x ∷ p) w ≡ Some (y ∷ m.1.from)
+    at : ((s w : List ℕ) → stem p q ≡ Some s → begins (s ++ 47 ∷ []) w ≡ true → stem p w ≡ Some s) → (w : List ℕ)
+        → begins (y ∷ (m.1.from ++ 47 ∷ [])) w ≡ true → stem (x ∷ p) w ≡ Some (y ∷ m.1.from)
     at h w g = grind arith

@@ -1,7 +1,25 @@
 -- What is walked after a text begins at the first key from `start` on.
-use Rattle.store_frame.proofs.Common.{AllByRecursion, Bool, ComesNext, IsStrictlySortedBy, Less, List, None, Object, Option, Some, Unbounded, [], and_from, and_left, and_parts, and_right, ap, begins, between, cases_Bool, cond, contrary, entries_between, eq-eqb, false, false_true, filter, from_prefix, inl, inr, irrefl, is_from_start, is_lt, keys_of, le_lt, le_not, lt_le, lt_trans, none_or_some, none_some, not, not-true, refl, slice_get, some_is, sorted_head, sorted_tail, start, start_by, stem_if, subst, sym, text_by, text_cmp, text_of, text_total, true, true_from_ne_false, walked, ℕ, ◌&&◌, ◌++◌, ◌∙◌, ◌∷◌, ◌≡◌}
-use Rattle.store_frame.proofs.Prefix.{lt, up_to_next, before_next, le_le, lt_not}
+use Rattle.basics.proofs.Bools.{contrary}
+use Rattle.basics.proofs.Less.{irrefl, le_lt, le_not, lt_le, lt_trans}
+use Rattle.basics.proofs.Members.{false_true, none_or_some, none_some, some_is}
+use Rattle.basics.specs.Order.{text_cmp, text_total}
+use Rattle.s3_types.proofs.Begins.{between, from_prefix}
+use Rattle.s3_types.specs.Pages.{begins, stem_if}
+use Rattle.s3_types.specs.declared.object.Object.{Object}
+use Rattle.std.proofs.Common.{Bool, List, None, Option, Some, ap, cond, false, inl, inr, not, refl, subst, sym, true, ℕ, [], ◌&&◌, ◌++◌}
+use Rattle.std.proofs.Common.{◌∙◌, ◌∷◌, ◌≡◌}
+use Rattle.std.proofs.lemmas.Bool.{and_from, and_left, and_parts, and_right, cases_Bool, eq-eqb, not-true, true_from_ne_false}
+use Rattle.std.proofs.lemmas.Map.Keys.{sorted_head, sorted_tail}
+use Rattle.std.specs.BTreeMap.Range.{entries_between, is_from_start}
+use Rattle.std.specs.List.{AllByRecursion, filter, slice_get}
+use Rattle.std.specs.List.Sorted.{IsStrictlySortedBy}
+use Rattle.std.specs.Map.{keys_of}
+use Rattle.std.specs.Ordering.{is_lt}
+use Rattle.std.specs.declared.cmp.Ordering.TheVariants.{Less}
+use Rattle.std.specs.declared.ops.Bound.TheVariants.{Unbounded}
+use Rattle.store_frame.proofs.Prefix.{before_next, le_le, lt, lt_not, up_to_next}
 use Rattle.store_frame.proofs.Stem.{stem_below, stem_prefix, stem_same}
+use Rattle.store_frame.specs.Walk.{ComesNext, start, start_by, text_by, text_of, walked}
 
 -- ---- where a key's text stands
 
@@ -13,7 +31,12 @@ pub record Stems (p : List ℕ) (st : List ℕ → Option (List ℕ)) : Type 0 w
 
 pub stems : (p : List ℕ) (d : Bool) → Stems p (stem_if d p)
 stems p true = record { below = stem_below p; prefix = stem_prefix p; same = stem_same p }
-stems p false = record { below = λ q s e. absurd (none_some refl e); prefix = λ q s e. absurd (none_some refl e); same = λ q s w e h. absurd (none_some refl e) }
+stems p false = record {
+  below = λ q s e. absurd (none_some refl e);
+  prefix = λ q s e. absurd (none_some refl e);
+  same = λ q s w e h. absurd
+      (none_some refl e);
+}
 
 module _ (p : List ℕ) (st : List ℕ → Option (List ℕ)) (k : Stems p st) where
   -- a text is not greater than its key
@@ -30,7 +53,8 @@ module _ (p : List ℕ) (st : List ℕ → Option (List ℕ)) (k : Stems p st) w
   module _ (a q s : List ℕ) (e : st a ≡ Some s) where
     inside : lt q (s ++ 48 ∷ []) ≡ true → lt a (text_by (st q) q) ≡ false
     inside h = (elim (lt q (s ++ 47 ∷ [])) as (λ b. lt q (s ++ 47 ∷ []) ≡ b → lt a (text_by (st q) q) ≡ false) [
-      | true ↦ λ l. le_le (text_by (st q) q) q a (text_le q (st q) refl) (lt_not q a (lt_le text_total q (s ++ 47 ∷ []) a l (from_prefix (s ++ 47 ∷ []) a (k.below a s e))))
+      | true ↦ λ l. le_le (text_by (st q) q) q a (text_le q (st q) refl) (lt_not q a
+          (lt_le text_total q (s ++ 47 ∷ []) a l (from_prefix (s ++ 47 ∷ []) a (k.below a s e))))
       | false ↦ λ l. ap (λ o. lt a (text_by o q)) (k.same a s q e (before_next s q l h)) ∙ from_prefix (s ++ 47 ∷ []) a (k.below a s e)
     ]) refl
 
@@ -51,7 +75,8 @@ module _ (p : List ℕ) (st : List ℕ → Option (List ℕ)) (k : Stems p st) w
   after a q e = elim (none_or_some (st q)) [
     | inl n ↦ rw n refl
     | inr r ↦ rw r.1 (elim (cases_Bool (lt a q)) [
-      | inl t ↦ rw t (true_from_ne_false _ (λ f. none_some e (k.same q r.0 a r.1 (between (r.0 ++ 47 ∷ []) a q f (lt_not a q t) (k.below q r.0 r.1)))))
+      | inl t ↦ rw t (true_from_ne_false _ (λ f. none_some e (k.same q r.0 a r.1
+          (between (r.0 ++ 47 ∷ []) a q f (lt_not a q t) (k.below q r.0 r.1)))))
       | inr f ↦ rw f (le_le (r.0 ++ 47 ∷ []) q a (from_prefix (r.0 ++ 47 ∷ []) q (k.below q r.0 r.1)) f)
     ])
   ]
@@ -60,7 +85,8 @@ module _ (p : List ℕ) (st : List ℕ → Option (List ℕ)) (k : Stems p st) w
   pub from_start : (a q : List ℕ) → begins p q ≡ true → lt a (text_by (st q) q) ≡ is_from_start text_cmp (start_by (st a) p a) q
   from_start a q h = elim (none_or_some (st a)) [
     | inl e ↦ rw e (elim (cases_Bool (lt a p)) [
-      | inl l ↦ rw l (lt_le text_total a p (text_by (st q) q) l (text_ge q (st q) refl h) ∙ sym (le_not text_total p q ∙ ap not (from_prefix p q h)))
+      | inl l ↦ rw l (lt_le text_total a p (text_by (st q) q) l (text_ge q (st q) refl h) ∙ sym
+          (le_not text_total p q ∙ ap not (from_prefix p q h)))
       | inr l ↦ rw l (after a q e)
     ])
     | inr s ↦ rw s.1 (elim (lt q (s.0 ++ 48 ∷ [])) as (λ b. lt q (s.0 ++ 48 ∷ []) ≡ b → lt a (text_by (st q) q) ≡ not b) [
@@ -77,14 +103,20 @@ counts p d a q = begins p q && lt a (text_of p d q)
 
 counts_from : (p : List ℕ) (d : Bool) (a q : List ℕ) → is_from_start text_cmp (start p d a) q ≡ false → counts p d a q ≡ false
 counts_from p d a q h =
-    (elim (begins p q) as (λ b. begins p q ≡ b → counts p d a q ≡ false) [ false ↦ λ e. and_left _ _ e | true ↦ λ e. and_right _ _ (from_start p (stem_if d p) (stems p d) a q e ∙ h) ]) refl
+    (elim (begins p q) as (λ b. begins p q ≡ b → counts p d a q ≡ false) [
+      | false ↦ λ e. and_left _ _ e
+      | true ↦ λ e. and_right _ _
+          (from_start p (stem_if d p) (stems p d) a q e ∙ h)
+    ]) refl
 
 later : (p : List ℕ) (d : Bool) (a b q : List ℕ) → lt a b ≡ true → counts p d a q ≡ false → counts p d b q ≡ false
-later p d a b q l h = contrary _ (λ t. let u = and_parts (begins p q) (lt b (text_of p d q)) t in sym h ∙ and_from _ _ u.0 (lt_trans text_total a b (text_of p d q) l u.1))
+later p d a b q l h = contrary _ (λ t. let u = and_parts (begins p q) (lt b (text_of p d q)) t in sym h ∙ and_from _ _ u.0
+    (lt_trans text_total a b (text_of p d q) l u.1))
 
 module _ (p : List ℕ) (d : Bool) where
   -- entries that do not count may be left out
-  skip : (f : List ℕ × Object → Bool) (es : List (List ℕ × Object)) (a : List ℕ) → ((e : List ℕ × Object) → f e ≡ false → counts p d a e.0 ≡ false) → walked p d a (filter f es) ≡ walked p d a es
+  skip : (f : List ℕ × Object → Bool) (es : List (List ℕ × Object)) (a : List ℕ)
+      → ((e : List ℕ × Object) → f e ≡ false → counts p d a e.0 ≡ false) → walked p d a (filter f es) ≡ walked p d a es
   skip f [] a h = refl
   skip f (e ∷ es) a h = elim (cases_Bool (f e)) [
     | inr t ↦ rw (t, h e t) (skip f es a h)
@@ -113,11 +145,14 @@ module _ (p : List ℕ) (d : Bool) where
         (not-true _ (sym (le_not text_total (s.0 ++ 48 ∷ []) q) ∙ (rw s.1 at h)))
   ]
 
-  none_below : (e : List ℕ × Object) (es : List (List ℕ × Object)) (a : List ℕ) → AllByRecursion (λ x. text_cmp e.0 x.0 ≡ Less) es → begins p e.0 ≡ false → lt e.0 p ≡ false → walked p d a es ≡ []
+  none_below : (e : List ℕ × Object) (es : List (List ℕ × Object)) (a : List ℕ) → AllByRecursion (λ x. text_cmp e.0 x.0 ≡ Less) es
+      → begins p e.0 ≡ false → lt e.0 p ≡ false → walked p d a es ≡ []
   none_below e [] a all n g = refl
-  none_below e (x ∷ es) a all n g = rw (contrary (begins p x.0) (λ t. sym n ∙ between p e.0 x.0 g (lt_not e.0 x.0 (ap is_lt all.0)) t)) (none_below e es a all.1 n g)
+  none_below e (x ∷ es) a all n g = rw (contrary (begins p x.0) (λ t. sym n ∙ between p e.0 x.0 g (lt_not e.0 x.0 (ap is_lt all.0)) t))
+      (none_below e es a all.1 n g)
 
-  all_kept : (f : List ℕ × Object → Bool) (e : List ℕ × Object) (es : List (List ℕ × Object)) → AllByRecursion (λ y. text_cmp e.0 y ≡ Less) (keys_of es) → AllByRecursion (λ x. text_cmp e.0 x.0 ≡ Less) (filter f es)
+  all_kept : (f : List ℕ × Object → Bool) (e : List ℕ × Object) (es : List (List ℕ × Object))
+      → AllByRecursion (λ y. text_cmp e.0 y ≡ Less) (keys_of es) → AllByRecursion (λ x. text_cmp e.0 x.0 ≡ Less) (filter f es)
   all_kept f e [] all = tt
   all_kept f e (x ∷ es) all = elim (f x) as (λ b. AllByRecursion (λ x. text_cmp e.0 x.0 ≡ Less) (cond b (x ∷ filter f es) (filter f es))) [
     | true ↦ (all.0, all_kept f e es all.1)
@@ -125,7 +160,8 @@ module _ (p : List ℕ) (d : Bool) where
   ]
 
   first : (f : List ℕ × Object → Bool) (es : List (List ℕ × Object)) → IsStrictlySortedBy text_cmp (keys_of es)
-      → (e : List ℕ × Object) (fs : List (List ℕ × Object)) → filter f es ≡ e ∷ fs → (f e ≡ true) × AllByRecursion (λ x. text_cmp e.0 x.0 ≡ Less) fs
+      → (e : List ℕ × Object) (fs : List (List ℕ × Object)) → filter f es ≡ e ∷ fs → (f e ≡ true)
+      × AllByRecursion (λ x. text_cmp e.0 x.0 ≡ Less) fs
   first f [] s e fs h = absurd (cc)
   first f (x ∷ es) s e fs h = elim (cases_Bool (f x)) [
     | inr t ↦ first f es (sorted_tail text_cmp x.0 (keys_of es) s) e fs (rw t at h)
@@ -182,7 +218,8 @@ module _ (p : List ℕ) (d : Bool) where
         from : is_from_start text_cmp (start p d a) e.0 ≡ true
         from = (and_parts _ _ w.0).0
 
-    pub found_next : (r : Option (List ℕ × Object)) → r ≡ slice_get (entries_between text_cmp (start p d a) Unbounded es) 0 → ComesNext p d a es (pick r)
+    pub found_next : (r : Option (List ℕ × Object)) → r ≡ slice_get (entries_between text_cmp (start p d a) Unbounded es) 0
+        → ComesNext p d a es (pick r)
     unfolding in_range
     found_next r h = rw h (elim (filter in_range es) as (λ fs. filter in_range es ≡ fs → ComesNext p d a es (pick (slice_get fs 0))) [
       | [] ↦ λ e. rw (← kept, e) refl

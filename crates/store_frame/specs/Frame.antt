@@ -1,10 +1,13 @@
 -- What a request names of a bucket and of the cluster's files, and that nothing else changes.
-use Rattle.std.specs.Prelude.{◌≡◌, ℕ, ◌<◌, ◌≤◌, List, [], ◌∷◌, Option, Some, None}
-use Rattle.s3_types.specs.Prelude.{BucketContent, Scene, Upload, bucket_of, IsIn}
-use Rattle.std.specs.FinMap as fin
+use Rattle.basics.specs.Members.{IsIn}
+use Rattle.s3_types.specs.Answer.{bucket_of}
+use Rattle.s3_types.specs.Store.{BucketContent, Scene, Upload}
 use Rattle.s3_types.specs.declared.request.Request.{Request}
-use Rattle.s3_types.specs.declared.request.Request.TheVariants.{PutObject, DeleteObject, DeleteObjects, CopyObject, UploadPart, CompleteUpload, AbortUpload, ClusterPut, ClusterRename, ClusterDelete}
+use Rattle.s3_types.specs.declared.request.Request.TheVariants.{AbortUpload, ClusterDelete, ClusterPut, ClusterRename, CompleteUpload}
+use Rattle.s3_types.specs.declared.request.Request.TheVariants.{CopyObject, DeleteObject, DeleteObjects, PutObject, UploadPart}
+use Rattle.std.specs.Prelude.{List, None, Option, Some, ℕ, [], ◌<◌, ◌∷◌, ◌≡◌, ◌≤◌}
 use Rattle.store_frame.specs.Held.{object_at, upload_at}
+use Rattle.std.specs.FinMap as fin
 
 -- the keys at which a request may change what stands
 abbrev pub changed_keys : Request → List (List ℕ)
@@ -29,13 +32,16 @@ changed_paths (ClusterRename source target) = source ∷ target ∷ []
 changed_paths (ClusterDelete path) = path ∷ []
 changed_paths _ = []
 
--- From one scene to another nothing of a bucket and of the cluster's files changes but what the request names; uploads that are begun have ids that were not drawn before.
+-- From one scene to another nothing of a bucket and of the cluster's files changes but what the request names; uploads that are begun have
+-- ids that were not drawn before.
 pub record Frame (s t : Scene) (n : List ℕ) (r : Request) : Type 0 where
   pub there : (b : BucketContent) → fin.get s.content.buckets n ≡ Some b → (x : BucketContent) × (fin.get t.content.buckets n ≡ Some x)
   pub least : t.content.minimum ≡ s.content.minimum
   pub later : s.content.next ≤ t.content.next
   pub keys : (k : List ℕ) → (bucket_of r ≡ n → IsIn k (changed_keys r) → ⊥) → object_at t.content n k ≡ object_at s.content n k
-  pub uploads : (id : ℕ) → (bucket_of r ≡ n → changed_upload r ≡ Some id → ⊥) → id < s.content.next → upload_at t.content n id ≡ upload_at s.content n id
+  pub uploads : (id : ℕ) → (bucket_of r ≡ n → changed_upload r ≡ Some id → ⊥) → id < s.content.next
+      → upload_at t.content n id ≡ upload_at s.content n id
   -- ids below the next one stay so
-  pub fresh : ((id : ℕ) (x : Upload) → upload_at s.content n id ≡ Some x → id < s.content.next) → (id : ℕ) (x : Upload) → upload_at t.content n id ≡ Some x → id < t.content.next
+  pub fresh : ((id : ℕ) (x : Upload) → upload_at s.content n id ≡ Some x → id < s.content.next) → (id : ℕ) (x : Upload)
+      → upload_at t.content n id ≡ Some x → id < t.content.next
   pub files : (p : List ℕ) → (IsIn p (changed_paths r) → ⊥) → fin.get t.files p ≡ fin.get s.files p

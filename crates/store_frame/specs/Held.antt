@@ -1,8 +1,8 @@
 -- What stands at a bucket's key, and the live upload of a bucket's id.
-use Rattle.std.specs.Prelude.{◌≡◌, ℕ, List, Option, Some, None}
-use Rattle.s3_types.specs.Prelude.{BucketContent, Content, Upload}
-use Rattle.std.specs.FinMap as fin
+use Rattle.s3_types.specs.Store.{BucketContent, Content, Upload}
 use Rattle.s3_types.specs.declared.object.Object.{Object}
+use Rattle.std.specs.Prelude.{List, None, Option, Some, ℕ, ◌≡◌}
+use Rattle.std.specs.FinMap as fin
 
 -- the object at a key of a bucket, or none
 abbrev pub object_in : Option BucketContent → List ℕ → Option Object

@@ -1,11 +1,17 @@
 -- The laws of this crate.
-use Rattle.std.specs.Prelude.{◌≡◌, ℕ, ◌⊎◌, false, true, nat_lt, List, length, map, take, Some}
-use Rattle.s3_types.specs.Prelude.{is_lt, text_cmp, Objects, Scene, begins, listed, text_in, apply, only_reads, IsIn, RisesFrom, last_from}
-use Rattle.std.specs.FinMap as fin
+use Rattle.basics.specs.Members.{IsIn, RisesFrom, last_from}
+use Rattle.basics.specs.Order.{text_cmp}
+use Rattle.s3_types.specs.Answer.{apply}
+use Rattle.s3_types.specs.Pages.{begins, listed, text_in}
+use Rattle.s3_types.specs.Requests.{only_reads}
+use Rattle.s3_types.specs.Store.{Objects, Scene}
 use Rattle.s3_types.specs.declared.object.Object.{Object}
 use Rattle.s3_types.specs.declared.request.Request.{Request}
-use Rattle.store_frame.specs.Held.{HasBucket}
+use Rattle.std.specs.Ordering.{is_lt}
+use Rattle.std.specs.Prelude.{List, Some, false, length, map, nat_lt, take, true, ℕ, ◌≡◌, ◌⊎◌}
 use Rattle.store_frame.specs.Frame.{Frame}
+use Rattle.store_frame.specs.Held.{HasBucket}
+use Rattle.std.specs.FinMap as fin
 
 -- a request changes only what it names, and one that reads changes nothing
 pub record RequestsKeep : Type 0 where
@@ -21,10 +27,13 @@ pub record PagesCover : Type 0 where
   -- the keys of a page rise behind the last one before it
   pub rises : (limit : ℕ) (p after : List ℕ) (m : Objects) → RisesFrom after (keys_listed limit p after m)
   -- each begins with the prefix and stands
-  pub begin : (limit : ℕ) (p after k : List ℕ) (m : Objects) → IsIn k (keys_listed limit p after m) → (begins p k ≡ true) × ((x : Object) × (fin.get m k ≡ Some x))
+  pub begin : (limit : ℕ) (p after k : List ℕ) (m : Objects) → IsIn k (keys_listed limit p after m) → (begins p k ≡ true)
+      × ((x : Object) × (fin.get m k ≡ Some x))
   -- what stands behind the last key is on the page or behind its last one
-  pub cover : (limit : ℕ) (p after k : List ℕ) (m : Objects) (x : Object) → fin.get m k ≡ Some x → begins p k ≡ true → is_lt (text_cmp after k) ≡ true
+  pub cover : (limit : ℕ) (p after k : List ℕ) (m : Objects) (x : Object) → fin.get m k ≡ Some x → begins p k ≡ true
+      → is_lt (text_cmp after k) ≡ true
       → IsIn k (keys_listed limit p after m) ⊎ (is_lt (text_cmp (last_from after (keys_listed limit p after m)) k) ≡ true)
   -- and on the page, where no more remain
-  pub all : (limit : ℕ) (p after k : List ℕ) (m : Objects) (x : Object) → nat_lt limit (length (listed p false after m)) ≡ false → fin.get m k ≡ Some x → begins p k ≡ true → is_lt (text_cmp after k) ≡ true
+  pub all : (limit : ℕ) (p after k : List ℕ) (m : Objects) (x : Object) → nat_lt limit (length (listed p false after m)) ≡ false
+      → fin.get m k ≡ Some x → begins p k ≡ true → is_lt (text_cmp after k) ≡ true
       → IsIn k (keys_listed limit p after m)

@@ -2,4 +2,3 @@ pub mod Held
 pub mod Frame
 pub mod Walk
 pub mod Laws
-pub mod Prelude

@@ -1,8 +1,12 @@
 -- Pages by a walk over the entries, which finds where each next entry stands.
-use Rattle.std.specs.Prelude.{◌≡◌, ℕ, Bool, ◌&&◌, cond, List, [], ◌∷◌, ◌++◌, Option, Some, None}
-use Rattle.s3_types.specs.Prelude.{is_lt, Bound, Included, Excluded, text_cmp, begins, stem_if, entry_of}
+use Rattle.basics.specs.Order.{text_cmp}
+use Rattle.s3_types.specs.Pages.{begins, entry_of, stem_if}
 use Rattle.s3_types.specs.declared.object.Object.{Object}
 use Rattle.s3_types.specs.declared.reply.PageEntry.{PageEntry}
+use Rattle.std.specs.Ordering.{is_lt}
+use Rattle.std.specs.Prelude.{Bool, List, None, Option, Some, cond, ℕ, [], ◌&&◌, ◌++◌, ◌∷◌, ◌≡◌}
+use Rattle.std.specs.declared.ops.Bound.{Bound}
+use Rattle.std.specs.declared.ops.Bound.TheVariants.{Excluded, Included}
 
 -- the text of a key's entry: its common prefix, or the key
 abbrev pub text_by : Option (List ℕ) → List ℕ → List ℕ
@@ -33,4 +37,5 @@ start p delimited last = start_by (stem_if delimited p last) p last
 -- the next entry after a text is that of e, or there is none
 abbrev pub ComesNext : List ℕ → Bool → List ℕ → List (List ℕ × Object) → Option (List ℕ × Object) → Type 0
 ComesNext p delimited last es None = walked p delimited last es ≡ []
-ComesNext p delimited last es (Some e) = walked p delimited last es ≡ entry_of p delimited e ∷ walked p delimited (text_of p delimited e.0) es
+ComesNext p delimited last es (Some e) = walked p delimited last es ≡ entry_of p delimited e ∷ walked p delimited (text_of p delimited e.0)
+    es

@@ -4,4 +4,3 @@ pub mod Loop
 pub mod Entries
 pub mod Spelled
 pub mod Whole
-mod Common

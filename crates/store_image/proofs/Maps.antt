@@ -1,6 +1,16 @@
 -- Maps that grow by keys that rise.
-use Rattle.store_image.proofs.Common.{Bool, List, None, Option, Some, ap, arith, cond, false, is_after, less_of, nat_cmp_total, nat_tests, refl, sym, true, ℕ, ◌<◌, ◌∙◌, ◌≡◌, ◌≤◌}
-use Rattle.s3_types.specs.Prelude.{is_lt, is_eq, eq_by_cmp, ordering_reverse, nat_cmp, Ordering, IsTotalOrder, eq_by_cmp_equiv, text_equiv, Parts, Upload, Uploads, with_key, live, is_part_number, with_part, part_put}
+use Rattle.basics.proofs.Less.{less_of}
+use Rattle.basics.specs.Order.{text_equiv}
+use Rattle.s3_types.specs.Answer.{part_put}
+use Rattle.s3_types.specs.Multipart.{is_part_number, live, with_key, with_part}
+use Rattle.s3_types.specs.Store.{Parts, Upload, Uploads}
+use Rattle.std.proofs.Common.{Bool, List, None, Option, Some, ap, arith, cond, false, refl, sym, true, ℕ, ◌<◌, ◌∙◌, ◌≡◌, ◌≤◌}
+use Rattle.std.proofs.lemmas.Bool.Decides.{nat_tests}
+use Rattle.std.proofs.lemmas.Cmp.{nat_cmp_total}
+use Rattle.std.specs.Cmp.{IsTotalOrder, eq_by_cmp_equiv}
+use Rattle.std.specs.Ordering.{eq_by_cmp, is_eq, is_lt, nat_cmp, ordering_reverse}
+use Rattle.std.specs.declared.cmp.Ordering.{Ordering}
+use Rattle.store_image.specs.Reading.{is_after}
 use Rattle.std.specs.FinMap as fin
 
 module _ {K : Type 0} {R : K → K → Ordering} (o : IsTotalOrder R) where
@@ -22,12 +32,14 @@ module _ {K X : Type 0} (R : K → K → Ordering) where
   free_empty k h = fin.get-empty R k
 
 module _ {K X : Type 0} {R : K → K → Ordering} where
-  pub still_free : (o : IsTotalOrder R) (last : Option K) (m : fin.FinMap R X) (k : K) (v : X) → IsFree R last m → is_after R last k ≡ true → IsFree R (Some k) (fin.insert m k v)
+  pub still_free : (o : IsTotalOrder R) (last : Option K) (m : fin.FinMap R X) (k : K) (v : X) → IsFree R last m → is_after R last k ≡ true
+      → IsFree R (Some k) (fin.insert m k v)
   still_free o last m k v free after q h =
       fin.get-insert o m k v q ∙ ap (λ b. cond b (Some v) (fin.get m q)) (other o k q h) ∙ free q (after_both o last k q after h)
 
   -- what is put at a key again stands in place of what was put there
-  pub insert_again : (o : IsTotalOrder R) → fin.IsAntisymmetric R → (m : fin.FinMap R X) (k : K) (v w : X) → fin.insert (fin.insert m k v) k w ≡ fin.insert m k w
+  pub insert_again : (o : IsTotalOrder R) → fin.IsAntisymmetric R → (m : fin.FinMap R X) (k : K) (v w : X)
+      → fin.insert (fin.insert m k v) k w ≡ fin.insert m k w
   insert_again o exact m k v w = fin.same_map o exact _ _ (λ q.
       fin.get-insert o (fin.insert m k v) k w q ∙ ap (cond (eq_by_cmp R q k) (Some w)) (fin.get-insert o m k v q)
       ∙ shadowed (eq_by_cmp R q k) (Some w) (Some v) (fin.get m q) ∙ sym (fin.get-insert o m k w q))
@@ -50,7 +62,8 @@ from_id None id i h le = refl
 from_id (Some p) id i h le = lt_to p i (omega (arith, lt_from p id h))
 
 -- an id below the counter leaves the map without ids from the counter on
-pub still_fresh : {X : Type 0} (m : fin.FinMap nat_cmp X) (next id : ℕ) (v : X) → id < next → ((i : ℕ) → next ≤ i → fin.get m i ≡ None) → (i : ℕ) → next ≤ i → fin.get (fin.insert m id v) i ≡ None
+pub still_fresh : {X : Type 0} (m : fin.FinMap nat_cmp X) (next id : ℕ) (v : X) → id < next → ((i : ℕ) → next ≤ i → fin.get m i ≡ None)
+    → (i : ℕ) → next ≤ i → fin.get (fin.insert m id v) i ≡ None
 still_fresh m next id v lt fresh i le =
     fin.get-insert nat_cmp_total m id v i
     ∙ ap (λ b. cond b (Some v) (fin.get m i)) (other nat_cmp_total id i (lt_to id i (omega arith))) ∙ fresh i le
@@ -59,15 +72,18 @@ still_fresh m next id v lt fresh i le =
 
 -- what was put at an id is there
 pub held_at : (m now : Uploads) (id : ℕ) (u : Upload) → now ≡ fin.insert m id u → fin.get now id ≡ Some u
-held_at m now id u e = ap (λ (n : Uploads). fin.get n id) e ∙ fin.get-insert nat_cmp_total m id u id ∙ ap (λ b. cond b (Some u) (fin.get m id)) ((eq_by_cmp_equiv nat_cmp_total).refl id)
+held_at m now id u e = ap (λ (n : Uploads). fin.get n id) e ∙ fin.get-insert nat_cmp_total m id u id ∙ ap
+    (λ b. cond b (Some u) (fin.get m id)) ((eq_by_cmp_equiv nat_cmp_total).refl id)
 
 -- an upload that was put at an id is live with its key
 pub held_live : (m now : Uploads) (id : ℕ) (u : Upload) → now ≡ fin.insert m id u → live now u.key id ≡ Some u
 held_live m now id u e = ap (with_key u.key) (held_at m now id u e) ∙ ap (λ b. cond b (Some u) None) (text_equiv.refl u.key)
 
 -- a part that is set in it stands in its parts
-pub part_held : (m now next : Uploads) (id number : ℕ) (key bytes : List ℕ) (parts : Parts) → now ≡ fin.insert m id (record { key = key; parts = parts }) → is_part_number number ≡ true
-    → next ≡ part_put now id (live now key id) number bytes → next ≡ fin.insert m id (record { key = key; parts = fin.insert parts number bytes })
+pub part_held : (m now next : Uploads) (id number : ℕ) (key bytes : List ℕ) (parts : Parts)
+    → now ≡ fin.insert m id (record { key = key; parts = parts }) → is_part_number number ≡ true
+    → next ≡ part_put now id (live now key id) number bytes
+    → next ≡ fin.insert m id (record { key = key; parts = fin.insert parts number bytes })
 part_held m now next id number key bytes parts e n is =
     let u : Upload = record { key = key; parts = parts } in
     is ∙ ap (λ (o : Option Upload). part_put now id o number bytes) (held_live m now id u e)

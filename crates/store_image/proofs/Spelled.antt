@@ -1,25 +1,43 @@
 -- What is read of each kind of value is spelled so, and what is spelled so is read.
-use Rattle.store_image.proofs.Common.{AreEntries, Bool, IsBucket, IsBytes, IsEntry, IsObject, IsPart, IsReader, IsUpload, List, None, Ok, Option, Some, Takes, Takes-then, [], ap, append_assoc, arith, block, bucket, counted, header, is_id, leb, length, ltb, name, object, part, parted, refl, same_ok, slice_index, subst, suc, sym, tested, tested_again, true, upload, wide16, wide64, zero, ℕ, ◌&&◌, ◌++◌, ◌+◌, ◌-◌, ◌<◌, ◌^◌, ◌∙◌, ◌∷◌, ◌≡◌, ◌≤◌}
-use Rattle.std.specs.FinMap as fin
-use Rattle.basics.proofs.Common.{length-append, leb-true, ltb-true, and_parts, nat_cmp_total}
-use Rattle.s3_types.specs.Prelude.{w16, w64, to_be_bytes, AllByRecursion, list_all, nat_cmp, text_cmp, text_total, is_utf8, ◌>>=◌, is_bucket, is_key, is_key_path, are_elements, trimmed, is_name_byte, is_part_number, Upload, BucketContent}
-use Rattle.s3_types.specs.Names.{is_letter_or_digit}
+use Rattle.basics.proofs.Bytes.{IsBytes, IsReader, Takes, Takes-then, wide16, wide64}
+use Rattle.basics.proofs.Reading.{parted, same_ok, tested, tested_again}
+use Rattle.basics.specs.Order.{text_cmp, text_total}
+use Rattle.basics.specs.Reading.{◌>>=◌}
+use Rattle.s3_types.specs.Multipart.{is_part_number}
+use Rattle.s3_types.specs.Names.{are_elements, is_bucket, is_key, is_key_path, is_letter_or_digit, is_name_byte, trimmed}
+use Rattle.s3_types.specs.Store.{BucketContent, Upload}
 use Rattle.s3_types.specs.declared.object.Object.{Object}
-use Rattle.store_image.specs.Reading.{Read, is_after, number_at, block_at, name_at, id_at, part_number_at, counted_at, header_in, object_at, parts_at, upload_at, bucket_at}
-use Rattle.store_image.proofs.Steps.{IsBelow, number_takes, number_again, number_reader, block_reader, block_again, any_block}
+use Rattle.std.proofs.Common.{Bool, List, None, Ok, Option, Some, ap, append_assoc, arith, leb, length, ltb, refl, subst, suc, sym, true}
+use Rattle.std.proofs.Common.{zero, ℕ, [], ◌&&◌, ◌++◌, ◌+◌, ◌-◌, ◌<◌, ◌^◌, ◌∙◌, ◌∷◌, ◌≡◌, ◌≤◌}
+use Rattle.std.proofs.lemmas.Bool.{and_parts, leb-true, ltb-true}
+use Rattle.std.proofs.lemmas.Cmp.{nat_cmp_total}
+use Rattle.std.proofs.lemmas.List.{length-append}
+use Rattle.std.specs.Int.{to_be_bytes, w16, w64}
+use Rattle.std.specs.List.{AllByRecursion, list_all}
+use Rattle.std.specs.Ordering.{nat_cmp}
+use Rattle.std.specs.Prelude.{slice_index}
+use Rattle.std.specs.Str.{is_utf8}
+use Rattle.store_image.proofs.Entries.{IsKeyReader, Rises, count_fits, counted_reader, map_rises}
 use Rattle.store_image.proofs.Maps.{lt_from}
-use Rattle.store_image.proofs.Entries.{Rises, map_rises, IsKeyReader, counted_reader, count_fits}
+use Rattle.store_image.proofs.Steps.{IsBelow, any_block, block_again, block_reader, number_again, number_reader, number_takes}
+use Rattle.store_image.specs.Content.{AreEntries, IsBucket, IsEntry, IsObject, IsPart, IsUpload, is_id}
+use Rattle.store_image.specs.Image.{block, bucket, counted, header, name, object, part, upload}
+use Rattle.store_image.specs.Reading.{Read, block_at, bucket_at, counted_at, header_in, id_at, is_after, name_at, number_at, object_at}
+use Rattle.store_image.specs.Reading.{part_number_at, parts_at, upload_at}
+use Rattle.std.specs.FinMap as fin
 
 -- ---- keys
 
 -- a name of a kind that is not too long
-pub name_reader : (is_name : List ℕ → Bool) → ((t : List ℕ) → is_name t ≡ true → length t < 2 ^ 16) → (whole : ℕ) → IsKeyReader text_cmp (name_at is_name whole) name is_name
+pub name_reader : (is_name : List ℕ → Bool) → ((t : List ℕ) → is_name t ≡ true → length t < 2 ^ 16) → (whole : ℕ)
+    → IsKeyReader text_cmp (name_at is_name whole) name is_name
 unfolding name_at
 name_reader is_name short whole = record {
   takes = λ last bytes k rest fits e.
       let t = tested (block_at w16 whole bytes) is_name (is_after text_cmp last) _ _ (k, rest) e in
       (((block_reader w16 (2 ^ 16) wide16 whole).takes bytes k rest fits t.0).0, t.1, t.2);
-  again = λ last k rest is after. tested_again (block_at w16 whole (name k ++ rest)) is_name (is_after text_cmp last) _ _ (k, rest) (block_again w16 (2 ^ 16) wide16 whole k rest (short k is)) is after;
+  again = λ last k rest is after. tested_again (block_at w16 whole (name k ++ rest)) is_name (is_after text_cmp last) _ _ (k, rest)
+      (block_again w16 (2 ^ 16) wide16 whole k rest (short k is)) is after;
   some = λ k. omega (arith, length-append (to_be_bytes w16 (length k)) k, wide16.len (length k));
 }
 
@@ -31,7 +49,8 @@ id_reader next le whole = record {
       ((number_takes w64 (2 ^ 64) wide64 whole bytes k rest fits t.0).0, t.2, t.1);
   again = λ last k rest is after.
       let parts = and_parts (leb 1 k) (ltb k next) is in
-      tested_again (number_at w64 whole (to_be_bytes w64 k ++ rest)) (is_after nat_cmp last) (is_id next) _ _ (k, rest) (number_again w64 (2 ^ 64) wide64 whole k rest (omega (arith, ltb-true _ _ parts.1, le))) after is;
+      tested_again (number_at w64 whole (to_be_bytes w64 k ++ rest)) (is_after nat_cmp last) (is_id next) _ _ (k, rest)
+      (number_again w64 (2 ^ 64) wide64 whole k rest (omega (arith, ltb-true _ _ parts.1, le))) after is;
   some = λ k. omega (arith, wide64.len k);
 }
 
@@ -43,7 +62,8 @@ part_reader whole = record {
       ((number_takes w16 (2 ^ 16) wide16 whole bytes k rest fits t.0).0, t.2, t.1);
   again = λ last k rest is after.
       let parts = and_parts (leb 1 k) (leb k 10000) is in
-      tested_again (number_at w16 whole (to_be_bytes w16 k ++ rest)) (is_after nat_cmp last) is_part_number _ _ (k, rest) (number_again w16 (2 ^ 16) wide16 whole k rest (omega (arith, leb-true _ _ parts.1))) after is;
+      tested_again (number_at w16 whole (to_be_bytes w16 k ++ rest)) (is_after nat_cmp last) is_part_number _ _ (k, rest)
+      (number_again w16 (2 ^ 16) wide16 whole k rest (omega (arith, leb-true _ _ parts.1))) after is;
   some = λ k. omega (arith, wide16.len k);
 }
 
@@ -53,25 +73,33 @@ module _ {A B C : Type 0}
     (first_at : List ℕ → Read A) (first_text : A → List ℕ) (IsFirst : A → Type 0) (first : IsReader first_at first_text IsFirst)
     (second_at : List ℕ → Read B) (second_text : B → List ℕ) (IsSecond : B → Type 0) (second : IsReader second_at second_text IsSecond)
     (join : A → B → C) (one : C → A) (two : C → B)
-    (join_is : (c : C) → join (one c) (two c) ≡ c) (one_is : (a : A) (b : B) → one (join a b) ≡ a) (two_is : (a : A) (b : B) → two (join a b) ≡ b)
-    (IsValue : C → Type 0) (from : (c : C) → IsFirst (one c) → IsSecond (two c) → IsValue c) (to_first : (c : C) → IsValue c → IsFirst (one c)) (to_second : (c : C) → IsValue c → IsSecond (two c)) where
+    (join_is : (c : C) → join (one c) (two c) ≡ c) (one_is : (a : A) (b : B) → one (join a b) ≡ a)
+    (two_is : (a : A) (b : B) → two (join a b) ≡ b)
+    (IsValue : C → Type 0) (from : (c : C) → IsFirst (one c) → IsSecond (two c) → IsValue c)
+    (to_first : (c : C) → IsValue c → IsFirst (one c)) (to_second : (c : C) → IsValue c → IsSecond (two c)) where
   abbrev pub both_at : List ℕ → Read C
   both_at bytes = first_at bytes >>= λ a. second_at a.1 >>= λ b. Ok (join a.0 b.0, b.1)
 
   abbrev pub both_text : C → List ℕ
   both_text c = first_text (one c) ++ second_text (two c)
 
-  both_takes : (bytes : List ℕ) (c : C) (rest : List ℕ) → IsBytes bytes → both_at bytes ≡ Ok (c, rest) → Takes bytes (both_text c) rest × IsValue c
+  both_takes : (bytes : List ℕ) (c : C) (rest : List ℕ) → IsBytes bytes → both_at bytes ≡ Ok (c, rest) → Takes bytes (both_text c) rest
+      × IsValue c
   both_takes bytes c rest fits e =
       let a = parted (first_at bytes) _ (c, rest) e in
       let b = parted (second_at a.value.1) _ (c, rest) a.next in
       let t = first.takes bytes a.value.0 a.value.1 fits a.first in
       let u = second.takes a.value.1 b.value.0 b.value.1 t.0.rest_fits b.first in
       let text : first_text a.value.0 ++ second_text b.value.0 ≡ both_text (join a.value.0 b.value.0) =
-      ap (λ (x : A). first_text x ++ second_text b.value.0) (sym (one_is a.value.0 b.value.0)) ∙ ap (λ (y : B). first_text (one (join a.value.0 b.value.0)) ++ second_text y) (sym (two_is a.value.0 b.value.0)) in
+      ap (λ (x : A). first_text x ++ second_text b.value.0) (sym (one_is a.value.0 b.value.0)) ∙ ap
+      (λ (y : B). first_text (one (join a.value.0 b.value.0)) ++ second_text y) (sym (two_is a.value.0 b.value.0)) in
       let front = Takes-then bytes (first_text a.value.0) a.value.1 (second_text b.value.0) b.value.1 t.0 u.0 in
-      subst (λ (p : C × List ℕ). Takes bytes (both_text p.0) p.1 × IsValue p.0) (same_ok (join a.value.0 b.value.0, b.value.1) (c, rest) b.next)
-      (subst (λ (x : List ℕ). Takes bytes x b.value.1) text front, from _ (subst IsFirst (sym (one_is a.value.0 b.value.0)) t.1) (subst IsSecond (sym (two_is a.value.0 b.value.0)) u.1))
+      subst (λ (p : C × List ℕ). Takes bytes (both_text p.0) p.1 × IsValue p.0)
+      (same_ok (join a.value.0 b.value.0, b.value.1) (c, rest) b.next) (
+        subst (λ (x : List ℕ). Takes bytes x b.value.1) text front,
+        from _ (subst IsFirst (sym (one_is a.value.0 b.value.0)) t.1)
+            (subst IsSecond (sym (two_is a.value.0 b.value.0)) u.1),
+      )
 
   both_again : (c : C) (rest : List ℕ) → IsValue c → length (both_text c ++ rest) < 2 ^ 64 → both_at (both_text c ++ rest) ≡ Ok (c, rest)
   both_again c rest is fits =
@@ -79,7 +107,8 @@ module _ {A B C : Type 0}
       let regrouped : both_text c ++ rest ≡ first_text (one c) ++ behind = append_assoc (first_text (one c)) (second_text (two c)) rest in
       let all : length (first_text (one c) ++ behind) < 2 ^ 64 = subst (λ (x : List ℕ). length x < 2 ^ 64) regrouped fits in
       let end : length behind < 2 ^ 64 = omega (arith, all, length-append (first_text (one c)) behind) in
-      ap both_at regrouped ∙ rw (first.again (one c) behind (to_first c is) all, second.again (two c) rest (to_second c is) end) (ap (λ (x : C). Ok (x, rest)) (join_is c))
+      ap both_at regrouped ∙ rw (first.again (one c) behind (to_first c is) all, second.again (two c) rest (to_second c is) end)
+      (ap (λ (x : C). Ok (x, rest)) (join_is c))
 
   pub both_reader : IsReader both_at both_text IsValue
   both_reader = record { takes = both_takes; again = both_again }
@@ -117,17 +146,26 @@ key_short t is =
 abbrev keys : (whole : ℕ) → IsKeyReader text_cmp (name_at is_key whole) name is_key
 keys whole = name_reader is_key key_short whole
 
-pub objects_reader : (whole : ℕ) → IsReader (counted_at w64 whole (name_at is_key whole) (object_at whole)) (counted {R = text_cmp} w64 object) (AreEntries is_key IsObject)
+pub objects_reader : (whole : ℕ) → IsReader (counted_at w64 whole (name_at is_key whole) (object_at whole))
+    (counted {R = text_cmp} w64 object) (AreEntries is_key IsObject)
 objects_reader whole =
     let spelled = λ (e : List ℕ × Object). append_assoc (name e.0) (to_be_bytes w64 (header e.1.header)) (block e.1.bytes) in
-    counted_reader (name_at is_key whole) name is_key (keys whole) (object_at whole) object_text IsObject (object_reader whole) object spelled
+    counted_reader (name_at is_key whole) name is_key (keys whole) (object_at whole) object_text IsObject (object_reader whole) object
+    spelled
     text_total w64 (2 ^ 64) wide64 whole
-    (λ m are fits. omega (arith, fits, fin.len-entries m, count_fits (name_at is_key whole) name is_key (keys whole) (object_at whole) object_text IsObject (object_reader whole) object spelled (fin.entries m)))
+    (λ m are fits. omega (
+      arith,
+      fits,
+      fin.len-entries m,
+      count_fits (name_at is_key whole) name is_key (keys whole) (object_at whole)
+          object_text IsObject (object_reader whole) object spelled (fin.entries m),
+    ))
 
 -- ---- uploads
 
 -- parts are 10,000 at most
-parts_left : (last : ℕ) (es : List (ℕ × List ℕ)) → last ≤ 10000 → AllByRecursion (IsEntry is_part_number IsPart) es → Rises nat_cmp (Some last) es → length es + last ≤ 10000
+parts_left : (last : ℕ) (es : List (ℕ × List ℕ)) → last ≤ 10000 → AllByRecursion (IsEntry is_part_number IsPart) es
+    → Rises nat_cmp (Some last) es → length es + last ≤ 10000
 parts_left last [] le are rises = omega arith
 parts_left last (e ∷ es) le are rises =
     let number = (and_parts (leb 1 e.0) (leb e.0 10000) are.0.key).1 in
@@ -144,7 +182,8 @@ parts_few (e ∷ es) are rises =
 
 parts_reader : (whole : ℕ) → IsReader (parts_at whole) (counted {R = nat_cmp} w16 part) (AreEntries is_part_number IsPart)
 parts_reader whole =
-    counted_reader (part_number_at whole) (to_be_bytes w16) is_part_number (part_reader whole) (block_at w64 whole) block IsPart (any_block whole) part (λ e. refl)
+    counted_reader (part_number_at whole) (to_be_bytes w16) is_part_number (part_reader whole) (block_at w64 whole) block IsPart
+    (any_block whole) part (λ e. refl)
     nat_cmp_total w16 (2 ^ 16) wide16 whole
     (λ m are fits. omega (arith, fin.len-entries m, parts_few (fin.entries m) are (map_rises nat_cmp m)))
 
@@ -165,12 +204,21 @@ upload_reader whole =
     (λ k ps. record { key = k; parts = ps }) (λ u. u.key) (λ u. u.parts) (λ u. refl) (λ k ps. refl) (λ k ps. refl)
     IsUpload (λ u is are. record { key = is; parts = are }) (λ u is. is.key) (λ u is. is.parts)
 
-uploads_reader : (next : ℕ) → next ≤ 2 ^ 64 → (whole : ℕ) → IsReader (counted_at w64 whole (id_at next whole) (upload_at whole)) (counted {R = nat_cmp} w64 upload) (AreEntries (is_id next) IsUpload)
+uploads_reader : (next : ℕ) → next ≤ 2 ^ 64 → (whole : ℕ)
+    → IsReader (counted_at w64 whole (id_at next whole) (upload_at whole)) (counted {R = nat_cmp} w64 upload)
+    (AreEntries (is_id next) IsUpload)
 uploads_reader next le whole =
     let spelled = λ (e : ℕ × Upload). append_assoc (to_be_bytes w64 e.0) (name e.1.key) (counted w16 part e.1.parts) in
-    counted_reader (id_at next whole) (to_be_bytes w64) (is_id next) (id_reader next le whole) (upload_at whole) upload_text IsUpload (upload_reader whole) upload spelled
+    counted_reader (id_at next whole) (to_be_bytes w64) (is_id next) (id_reader next le whole) (upload_at whole) upload_text IsUpload
+    (upload_reader whole) upload spelled
     nat_cmp_total w64 (2 ^ 64) wide64 whole
-    (λ m are fits. omega (arith, fits, fin.len-entries m, count_fits (id_at next whole) (to_be_bytes w64) (is_id next) (id_reader next le whole) (upload_at whole) upload_text IsUpload (upload_reader whole) upload spelled (fin.entries m)))
+    (λ m are fits. omega (
+      arith,
+      fits,
+      fin.len-entries m,
+      count_fits (id_at next whole) (to_be_bytes w64) (is_id next)
+          (id_reader next le whole) (upload_at whole) upload_text IsUpload (upload_reader whole) upload spelled (fin.entries m),
+    ))
 
 -- ---- buckets
 
@@ -180,23 +228,36 @@ bucket_text b = counted w64 object b.objects ++ counted w64 upload b.uploads
 bucket_reader : (next : ℕ) → next ≤ 2 ^ 64 → (whole : ℕ) → IsReader (bucket_at next whole) bucket_text (IsBucket next)
 unfolding bucket_at
 bucket_reader next le whole =
-    both_reader (counted_at {R = text_cmp} w64 whole (name_at is_key whole) (object_at whole)) (counted {R = text_cmp} w64 object) (AreEntries is_key IsObject) (objects_reader whole)
-    (counted_at {R = nat_cmp} w64 whole (id_at next whole) (upload_at whole)) (counted {R = nat_cmp} w64 upload) (AreEntries (is_id next) IsUpload) (uploads_reader next le whole)
+    both_reader (counted_at {R = text_cmp} w64 whole (name_at is_key whole) (object_at whole)) (counted {R = text_cmp} w64 object)
+    (AreEntries is_key IsObject) (objects_reader whole)
+    (counted_at {R = nat_cmp} w64 whole (id_at next whole) (upload_at whole)) (counted {R = nat_cmp} w64 upload)
+    (AreEntries (is_id next) IsUpload) (uploads_reader next le whole)
     (λ os us. record { objects = os; uploads = us }) (λ b. b.objects) (λ b. b.uploads) (λ b. refl) (λ os us. refl) (λ os us. refl)
     (IsBucket next) (λ b os us. record { objects = os; uploads = us }) (λ b is. is.objects) (λ b is. is.uploads)
 
 -- a bucket's name is not too long for the field of its length
 bucket_short : (t : List ℕ) → is_bucket t ≡ true → length t < 2 ^ 16
 bucket_short t is =
-    let a = (and_parts (leb 3 (length t) && leb (length t) 63 && list_all is_name_byte t && is_letter_or_digit (slice_index t 0)) (is_letter_or_digit (slice_index t (length t - 1))) is).0 in
+    let a = (and_parts (leb 3 (length t) && leb (length t) 63 && list_all is_name_byte t && is_letter_or_digit (slice_index t 0))
+    (is_letter_or_digit (slice_index t (length t - 1))) is).0 in
     let b = (and_parts (leb 3 (length t) && leb (length t) 63 && list_all is_name_byte t) (is_letter_or_digit (slice_index t 0)) a).0 in
     let d = (and_parts (leb 3 (length t) && leb (length t) 63) (list_all is_name_byte t) b).0 in
     omega (arith, leb-true (length t) 63 (and_parts (leb 3 (length t)) (leb (length t) 63) d).1)
 
-pub buckets_reader : (next : ℕ) → next ≤ 2 ^ 64 → (whole : ℕ) → IsReader (counted_at w64 whole (name_at is_bucket whole) (bucket_at next whole)) (counted {R = text_cmp} w64 bucket) (AreEntries is_bucket (IsBucket next))
+pub buckets_reader : (next : ℕ) → next ≤ 2 ^ 64 → (whole : ℕ)
+    → IsReader (counted_at w64 whole (name_at is_bucket whole) (bucket_at next whole)) (counted {R = text_cmp} w64 bucket)
+    (AreEntries is_bucket (IsBucket next))
 buckets_reader next le whole =
     let names = name_reader is_bucket bucket_short whole in
-    let spelled = λ (e : List ℕ × BucketContent). append_assoc (name e.0) (counted w64 object e.1.objects) (counted w64 upload e.1.uploads) in
-    counted_reader (name_at is_bucket whole) name is_bucket names (bucket_at next whole) bucket_text (IsBucket next) (bucket_reader next le whole) bucket spelled
+    let spelled = λ (e : List ℕ × BucketContent). append_assoc (name e.0) (counted w64 object e.1.objects) (counted w64 upload e.1.uploads)
+    in
+    counted_reader (name_at is_bucket whole) name is_bucket names (bucket_at next whole) bucket_text (IsBucket next)
+    (bucket_reader next le whole) bucket spelled
     text_total w64 (2 ^ 64) wide64 whole
-    (λ m are fits. omega (arith, fits, fin.len-entries m, count_fits (name_at is_bucket whole) name is_bucket names (bucket_at next whole) bucket_text (IsBucket next) (bucket_reader next le whole) bucket spelled (fin.entries m)))
+    (λ m are fits. omega (
+      arith,
+      fits,
+      fin.len-entries m,
+      count_fits (name_at is_bucket whole) name is_bucket names (bucket_at next whole)
+          bucket_text (IsBucket next) (bucket_reader next le whole) bucket spelled (fin.entries m),
+    ))

@@ -1,11 +1,19 @@
 -- Steps of reading: what a step took from the front, and that it reads again what was written.
-use Rattle.store_image.proofs.Common.{IsBytes, IsPart, IsReader, IsWide, List, Ok, Short, Takes, Takes-then, Width, ap, append_assoc, arith, block, byte_len, from_be_bytes, front_again, front_takes, length, parted, refl, same_ok, subst, sym, to_be_bytes, w64, wide64, ℕ, ◌++◌, ◌+◌, ◌<◌, ◌>>=◌, ◌^◌, ◌∙◌, ◌≡◌}
-use Rattle.basics.proofs.Common.{length-append}
-use Rattle.store_image.specs.Reading.{Read, place, bytes_at, number_at, block_at}
+use Rattle.basics.proofs.Bytes.{IsBytes, IsReader, IsWide, Takes, Takes-then, front_again, front_takes, wide64}
+use Rattle.basics.proofs.Reading.{parted, same_ok}
+use Rattle.basics.specs.Reading.{◌>>=◌}
+use Rattle.std.proofs.Common.{List, Ok, ap, append_assoc, arith, length, refl, subst, sym, ℕ, ◌++◌, ◌+◌, ◌<◌, ◌^◌, ◌∙◌, ◌≡◌}
+use Rattle.std.proofs.lemmas.List.{length-append}
+use Rattle.std.specs.Int.{Width, byte_len, from_be_bytes, to_be_bytes, w64}
+use Rattle.store_image.specs.Content.{IsPart}
+use Rattle.store_image.specs.Image.{block}
+use Rattle.store_image.specs.Reading.{Read, block_at, bytes_at, number_at, place}
+use Rattle.store_image.specs.declared.fault.ImageFault.TheVariants.{Short}
 
 -- ---- bytes
 
-pub bytes_take : (whole n : ℕ) (bytes text rest : List ℕ) → IsBytes bytes → bytes_at whole n bytes ≡ Ok (text, rest) → Takes bytes text rest × (length text ≡ n) × IsBytes text
+pub bytes_take : (whole n : ℕ) (bytes text rest : List ℕ) → IsBytes bytes → bytes_at whole n bytes ≡ Ok (text, rest) → Takes bytes text rest
+    × (length text ≡ n) × IsBytes text
 unfolding bytes_at
 bytes_take whole n bytes text rest fits e = front_takes (Short (place whole bytes)) n bytes text rest fits e
 
@@ -19,19 +27,23 @@ abbrev pub IsBelow : ℕ → ℕ → Type 0
 IsBelow limit n = n < limit
 
 module _ (w : Width) (limit : ℕ) (wide : IsWide w limit) (whole : ℕ) where
-  pub number_takes : (bytes : List ℕ) (n : ℕ) (rest : List ℕ) → IsBytes bytes → number_at w whole bytes ≡ Ok (n, rest) → Takes bytes (to_be_bytes w n) rest × IsBelow limit n
+  pub number_takes : (bytes : List ℕ) (n : ℕ) (rest : List ℕ) → IsBytes bytes → number_at w whole bytes ≡ Ok (n, rest)
+      → Takes bytes (to_be_bytes w n) rest × IsBelow limit n
   unfolding number_at
   number_takes bytes n rest fits e =
       let b = parted (bytes_at whole (byte_len w) bytes) _ (n, rest) e in
       let t = bytes_take whole (byte_len w) bytes b.value.0 b.value.1 fits b.first in
       let same : to_be_bytes w (from_be_bytes w b.value.0) ≡ b.value.0 = wide.back b.value.0 t.1 t.2 in
-      subst (λ (p : ℕ × List ℕ). Takes bytes (to_be_bytes w p.0) p.1 × IsBelow limit p.0) (same_ok (from_be_bytes w b.value.0, b.value.1) (n, rest) b.next) (rw same t.0, wide.below b.value.0 t.2)
+      subst (λ (p : ℕ × List ℕ). Takes bytes (to_be_bytes w p.0) p.1 × IsBelow limit p.0)
+      (same_ok (from_be_bytes w b.value.0, b.value.1) (n, rest) b.next) (rw same t.0, wide.below b.value.0 t.2)
 
   pub number_again : (n : ℕ) (rest : List ℕ) → n < limit → number_at w whole (to_be_bytes w n ++ rest) ≡ Ok (n, rest)
   unfolding number_at
   number_again n rest lt =
       let len = wide.len n in
-      let one : bytes_at whole (byte_len w) (to_be_bytes w n ++ rest) ≡ Ok (to_be_bytes w n, rest) = subst (λ (k : ℕ). bytes_at whole k (to_be_bytes w n ++ rest) ≡ Ok (to_be_bytes w n, rest)) len (bytes_again whole (to_be_bytes w n) rest) in
+      let one : bytes_at whole (byte_len w) (to_be_bytes w n ++ rest) ≡ Ok (to_be_bytes w n, rest) = subst
+      (λ (k : ℕ). bytes_at whole k (to_be_bytes w n ++ rest) ≡ Ok (to_be_bytes w n, rest)) len
+      (bytes_again whole (to_be_bytes w n) rest) in
       ap (λ (r : Read (List ℕ)). r >>= λ b. Ok (from_be_bytes w b.0, b.1)) one ∙ ap (λ (m : ℕ). Ok (m, rest)) (wide.again n lt)
 
   pub number_reader : IsReader (number_at w whole) (to_be_bytes w) (IsBelow limit)
@@ -45,7 +57,8 @@ module _ (w : Width) (limit : ℕ) (wide : IsWide w limit) (whole : ℕ) where
   abbrev pub IsShort : List ℕ → Type 0
   IsShort text = length text < limit
 
-  block_takes : (bytes text rest : List ℕ) → IsBytes bytes → block_at w whole bytes ≡ Ok (text, rest) → Takes bytes (spelled text) rest × IsShort text
+  block_takes : (bytes text rest : List ℕ) → IsBytes bytes → block_at w whole bytes ≡ Ok (text, rest) → Takes bytes (spelled text) rest
+      × IsShort text
   unfolding block_at
   block_takes bytes text rest fits e =
       let n = parted (number_at w whole bytes) _ (text, rest) e in
@@ -57,7 +70,8 @@ module _ (w : Width) (limit : ℕ) (wide : IsWide w limit) (whole : ℕ) where
   pub block_again : (text rest : List ℕ) → length text < limit → block_at w whole (spelled text ++ rest) ≡ Ok (text, rest)
   unfolding block_at
   block_again text rest h =
-      let regrouped : spelled text ++ rest ≡ to_be_bytes w (length text) ++ (text ++ rest) = append_assoc (to_be_bytes w (length text)) text rest in
+      let regrouped : spelled text ++ rest ≡ to_be_bytes w (length text) ++ (text ++ rest) = append_assoc (to_be_bytes w (length text)) text
+      rest in
       ap (block_at w whole) regrouped ∙ rw (number_again (length text) (text ++ rest) h, bytes_again whole text rest) refl
 
   pub block_reader : IsReader (block_at w whole) spelled IsShort
@@ -67,5 +81,6 @@ module _ (w : Width) (limit : ℕ) (wide : IsWide w limit) (whole : ℕ) where
 pub any_block : (whole : ℕ) → IsReader (block_at w64 whole) block IsPart
 any_block whole = record {
   takes = λ bytes text rest fits e. ((block_takes w64 (2 ^ 64) wide64 whole bytes text rest fits e).0, tt);
-  again = λ text rest h long. block_again w64 (2 ^ 64) wide64 whole text rest (omega (arith, long, length-append (block text) rest, length-append (to_be_bytes w64 (length text)) text));
+  again = λ text rest h long. block_again w64 (2 ^ 64) wide64 whole text rest
+      (omega (arith, long, length-append (block text) rest, length-append (to_be_bytes w64 (length text)) text));
 }

@@ -1,10 +1,14 @@
 -- What a content must be to have an image.
-use Rattle.std.specs.Prelude.{◌≡◌, ℕ, ◌<◌, ◌^◌, ◌&&◌, nat_le, nat_lt, Bool, true, List}
-use Rattle.s3_types.specs.Prelude.{AllByRecursion, Ordering, is_bucket, is_key, is_part_number, Upload, BucketContent, Content}
-use Rattle.std.specs.FinMap as fin
+use Rattle.s3_types.specs.Multipart.{is_part_number}
+use Rattle.s3_types.specs.Names.{is_bucket, is_key}
+use Rattle.s3_types.specs.Store.{BucketContent, Content, Upload}
 use Rattle.s3_types.specs.declared.limits.TheConstants.{MOST_MINIMUM}
 use Rattle.s3_types.specs.declared.object.Object.{Object}
+use Rattle.std.specs.List.{AllByRecursion}
+use Rattle.std.specs.Prelude.{Bool, List, nat_le, nat_lt, true, ℕ, ◌&&◌, ◌<◌, ◌^◌, ◌≡◌}
+use Rattle.std.specs.declared.cmp.Ordering.{Ordering}
 use Rattle.store_image.specs.Image.{header}
+use Rattle.std.specs.FinMap as fin
 
 -- the minimum part is 1 to 5,242,880
 abbrev pub is_minimum : ℕ → Bool

@@ -1,8 +1,11 @@
 -- The one image of what a store holds. All numbers are big-endian.
-use Rattle.std.specs.Prelude.{ℕ, ◌+◌, List, ◌++◌, length, codes, Option, Some, None}
-use Rattle.s3_types.specs.Prelude.{Width, w16, w64, to_be_bytes, flat_map, Ordering, Upload, BucketContent, Content}
-use Rattle.std.specs.FinMap as fin
+use Rattle.s3_types.specs.Store.{BucketContent, Content, Upload}
 use Rattle.s3_types.specs.declared.object.Object.{Object}
+use Rattle.std.specs.Int.{Width, to_be_bytes, w16, w64}
+use Rattle.std.specs.List.{flat_map}
+use Rattle.std.specs.Prelude.{List, None, Option, Some, codes, length, ℕ, ◌++◌, ◌+◌}
+use Rattle.std.specs.declared.cmp.Ordering.{Ordering}
+use Rattle.std.specs.FinMap as fin
 
 -- a key or a name with its length before it
 abbrev pub name : List ℕ → List ℕ

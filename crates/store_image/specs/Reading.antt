@@ -1,14 +1,22 @@
--- Reading an image from left to right, with the first fault that is met. A field's place is how much of the whole, which is told by its length, stands before it.
-use Rattle.std.specs.Prelude.{ℕ, ◌-◌, zero, suc, ◌==◌, nat_lt, Bool, true, List, [], ◌∷◌, length, take, drop, bytes_eq, Option, Some, None, Result, Ok, Err, if◌then◌else◌}
-use Rattle.s3_types.specs.Prelude.{Width, w16, w64, byte_len, from_be_bytes, is_lt, nat_cmp, Ordering, text_cmp, passing, is_bucket, is_key, is_part_number, Parts, Upload, BucketContent, Content, ◌>>=◌}
+-- Reading an image from left to right, with the first fault that is met. A field's place is how much of the whole, which is told by its
+-- length, stands before it.
+use Rattle.basics.specs.Order.{text_cmp}
+use Rattle.basics.specs.Reading.{made, passing, ◌>>=◌}
+use Rattle.s3_types.specs.Multipart.{is_part_number}
+use Rattle.s3_types.specs.Names.{is_bucket, is_key}
+use Rattle.s3_types.specs.Store.{BucketContent, Content, Parts, Upload}
+use Rattle.s3_types.specs.declared.object.Object.{Object}
+use Rattle.std.specs.Int.{Width, byte_len, from_be_bytes, w16, w64}
+use Rattle.std.specs.Ordering.{is_lt, nat_cmp}
+use Rattle.std.specs.Prelude.{Bool, Err, List, None, Ok, Option, Result, Some, bytes_eq, drop, if◌then◌else◌, length, nat_lt, suc, take}
+use Rattle.std.specs.Prelude.{true, zero, ℕ, [], ◌-◌, ◌==◌, ◌∷◌}
+use Rattle.std.specs.declared.cmp.Ordering.{Ordering}
+use Rattle.store_image.specs.Content.{is_counter, is_id, is_minimum}
+use Rattle.store_image.specs.Image.{magic}
+use Rattle.store_image.specs.declared.fault.ImageFault.{ImageFault}
+use Rattle.store_image.specs.declared.fault.ImageFault.TheVariants.{BadHead, BadName, BadOrder, CounterTooHigh, Short, Trailing}
 use Rattle.std.specs.FinMap as fin
 use Rattle.basics.specs.Reading as reading
-use Rattle.basics.specs.Reading.{made}
-use Rattle.s3_types.specs.declared.object.Object.{Object}
-use Rattle.store_image.specs.Image.{magic}
-use Rattle.store_image.specs.Content.{is_minimum, is_counter, is_id}
-use Rattle.store_image.specs.declared.fault.ImageFault.{ImageFault}
-use Rattle.store_image.specs.declared.fault.ImageFault.TheVariants.{BadHead, Short, BadOrder, BadName, CounterTooHigh, Trailing}
 
 -- a value with what is left after it, or a fault
 abbrev pub Read : Type 0 → Type 0
@@ -73,11 +81,13 @@ with_entries m [] = m
 with_entries m (e ∷ es) = with_entries (fin.insert m e.0 e.1) es
 
 -- a map of so many entries
-unfoldable pub map_at : {K X : Type 0} {R : K → K → Ordering} → (Option K → List ℕ → Read K) → (List ℕ → Read X) → ℕ → List ℕ → Read (fin.FinMap R X)
+unfoldable pub map_at : {K X : Type 0} {R : K → K → Ordering} → (Option K → List ℕ → Read K) → (List ℕ → Read X) → ℕ → List ℕ
+    → Read (fin.FinMap R X)
 map_at key_at value_at n bytes = made (with_entries fin.empty) (rising_at key_at value_at n None bytes)
 
 -- a map with its count before it
-unfoldable pub counted_at : {K X : Type 0} {R : K → K → Ordering} → Width → ℕ → (Option K → List ℕ → Read K) → (List ℕ → Read X) → List ℕ → Read (fin.FinMap R X)
+unfoldable pub counted_at : {K X : Type 0} {R : K → K → Ordering} → Width → ℕ → (Option K → List ℕ → Read K) → (List ℕ → Read X) → List ℕ
+    → Read (fin.FinMap R X)
 counted_at w whole key_at value_at bytes = do
   n ← number_at w whole bytes
   map_at key_at value_at n.0 n.1

@@ -1,10 +1,14 @@
 -- The next upload's id after a request.
-use Rattle.std.proofs.Common.{◌≤◌, ◌+◌, ℕ, Bool, true, false, cond, List, [], Option, Some, None, arith}
-use Rattle.s3_types.specs.Prelude.{is_bucket, Content, BucketContent, apply_store, apply_at, draws}
-use Rattle.std.specs.FinMap as fin
-use Rattle.s3_types.specs.Answer.{made}
+use Rattle.s3_types.specs.Answer.{apply_at, apply_store, draws, made}
+use Rattle.s3_types.specs.Names.{is_bucket}
+use Rattle.s3_types.specs.Store.{BucketContent, Content}
 use Rattle.s3_types.specs.declared.request.Request.{Request}
-use Rattle.s3_types.specs.declared.request.Request.TheVariants.{MakeBucket, PutObject, GetObject, HeadObject, DeleteObject, DeleteObjects, CopyObject, ListPage, CreateUpload, UploadPart, CompleteUpload, AbortUpload, ListParts, ListUploads, ClusterPut, ClusterRename, ClusterGet, ClusterDelete, ClusterList}
+use Rattle.s3_types.specs.declared.request.Request.TheVariants.{AbortUpload, ClusterDelete, ClusterGet, ClusterList, ClusterPut}
+use Rattle.s3_types.specs.declared.request.Request.TheVariants.{ClusterRename, CompleteUpload, CopyObject, CreateUpload, DeleteObject}
+use Rattle.s3_types.specs.declared.request.Request.TheVariants.{DeleteObjects, GetObject, HeadObject, ListPage, ListParts, ListUploads}
+use Rattle.s3_types.specs.declared.request.Request.TheVariants.{MakeBucket, PutObject, UploadPart}
+use Rattle.std.proofs.Common.{Bool, List, None, Option, Some, arith, cond, false, true, ℕ, [], ◌+◌, ◌≤◌}
+use Rattle.std.specs.FinMap as fin
 
 one_more : (b : Bool) (n : ℕ) → cond b (n + 1) n ≤ n + 1
 one_more true n = omega arith

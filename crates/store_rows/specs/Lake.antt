@@ -1,6 +1,6 @@
 -- The store that each stream begins with.
-use Rattle.std.specs.Prelude.{ℕ, List}
-use Rattle.fs_ops.specs.Prelude.{Content, Scene, new_bucket, opening}
+use Rattle.s3_types.specs.Store.{Content, Scene, new_bucket, opening}
+use Rattle.std.specs.Prelude.{List, ℕ}
 use Rattle.std.specs.FinMap as fin
 
 -- one bucket, which is empty, and 4 is the least size of a part that is not the last

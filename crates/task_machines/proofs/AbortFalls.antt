@@ -1,15 +1,31 @@
 -- What an abort has left falls.
-use Rattle.std.proofs.Common.{◌≡◌, ◌+◌, ◌<◌, ◌≤◌, Bool, true, false, List, [], ◌∷◌, length, Option, Some, None, refl, ap, subst, arith}
-use Rattle.job_protocol.specs.Prelude.{Scene, answer, apply, Committer, Magic, Request, AbortUpload, Who, Drawn, Script, task_script, who_of, task_abort_wants, task_abort_told, FallsAmong, Sweep, sweep_start, sweep_asks, sweep_hears, all_go, attempt_prefix, TaskAbort, Dropping, TaskAbortOver, task_abort_asks, task_abort_hears, dropping, FitsSweep, left_of, adds_key, one_if}
-use Rattle.job_protocol.specs.TaskAborts.{Sweeping, Removing, removing, dropped, sweeping}
-use Rattle.list_walk.proofs.Falling.{sweep_laws}
-use Rattle.task_machines.specs.Aborts.{FitsAbort, abort_fits, own_left, after_left, abort_left_at, abort_left}
-use Rattle.std.proofs.lemmas.Option.{same_Some}
+use Rattle.job_model.specs.Attempts.{Who}
+use Rattle.job_model.specs.JobScript.{Script}
+use Rattle.job_model.specs.Known.{Drawn}
+use Rattle.job_protocol.specs.AtWork.{task_abort_told, task_abort_wants, task_script, who_of}
+use Rattle.job_protocol.specs.Measures.{FallsAmong}
+use Rattle.job_protocol.specs.TaskAborts.{Dropping, Removing, Sweeping, TaskAbort, TaskAbortOver, dropped, dropping, removing, sweeping}
+use Rattle.job_protocol.specs.TaskAborts.{task_abort_asks, task_abort_hears}
+use Rattle.job_protocol.specs.TaskCommits.{attempt_prefix}
 use Rattle.list_walk.proofs.Counting.{one_most}
+use Rattle.list_walk.proofs.Falling.{sweep_laws}
+use Rattle.list_walk.specs.Fitting.{FitsSweep}
+use Rattle.list_walk.specs.Left.{adds_key, left_of, one_if}
+use Rattle.list_walk.specs.Walks.{Sweep, all_go, sweep_asks, sweep_hears, sweep_start}
+use Rattle.s3_types.specs.Answer.{answer, apply}
+use Rattle.s3_types.specs.Store.{Scene}
+use Rattle.s3_types.specs.declared.request.Committer.{Committer}
+use Rattle.s3_types.specs.declared.request.Committer.TheVariants.{Magic}
+use Rattle.s3_types.specs.declared.request.Request.{Request}
+use Rattle.s3_types.specs.declared.request.Request.TheVariants.{AbortUpload}
+use Rattle.std.proofs.Common.{Bool, List, None, Option, Some, ap, arith, false, length, refl, subst, true, [], ◌+◌, ◌<◌, ◌∷◌, ◌≡◌, ◌≤◌}
+use Rattle.std.proofs.lemmas.Option.{same_Some}
+use Rattle.task_machines.specs.Aborts.{FitsAbort, abort_fits, abort_left, abort_left_at, after_left, own_left}
 
 -- ---- the sweep
 
-own_keeps : (w : Script) (a : Who) (v : Sweep) (s : Scene) (r : Request) → adds_key r ≡ false → own_left w a v (apply s r) ≤ own_left w a v s
+own_keeps : (w : Script) (a : Who) (v : Sweep) (s : Scene) (r : Request) → adds_key r ≡ false
+    → own_left w a v (apply s r) ≤ own_left w a v s
 own_keeps w a v s r k =
     let o = sweep_laws.others w.dest.bucket (attempt_prefix w a) v s r in
     let z : one_if (adds_key r) ≡ 0 = ap one_if k in
@@ -21,7 +37,8 @@ own_rises w a v s r =
     let z = one_most (adds_key r) in
     omega (arith, o, z)
 
-after_keeps : (c : Committer) (w : Script) (a : Who) (s : Scene) (r : Request) → adds_key r ≡ false → after_left c w a (apply s r) ≤ after_left c w a s
+after_keeps : (c : Committer) (w : Script) (a : Who) (s : Scene) (r : Request) → adds_key r ≡ false
+    → after_left c w a (apply s r) ≤ after_left c w a s
 after_keeps Magic w a s r k = own_keeps w a sweep_start s r k
 after_keeps _ w a s r k = omega arith
 
@@ -39,35 +56,45 @@ dropped_left : (c : Committer) (w : Script) (a : Who) (sent : Bool) (s : Scene) 
 dropped_left Magic w a sent s = omega arith
 dropped_left _ w a sent s = removing_left w a sent s
 
-dropping_left : (w : Script) (a : Who) (sent : Bool) (ds : List Drawn) (s : Scene) → abort_left_at w a (dropping w.committer sent ds) s ≤ length ds + after_left w.committer w a s
+dropping_left : (w : Script) (a : Who) (sent : Bool) (ds : List Drawn) (s : Scene)
+    → abort_left_at w a (dropping w.committer sent ds) s ≤ length ds + after_left w.committer w a s
 dropping_left w a sent [] s = let k = dropped_left w.committer w a sent s in omega (arith, k)
 dropping_left w a sent (d ∷ ds) s = omega arith
 
-dropping_falls : (w : Script) (a : Who) (d : Drawn) (ds : List Drawn) (sent : Bool) (s : Scene) → abort_left_at w a (dropping w.committer sent ds) (apply s (AbortUpload w.dest.bucket d.key d.upload)) < abort_left_at w a (Dropping d ds sent) s
+dropping_falls : (w : Script) (a : Who) (d : Drawn) (ds : List Drawn) (sent : Bool) (s : Scene)
+    → abort_left_at w a (dropping w.committer sent ds) (apply s (AbortUpload w.dest.bucket d.key d.upload)) < abort_left_at w a
+    (Dropping d ds sent) s
 dropping_falls w a d ds sent s =
     let e = dropping_left w a sent ds (apply s (AbortUpload w.dest.bucket d.key d.upload)) in
     let k = after_keeps w.committer w a s (AbortUpload w.dest.bucket d.key d.upload) refl in
     omega (arith, e, k)
 
-sweeping_left : (w : Script) (a : Who) (o : Option Sweep) (s : Scene) → abort_left_at w a (sweeping o) s ≡ left_of w.dest.bucket (attempt_prefix w a) o s
+sweeping_left : (w : Script) (a : Who) (o : Option Sweep) (s : Scene)
+    → abort_left_at w a (sweeping o) s ≡ left_of w.dest.bucket (attempt_prefix w a) o s
 sweeping_left w a (Some v) s = refl
 sweeping_left w a None s = refl
 
 sweeping_falls : (w : Script) (a : Who) (v : Sweep) (s : Scene) → FitsSweep v (answer s (sweep_asks w.dest.bucket (attempt_prefix w a) v))
-    → abort_left_at w a (sweeping (sweep_hears all_go v (answer s (sweep_asks w.dest.bucket (attempt_prefix w a) v)))) (apply s (sweep_asks w.dest.bucket (attempt_prefix w a) v)) < abort_left_at w a (Sweeping v) s
+    → abort_left_at w a (sweeping (sweep_hears all_go v (answer s (sweep_asks w.dest.bucket (attempt_prefix w a) v))))
+    (apply s (sweep_asks w.dest.bucket (attempt_prefix w a) v)) < abort_left_at w a (Sweeping v) s
 sweeping_falls w a v s h =
     let f = sweep_laws.falls w.dest.bucket (attempt_prefix w a) all_go v s h in
-    let e = sweeping_left w a (sweep_hears all_go v (answer s (sweep_asks w.dest.bucket (attempt_prefix w a) v))) (apply s (sweep_asks w.dest.bucket (attempt_prefix w a) v)) in
+    let e = sweeping_left w a (sweep_hears all_go v (answer s (sweep_asks w.dest.bucket (attempt_prefix w a) v)))
+    (apply s (sweep_asks w.dest.bucket (attempt_prefix w a) v)) in
     omega (arith, f, e)
 
 pub none_some : {r : Request} → None ≡ Some r → ⊥
 none_some e = cc
 
-falls_at : (w : Script) (a : Who) (o : TaskAbort) (s : Scene) (r : Request) → task_abort_asks w a o ≡ Some r → FitsAbort o (answer s r) → abort_left_at w a (task_abort_hears w o (answer s r)) (apply s r) < abort_left_at w a o s
+falls_at : (w : Script) (a : Who) (o : TaskAbort) (s : Scene) (r : Request) → task_abort_asks w a o ≡ Some r → FitsAbort o (answer s r)
+    → abort_left_at w a (task_abort_hears w o (answer s r)) (apply s r) < abort_left_at w a o s
 falls_at w a (Dropping d ds sent) s r e h =
-    subst (λ r. abort_left_at w a (task_abort_hears w (Dropping d ds sent) (answer s r)) (apply s r) < abort_left_at w a (Dropping d ds sent) s) (same_Some _ _ e) (dropping_falls w a d ds sent s)
+    subst (λ r. abort_left_at w a (task_abort_hears w (Dropping d ds sent) (answer s r)) (apply s r) < abort_left_at w a
+    (Dropping d ds sent) s) (same_Some _ _ e) (dropping_falls w a d ds sent s)
 falls_at w a (Sweeping v) s r e h =
-    subst (λ r. FitsAbort (Sweeping v) (answer s r) → abort_left_at w a (task_abort_hears w (Sweeping v) (answer s r)) (apply s r) < abort_left_at w a (Sweeping v) s) (same_Some _ _ e) (sweeping_falls w a v s) h
+    subst (λ r. FitsAbort (Sweeping v) (answer s r)
+    → abort_left_at w a (task_abort_hears w (Sweeping v) (answer s r)) (apply s r) < abort_left_at w a (Sweeping v) s) (same_Some _ _ e)
+    (sweeping_falls w a v s) h
 falls_at w a Removing s r e h = omega arith
 falls_at w a (TaskAbortOver end) s r e h = absurd (none_some e)
 
@@ -76,12 +103,16 @@ some_left w a (Sweeping v) s r e = sweep_laws.some w.dest.bucket (attempt_prefix
 some_left w a (TaskAbortOver end) s r e = absurd (none_some e)
 some_left w a _ s r e = omega arith
 
-keeps_dropping : (w : Script) (a : Who) (d : Drawn) (ds : List Drawn) (sent : Bool) (s : Scene) → abort_left_at w a (Dropping d ds sent) (apply s (AbortUpload w.dest.bucket d.key d.upload)) ≤ abort_left_at w a (Dropping d ds sent) s
+keeps_dropping : (w : Script) (a : Who) (d : Drawn) (ds : List Drawn) (sent : Bool) (s : Scene)
+    → abort_left_at w a (Dropping d ds sent) (apply s (AbortUpload w.dest.bucket d.key d.upload)) ≤ abort_left_at w a (Dropping d ds sent) s
 keeps_dropping w a d ds sent s = let k = after_keeps w.committer w a s (AbortUpload w.dest.bucket d.key d.upload) refl in omega (arith, k)
 
-no_rise_at : (w : Script) (a : Who) (o : TaskAbort) (s : Scene) (r : Request) → task_abort_asks w a o ≡ Some r → abort_left_at w a o (apply s r) ≤ abort_left_at w a o s
-no_rise_at w a (Dropping d ds sent) s r e = subst (λ r. abort_left_at w a (Dropping d ds sent) (apply s r) ≤ abort_left_at w a (Dropping d ds sent) s) (same_Some _ _ e) (keeps_dropping w a d ds sent s)
-no_rise_at w a (Sweeping v) s r e = subst (λ r. abort_left_at w a (Sweeping v) (apply s r) ≤ abort_left_at w a (Sweeping v) s) (same_Some _ _ e) (sweep_laws.no_rise w.dest.bucket (attempt_prefix w a) v s)
+no_rise_at : (w : Script) (a : Who) (o : TaskAbort) (s : Scene) (r : Request) → task_abort_asks w a o ≡ Some r
+    → abort_left_at w a o (apply s r) ≤ abort_left_at w a o s
+no_rise_at w a (Dropping d ds sent) s r e = subst (λ r. abort_left_at w a (Dropping d ds sent) (apply s r) ≤ abort_left_at w a
+    (Dropping d ds sent) s) (same_Some _ _ e) (keeps_dropping w a d ds sent s)
+no_rise_at w a (Sweeping v) s r e = subst (λ r. abort_left_at w a (Sweeping v) (apply s r) ≤ abort_left_at w a (Sweeping v) s)
+    (same_Some _ _ e) (sweep_laws.no_rise w.dest.bucket (attempt_prefix w a) v s)
 no_rise_at w a _ s r e = omega arith
 
 others_at : (w : Script) (a : Who) (o : TaskAbort) (s : Scene) (r : Request) → abort_left_at w a o (apply s r) ≤ abort_left_at w a o s + 1

@@ -1,20 +1,45 @@
 -- What a commit has left falls.
-use Rattle.std.proofs.Common.{◌≡◌, ℕ, ◌+◌, ◌<◌, ◌≤◌, nat_lt, Bool, true, false, cond, List, [], ◌∷◌, map, length, take, length-append, Option, Some, None, refl, sym, ap, subst, ◌∙◌, arith, inl, inr}
-use Rattle.job_protocol.specs.Prelude.{filter, flat_map, bytes_decides, text_eq, Scene, BucketContent, answer, answer_at, apply, listed, Request, ListPage, Reply, Page, Part, Refused, PageEntry, NoSuchKey, NoSuchUpload, NoSuchFile, IsIn, RisesFrom, File, Who, Drawn, Known, Script, task_script, who_of, task_commit_wants, task_commit_told, FallsAmong, files, record_key, Uploading, Creating, Sending, file_parts, sending, created, sent_part, upload_hears, Walked, More, Whole, page_after, TaskCommit, Looking, Reading, Publishing, Checking, Storing, Renaming, TaskCommitOver, attempt_prefix, partition_prefix, task_commit_asks, task_commit_hears, in_order, reading, looked_at, looked, read_record, least_missing, storing, checking, uploaded, renamed, FitsPage, walk_left, adds_key, LessWalk}
-use Rattle.machine.specs.Prelude.{Upload}
-use Rattle.std.specs.FinMap as fin
-use Rattle.s3_types.specs.declared.reply.Reply.TheVariants.{Object}
-use Rattle.store_frame.proofs.Flat.{not_again}
-use Rattle.list_walk.specs.Walks.{walked}
-use Rattle.job_protocol.specs.TaskCommits as commits
-use Rattle.job_protocol.specs.TaskCommits.{checked}
+use Rattle.basics.specs.Members.{IsIn, RisesFrom}
+use Rattle.basics.specs.Order.{text_eq}
+use Rattle.job_model.specs.Attempts.{Who}
+use Rattle.job_model.specs.Files.{File}
+use Rattle.job_model.specs.JobScript.{Script}
+use Rattle.job_model.specs.Known.{Drawn, Known}
+use Rattle.job_protocol.specs.AtWork.{task_commit_told, task_commit_wants, task_script, who_of}
+use Rattle.job_protocol.specs.Measures.{FallsAmong}
+use Rattle.job_protocol.specs.Outputs.{files}
+use Rattle.job_protocol.specs.Records.{record_key}
+use Rattle.job_protocol.specs.TaskCommits.{Checking, Looking, Publishing, Reading, Renaming, Storing, TaskCommit, TaskCommitOver}
+use Rattle.job_protocol.specs.TaskCommits.{attempt_prefix, checked, checking, in_order, least_missing, looked, looked_at, partition_prefix}
+use Rattle.job_protocol.specs.TaskCommits.{read_record, reading, renamed, storing, task_commit_asks, task_commit_hears, uploaded}
+use Rattle.job_protocol.specs.Uploading.{Creating, Sending, Uploading, created, file_parts, sending, sent_part, upload_hears}
+use Rattle.list_walk.proofs.Counting.{one_most}
 use Rattle.list_walk.proofs.Falling.{walk_laws}
+use Rattle.list_walk.specs.Fitting.{FitsPage}
+use Rattle.list_walk.specs.Laws.{LessWalk}
+use Rattle.list_walk.specs.Left.{adds_key, walk_left}
+use Rattle.list_walk.specs.Walks.{More, Walked, Whole, page_after, walked}
+use Rattle.s3_types.specs.Answer.{answer, answer_at, apply}
+use Rattle.s3_types.specs.Pages.{listed}
+use Rattle.s3_types.specs.Store.{BucketContent, Scene}
+use Rattle.s3_types.specs.declared.reply.PageEntry.{PageEntry}
+use Rattle.s3_types.specs.declared.reply.Refusal.TheVariants.{NoSuchFile, NoSuchKey, NoSuchUpload}
+use Rattle.s3_types.specs.declared.reply.Reply.{Reply}
+use Rattle.s3_types.specs.declared.reply.Reply.TheVariants.{Object, Page, Part, Refused, Upload}
+use Rattle.s3_types.specs.declared.request.Request.{Request}
+use Rattle.s3_types.specs.declared.request.Request.TheVariants.{ListPage}
+use Rattle.std.proofs.Common.{Bool, List, None, Option, Some, ap, arith, cond, false, inl, inr, length, length-append, map, nat_lt, refl}
+use Rattle.std.proofs.Common.{subst, sym, take, true, ℕ, [], ◌+◌, ◌<◌, ◌∙◌, ◌∷◌, ◌≡◌, ◌≤◌}
+use Rattle.std.proofs.lemmas.Option.{same_Some}
+use Rattle.std.specs.Cmp.Lexicographic.{bytes_decides}
+use Rattle.std.specs.List.{filter, flat_map}
+use Rattle.store_frame.proofs.Flat.{not_again}
+use Rattle.task_machines.proofs.AbortFalls.{none_some}
+use Rattle.task_machines.specs.Commits.{FitsCommit, FitsListing, commit_fits, commit_left, commit_left_at, upload_left, uploads_left}
 use Rattle.task_requests.specs.Publishing.{FitsRecord}
 use Rattle.task_requests.specs.Writing.{FitsCreate, FitsPart, FitsUpload}
-use Rattle.task_machines.specs.Commits.{FitsListing, FitsCommit, commit_fits, upload_left, uploads_left, commit_left_at, commit_left}
-use Rattle.task_machines.proofs.AbortFalls.{none_some}
-use Rattle.std.proofs.lemmas.Option.{same_Some}
-use Rattle.list_walk.proofs.Counting.{one_most}
+use Rattle.std.specs.FinMap as fin
+use Rattle.job_protocol.specs.TaskCommits as commits
 
 -- ---- keys that rise pick each file once
 
@@ -47,14 +72,18 @@ count_most x l (k ∷ ks) h = by (text_eq x k) (count_most x k ks h.1) refl
         omega (arith, count_by x k ks true e, none)
     by false n e = omega (arith, count_by x k ks false e, n)
 
-picked_by : (g : File → List ℕ) (k : List ℕ) (f : File) (fs : List File) → length (filter (λ f. text_eq (g f) k) (f ∷ fs)) ≡ cond (text_eq (g f) k) 1 0 + length (filter (λ f. text_eq (g f) k) fs)
+picked_by : (g : File → List ℕ) (k : List ℕ) (f : File) (fs : List File)
+    → length (filter (λ f. text_eq (g f) k) (f ∷ fs)) ≡ cond (text_eq (g f) k) 1 0 + length (filter (λ f. text_eq (g f) k) fs)
 picked_by g k f fs = by (text_eq (g f) k)
   where
-    by : (b : Bool) → length (cond b (f ∷ filter (λ f. text_eq (g f) k) fs) (filter (λ f. text_eq (g f) k) fs)) ≡ cond b 1 0 + length (filter (λ f. text_eq (g f) k) fs)
+    by : (b : Bool) → length (cond b (f ∷ filter (λ f. text_eq (g f) k) fs) (filter (λ f. text_eq (g f) k) fs)) ≡ cond b 1 0 + length
+        (filter (λ f. text_eq (g f) k) fs)
     by true = omega arith
     by false = omega arith
 
-picked_with : (g : File → List ℕ) (f : File) (fs : List File) (ks : List (List ℕ)) → length (flat_map (λ k. filter (λ f. text_eq (g f) k) (f ∷ fs)) ks) ≡ count (g f) ks + length (flat_map (λ k. filter (λ f. text_eq (g f) k) fs) ks)
+picked_with : (g : File → List ℕ) (f : File) (fs : List File) (ks : List (List ℕ))
+    → length (flat_map (λ k. filter (λ f. text_eq (g f) k) (f ∷ fs)) ks) ≡ count (g f) ks + length
+    (flat_map (λ k. filter (λ f. text_eq (g f) k) fs) ks)
 unfolding count
 picked_with g f fs [] = omega arith
 picked_with g f fs (k ∷ ks) =
@@ -68,17 +97,20 @@ nothing_picked : (ks : List (List ℕ)) (g : File → List ℕ) → length (flat
 nothing_picked [] g = refl
 nothing_picked (k ∷ ks) g = nothing_picked ks g
 
-few_picked : (g : File → List ℕ) (l : List ℕ) (ks : List (List ℕ)) (fs : List File) → RisesFrom l ks → length (flat_map (λ k. filter (λ f. text_eq (g f) k) fs) ks) ≤ length fs
+few_picked : (g : File → List ℕ) (l : List ℕ) (ks : List (List ℕ)) (fs : List File) → RisesFrom l ks
+    → length (flat_map (λ k. filter (λ f. text_eq (g f) k) fs) ks) ≤ length fs
 few_picked g l ks [] h = omega (arith, nothing_picked ks g)
 few_picked g l ks (f ∷ fs) h = omega (arith, picked_with g f fs ks, count_most (g f) l ks h, few_picked g l ks fs h)
 
 -- ---- it falls
 
-reading_left : (w : Script) (minimum : ℕ) (a : Who) (cs fs : List File) (s : Scene) → commit_left_at w minimum a (reading cs fs) s ≤ 1 + length fs
+reading_left : (w : Script) (minimum : ℕ) (a : Who) (cs fs : List File) (s : Scene)
+    → commit_left_at w minimum a (reading cs fs) s ≤ 1 + length fs
 reading_left w minimum a cs [] s = omega arith
 reading_left w minimum a cs (f ∷ fs) s = omega arith
 
-at_left : (w : Script) (minimum : ℕ) (a : Who) (o : Option (List ℕ)) (cs : List File) (s : Scene) → commit_left_at w minimum a (looked_at o cs) s ≤ 1 + length cs
+at_left : (w : Script) (minimum : ℕ) (a : Who) (o : Option (List ℕ)) (cs : List File) (s : Scene)
+    → commit_left_at w minimum a (looked_at o cs) s ≤ 1 + length cs
 at_left w minimum a (Some k) cs s = omega arith
 at_left w minimum a None cs s = reading_left w minimum a cs cs s
 
@@ -97,7 +129,8 @@ fits_page : (keys : List (List ℕ)) (r : Reply) → FitsListing keys r → Fits
 fits_page keys (Page entries more) h = h.0
 fits_page keys _ h = h
 
-looked_left : (w : Script) (minimum : ℕ) (a : Who) (s : Scene) (n : ℕ) (x : Walked (List ℕ)) → WholeRises x → LessWalk w.dest.bucket (attempt_prefix w a) s n x → 1 ≤ n → commit_left_at w minimum a (looked w a x) s < n + (1 + length (files w a))
+looked_left : (w : Script) (minimum : ℕ) (a : Who) (s : Scene) (n : ℕ) (x : Walked (List ℕ)) → WholeRises x
+    → LessWalk w.dest.bucket (attempt_prefix w a) s n x → 1 ≤ n → commit_left_at w minimum a (looked w a x) s < n + (1 + length (files w a))
 unfolding WholeRises
 looked_left w minimum a s n (More keys) h l g = omega (arith, l)
 looked_left w minimum a s n (Whole keys) h l g =
@@ -105,30 +138,38 @@ looked_left w minimum a s n (Whole keys) h l g =
     let few = few_picked (record_key w a) [] keys (files w a) h in
     omega (arith, one, few)
 
-looking_falls : (w : Script) (minimum : ℕ) (a : Who) (keys : List (List ℕ)) (s : Scene) → FitsListing keys (answer s (page_after w.dest.bucket (attempt_prefix w a) keys))
-    → commit_left_at w minimum a (looked w a (walked keys (answer s (page_after w.dest.bucket (attempt_prefix w a) keys)))) (apply s (page_after w.dest.bucket (attempt_prefix w a) keys)) < commit_left_at w minimum a (Looking keys) s
+looking_falls : (w : Script) (minimum : ℕ) (a : Who) (keys : List (List ℕ)) (s : Scene)
+    → FitsListing keys (answer s (page_after w.dest.bucket (attempt_prefix w a) keys))
+    → commit_left_at w minimum a (looked w a (walked keys (answer s (page_after w.dest.bucket (attempt_prefix w a) keys))))
+    (apply s (page_after w.dest.bucket (attempt_prefix w a) keys)) < commit_left_at w minimum a (Looking keys) s
 looking_falls w minimum a keys s h =
     let p = attempt_prefix w a in
     let r = answer s (page_after w.dest.bucket p keys) in
-    subst (λ z. commit_left_at w minimum a (looked w a (walked keys r)) z < commit_left_at w minimum a (Looking keys) s) (sym (walk_laws.still w.dest.bucket p keys s))
-    (looked_left w minimum a s (walk_left w.dest.bucket p keys s) (walked keys r) (whole_rises keys r h) (walk_laws.falls w.dest.bucket p keys s (fits_page keys r h)) (omega arith))
+    subst (λ z. commit_left_at w minimum a (looked w a (walked keys r)) z < commit_left_at w minimum a (Looking keys) s)
+    (sym (walk_laws.still w.dest.bucket p keys s))
+    (looked_left w minimum a s (walk_left w.dest.bucket p keys s) (walked keys r) (whole_rises keys r h)
+    (walk_laws.falls w.dest.bucket p keys s (fits_page keys r h)) (omega arith))
 
-read_falls : (w : Script) (minimum : ℕ) (a : Who) (k : Known) (cs : List File) (f : File) (fs : List File) (r : Reply) (s : Scene) → FitsRecord w a k f r → commit_left_at w minimum a (read_record w a cs f fs r) s < 2 + length fs
+read_falls : (w : Script) (minimum : ℕ) (a : Who) (k : Known) (cs : List File) (f : File) (fs : List File) (r : Reply) (s : Scene)
+    → FitsRecord w a k f r → commit_left_at w minimum a (read_record w a cs f fs r) s < 2 + length fs
 read_falls w minimum a k cs f fs (Object bytes header) s h = omega (arith, reading_left w minimum a cs fs s)
 read_falls w minimum a k cs f fs (Refused NoSuchKey) s h = omega arith
 read_falls w minimum a k cs f fs _ s h = absurd h
 
 -- ---- staging
 
-storing_left : (w : Script) (minimum : ℕ) (a : Who) (fs : List File) (s : Scene) → commit_left_at w minimum a (storing fs) s ≤ uploads_left w minimum fs + 2
+storing_left : (w : Script) (minimum : ℕ) (a : Who) (fs : List File) (s : Scene)
+    → commit_left_at w minimum a (storing fs) s ≤ uploads_left w minimum fs + 2
 storing_left w minimum a [] s = omega arith
 storing_left w minimum a (f ∷ fs) s = omega arith
 
-checking_left : (w : Script) (minimum : ℕ) (a : Who) (ds : List (List ℕ)) (s : Scene) → commit_left_at w minimum a (checking w a ds) s ≤ length ds + (uploads_left w minimum (files w a) + 2)
+checking_left : (w : Script) (minimum : ℕ) (a : Who) (ds : List (List ℕ)) (s : Scene)
+    → commit_left_at w minimum a (checking w a ds) s ≤ length ds + (uploads_left w minimum (files w a) + 2)
 checking_left w minimum a [] s = let k = storing_left w minimum a (files w a) s in omega (arith, k)
 checking_left w minimum a (d ∷ ds) s = omega arith
 
-page_falls : (w : Script) (minimum : ℕ) (a : Who) (d : List ℕ) (ds : List (List ℕ)) (entries : List PageEntry) (more : Bool) (s z : Scene) → commit_left_at w minimum a (checked w a d ds (Page entries more)) z < commit_left_at w minimum a (Checking d ds) s
+page_falls : (w : Script) (minimum : ℕ) (a : Who) (d : List ℕ) (ds : List (List ℕ)) (entries : List PageEntry) (more : Bool) (s z : Scene)
+    → commit_left_at w minimum a (checked w a d ds (Page entries more)) z < commit_left_at w minimum a (Checking d ds) s
 page_falls w minimum a d ds [] more s z = let k = checking_left w minimum a ds z in omega (arith, k)
 page_falls w minimum a d ds (x ∷ xs) more s z = omega arith
 
@@ -137,28 +178,37 @@ abbrev one_key : Script → List ℕ → Request
 one_key w d = ListPage w.dest.bucket (partition_prefix w d) false [] 1
 
 checked_falls : (w : Script) (minimum : ℕ) (a : Who) (d : List ℕ) (ds : List (List ℕ)) (s : Scene) → FitsPage (answer s (one_key w d))
-    → commit_left_at w minimum a (checked w a d ds (answer s (one_key w d))) (apply s (one_key w d)) < commit_left_at w minimum a (Checking d ds) s
+    → commit_left_at w minimum a (checked w a d ds (answer s (one_key w d))) (apply s (one_key w d)) < commit_left_at w minimum a
+    (Checking d ds) s
 checked_falls w minimum a d ds s h = by (fin.get s.content.buckets w.dest.bucket) h
   where
     by : (o : Option BucketContent) → FitsPage (answer_at o s.content.next s.content.minimum (one_key w d))
-        → commit_left_at w minimum a (checked w a d ds (answer_at o s.content.next s.content.minimum (one_key w d))) (apply s (one_key w d)) < commit_left_at w minimum a (Checking d ds) s
+        → commit_left_at w minimum a (checked w a d ds (answer_at o s.content.next s.content.minimum (one_key w d))) (apply s (one_key w d))
+        < commit_left_at w minimum a (Checking d ds) s
     by None f = absurd f
-    by (Some c) f = let l = listed (partition_prefix w d) false [] c.objects in page_falls w minimum a d ds (take 1 l) (nat_lt 1 (length l)) s (apply s (one_key w d))
+    by (Some c) f = let l = listed (partition_prefix w d) false [] c.objects in page_falls w minimum a d ds (take 1 l) (nat_lt 1 (length l))
+        s (apply s (one_key w d))
 
-sending_left : (w : Script) (minimum : ℕ) (a : Who) (f : File) (fs : List File) (ps : List (List ℕ)) (s : Scene) → commit_left_at w minimum a (uploaded w f fs (sending ps)) s ≤ length ps + (uploads_left w minimum fs + 2)
+sending_left : (w : Script) (minimum : ℕ) (a : Who) (f : File) (fs : List File) (ps : List (List ℕ)) (s : Scene)
+    → commit_left_at w minimum a (uploaded w f fs (sending ps)) s ≤ length ps + (uploads_left w minimum fs + 2)
 sending_left w minimum a f fs [] s = let k = storing_left w minimum a fs s in omega (arith, k)
 sending_left w minimum a f fs (p ∷ ps) s = omega arith
 
-begun_falls : (w : Script) (minimum : ℕ) (a : Who) (f : File) (fs : List File) (ds : List Drawn) (r : Reply) (s z : Scene) → FitsCreate ds r → commit_left_at w minimum a (uploaded w f fs (created w minimum f r)) z < commit_left_at w minimum a (commits.Uploads f fs Creating) s
+begun_falls : (w : Script) (minimum : ℕ) (a : Who) (f : File) (fs : List File) (ds : List Drawn) (r : Reply) (s z : Scene) → FitsCreate ds r
+    → commit_left_at w minimum a (uploaded w f fs (created w minimum f r)) z < commit_left_at w minimum a (commits.Uploads f fs Creating) s
 begun_falls w minimum a f fs ds (Upload id) s z h = let k = sending_left w minimum a f fs (file_parts w minimum f) z in omega (arith, k)
 begun_falls w minimum a f fs ds _ s z h = absurd h
 
-part_falls : (w : Script) (minimum : ℕ) (a : Who) (f : File) (fs : List File) (p : List ℕ) (ps : List (List ℕ)) (r : Reply) (s z : Scene) → FitsPart r → commit_left_at w minimum a (uploaded w f fs (sent_part ps r)) z < commit_left_at w minimum a (commits.Uploads f fs (Sending p ps)) s
+part_falls : (w : Script) (minimum : ℕ) (a : Who) (f : File) (fs : List File) (p : List ℕ) (ps : List (List ℕ)) (r : Reply) (s z : Scene)
+    → FitsPart r → commit_left_at w minimum a (uploaded w f fs (sent_part ps r)) z < commit_left_at w minimum a
+    (commits.Uploads f fs (Sending p ps)) s
 part_falls w minimum a f fs p ps (Part tag) s z h = let k = sending_left w minimum a f fs ps z in omega (arith, k)
 part_falls w minimum a f fs p ps (Refused NoSuchUpload) s z h = omega arith
 part_falls w minimum a f fs p ps _ s z h = absurd h
 
-uploads_fall : (w : Script) (minimum : ℕ) (a : Who) (k : Known) (f : File) (fs : List File) (u : Uploading) (r : Reply) (s z : Scene) → FitsUpload k.drawn u r → commit_left_at w minimum a (uploaded w f fs (upload_hears w minimum f u r)) z < commit_left_at w minimum a (commits.Uploads f fs u) s
+uploads_fall : (w : Script) (minimum : ℕ) (a : Who) (k : Known) (f : File) (fs : List File) (u : Uploading) (r : Reply) (s z : Scene)
+    → FitsUpload k.drawn u r → commit_left_at w minimum a (uploaded w f fs (upload_hears w minimum f u r)) z < commit_left_at w minimum a
+    (commits.Uploads f fs u) s
 uploads_fall w minimum a k f fs Creating r s z h = begun_falls w minimum a f fs k.drawn r s z h
 uploads_fall w minimum a k f fs (Sending p ps) r s z h = part_falls w minimum a f fs p ps r s z h
 
@@ -172,31 +222,40 @@ some_upload w minimum f (Sending p ps) = omega arith
 
 -- ---- any commit
 
-falls_at : (w : Script) (minimum : ℕ) (a : Who) (k : Known) (o : TaskCommit) (s : Scene) (r : Request) (b : Bool) → task_commit_asks w a k o ≡ Some r → FitsCommit w a k o (answer s r) → commit_left_at w minimum a (task_commit_hears w minimum a o (answer s r) b) (apply s r) < commit_left_at w minimum a o s
+falls_at : (w : Script) (minimum : ℕ) (a : Who) (k : Known) (o : TaskCommit) (s : Scene) (r : Request) (b : Bool)
+    → task_commit_asks w a k o ≡ Some r → FitsCommit w a k o (answer s r)
+    → commit_left_at w minimum a (task_commit_hears w minimum a o (answer s r) b) (apply s r) < commit_left_at w minimum a o s
 falls_at w minimum a k (Looking keys) s r b e h =
-    subst (λ r. FitsListing keys (answer s r) → commit_left_at w minimum a (looked w a (walked keys (answer s r))) (apply s r) < commit_left_at w minimum a (Looking keys) s) (same_Some _ _ e) (looking_falls w minimum a keys s) h
+    subst (λ r. FitsListing keys (answer s r) → commit_left_at w minimum a (looked w a (walked keys (answer s r))) (apply s r) <
+    commit_left_at w minimum a (Looking keys) s) (same_Some _ _ e) (looking_falls w minimum a keys s) h
 falls_at w minimum a k (Reading cs f fs) s r b e h = read_falls w minimum a k cs f fs (answer s r) (apply s r) h
 falls_at w minimum a k (Publishing cs) s r b e h = omega arith
 falls_at w minimum a k (Checking d ds) s r b e h =
-    subst (λ r. FitsPage (answer s r) → commit_left_at w minimum a (checked w a d ds (answer s r)) (apply s r) < commit_left_at w minimum a (Checking d ds) s) (same_Some _ _ e) (checked_falls w minimum a d ds s) h
+    subst (λ r. FitsPage (answer s r) → commit_left_at w minimum a (checked w a d ds (answer s r)) (apply s r) < commit_left_at w minimum a
+    (Checking d ds) s) (same_Some _ _ e) (checked_falls w minimum a d ds s) h
 falls_at w minimum a k (commits.Uploads f fs u) s r b e h = uploads_fall w minimum a k f fs u (answer s r) s (apply s r) h
 falls_at w minimum a k Storing s r b e h = omega arith
 falls_at w minimum a k Renaming s r b e h = let z = renamed_left w minimum a (answer s r) b (apply s r) in omega (arith, z)
 falls_at w minimum a k (TaskCommitOver end) s r b e h = absurd (none_some e)
 
-some_left : (w : Script) (minimum : ℕ) (a : Who) (k : Known) (o : TaskCommit) (s : Scene) (r : Request) → task_commit_asks w a k o ≡ Some r → 0 < commit_left_at w minimum a o s
+some_left : (w : Script) (minimum : ℕ) (a : Who) (k : Known) (o : TaskCommit) (s : Scene) (r : Request) → task_commit_asks w a k o ≡ Some r
+    → 0 < commit_left_at w minimum a o s
 some_left w minimum a k (commits.Uploads f fs u) s r e = let z = some_upload w minimum f u in omega (arith, z)
 some_left w minimum a k (TaskCommitOver end) s r e = absurd (none_some e)
 some_left w minimum a k _ s r e = omega arith
 
-same_left : (w : Script) (minimum : ℕ) (a : Who) (o : TaskCommit) (s z : Scene) → z ≡ s → commit_left_at w minimum a o z ≤ commit_left_at w minimum a o s
+same_left : (w : Script) (minimum : ℕ) (a : Who) (o : TaskCommit) (s z : Scene) → z ≡ s
+    → commit_left_at w minimum a o z ≤ commit_left_at w minimum a o s
 same_left w minimum a o s z e = let i = ap (commit_left_at w minimum a o) e in omega (arith, i)
 
-no_rise_at : (w : Script) (minimum : ℕ) (a : Who) (k : Known) (o : TaskCommit) (s : Scene) (r : Request) → task_commit_asks w a k o ≡ Some r → commit_left_at w minimum a o (apply s r) ≤ commit_left_at w minimum a o s
-no_rise_at w minimum a k (Looking keys) s r e = same_left w minimum a (Looking keys) s (apply s r) (ap (apply s) (sym (same_Some _ _ e)) ∙ walk_laws.still w.dest.bucket (attempt_prefix w a) keys s)
+no_rise_at : (w : Script) (minimum : ℕ) (a : Who) (k : Known) (o : TaskCommit) (s : Scene) (r : Request) → task_commit_asks w a k o ≡ Some r
+    → commit_left_at w minimum a o (apply s r) ≤ commit_left_at w minimum a o s
+no_rise_at w minimum a k (Looking keys) s r e = same_left w minimum a (Looking keys) s (apply s r)
+    (ap (apply s) (sym (same_Some _ _ e)) ∙ walk_laws.still w.dest.bucket (attempt_prefix w a) keys s)
 no_rise_at w minimum a k _ s r e = omega arith
 
-others_at : (w : Script) (minimum : ℕ) (a : Who) (o : TaskCommit) (s : Scene) (r : Request) → commit_left_at w minimum a o (apply s r) ≤ commit_left_at w minimum a o s + 1
+others_at : (w : Script) (minimum : ℕ) (a : Who) (o : TaskCommit) (s : Scene) (r : Request)
+    → commit_left_at w minimum a o (apply s r) ≤ commit_left_at w minimum a o s + 1
 others_at w minimum a (Looking keys) s r =
     let o = walk_laws.others w.dest.bucket (attempt_prefix w a) keys s r in
     let z = one_most (adds_key r) in

@@ -1,11 +1,20 @@
 -- How an abort of a task stands.
-use Rattle.std.specs.Prelude.{◌≡◌, Bool, true, false, List, [], ◌∷◌, Option, Some, None, is_none, is_some}
+use Rattle.job_model.specs.JobScript.{Script}
+use Rattle.job_model.specs.Jobs.{Task}
+use Rattle.job_model.specs.Known.{Drawn}
+use Rattle.job_protocol.specs.AtWork.{Attempting, task_abort_told, task_abort_wants, task_script}
+use Rattle.job_protocol.specs.TaskAborts.{Dropping, Sweeping, TaskAbort, TaskAbortOver, dropped, dropping, removing, sweeping}
+use Rattle.job_protocol.specs.TaskAborts.{task_abort_hears, task_abort_over}
+use Rattle.list_walk.specs.Walks.{Sweep, all_go, sweep_hears}
+use Rattle.machine.specs.Asks.{AskLaws}
+use Rattle.machine.specs.Standing.{Fine, Standing}
+use Rattle.s3_types.specs.declared.reply.Reply.{Reply}
+use Rattle.s3_types.specs.declared.request.Committer.{Committer}
+use Rattle.s3_types.specs.declared.request.Committer.TheVariants.{Magic}
 use Rattle.std.proofs.Common.{refl}
-use Rattle.job_protocol.specs.Prelude.{Committer, Magic, Reply, Drawn, Task, Script, Attempting, task_script, task_abort_wants, task_abort_told, Sweep, sweep_hears, all_go, TaskAbort, Dropping, TaskAbortOver, task_abort_over, task_abort_hears, dropping}
-use Rattle.machine.specs.Prelude.{Standing, Fine, AskLaws}
-use Rattle.job_protocol.specs.TaskAborts.{Sweeping, removing, dropped, sweeping}
-use Rattle.task_machines.specs.Standing.{standing_by}
+use Rattle.std.specs.Prelude.{Bool, List, None, Option, Some, false, is_none, is_some, true, [], ◌∷◌, ◌≡◌}
 use Rattle.task_machines.specs.Aborts.{abort_fits}
+use Rattle.task_machines.specs.Standing.{standing_by}
 
 abbrev pub abort_standing : Attempting TaskAbort → Standing
 abort_standing m = standing_by (task_abort_over m.operation)
@@ -26,7 +35,8 @@ fine_sweeping : (o : Option Sweep) → standing_by (task_abort_over (sweeping o)
 fine_sweeping (Some s) = refl
 fine_sweeping None = refl
 
-goes_on : (w : Script) (o : TaskAbort) (a : Reply) → standing_by (task_abort_over (task_abort_hears w o a)) ≡ standing_by (task_abort_over o)
+goes_on : (w : Script) (o : TaskAbort) (a : Reply)
+    → standing_by (task_abort_over (task_abort_hears w o a)) ≡ standing_by (task_abort_over o)
 goes_on w (Dropping d ds sent) a = fine_dropping w.committer sent ds
 goes_on w (Sweeping s) a = fine_sweeping (sweep_hears all_go s a)
 goes_on w _ a = refl

@@ -1,7 +1,17 @@
 -- The replies that fit an abort of a task, and what it has left, for every committer.
-use Rattle.std.specs.Prelude.{ℕ, ◌+◌, Bool, length}
-use Rattle.job_protocol.specs.Prelude.{Scene, Committer, Magic, Reply, Who, Script, Attempting, task_script, who_of, Sweep, sweep_start, attempt_prefix, TaskAbort, Dropping, TaskAbortOver, FitsSweep, sweep_left}
-use Rattle.job_protocol.specs.TaskAborts.{Sweeping, Removing}
+use Rattle.job_model.specs.Attempts.{Who}
+use Rattle.job_model.specs.JobScript.{Script}
+use Rattle.job_protocol.specs.AtWork.{Attempting, task_script, who_of}
+use Rattle.job_protocol.specs.TaskAborts.{Dropping, Removing, Sweeping, TaskAbort, TaskAbortOver}
+use Rattle.job_protocol.specs.TaskCommits.{attempt_prefix}
+use Rattle.list_walk.specs.Fitting.{FitsSweep}
+use Rattle.list_walk.specs.Left.{sweep_left}
+use Rattle.list_walk.specs.Walks.{Sweep, sweep_start}
+use Rattle.s3_types.specs.Store.{Scene}
+use Rattle.s3_types.specs.declared.reply.Reply.{Reply}
+use Rattle.s3_types.specs.declared.request.Committer.{Committer}
+use Rattle.s3_types.specs.declared.request.Committer.TheVariants.{Magic}
+use Rattle.std.specs.Prelude.{Bool, length, ℕ, ◌+◌}
 
 -- a page that is not folded has keys alone, and the bucket is there
 abbrev pub FitsAbort : TaskAbort → Reply → Type 0

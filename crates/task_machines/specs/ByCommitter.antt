@@ -1,9 +1,9 @@
 -- An operation by the committer of its attempt's job.
+use Rattle.job_model.specs.Jobs.{Task}
 use Rattle.std.specs.Prelude.{◌≡◌}
-use Rattle.job_protocol.specs.Prelude.{Task}
-use Rattle.s3_types.specs.declared.request.Committer.TheVariants as committers
 use Rattle.task_machines.specs.declared.by_committer.ByCommitter.{ByCommitter}
 use Rattle.task_machines.specs.declared.by_committer.ByCommitter.TheVariants.{Magic, Staging}
+use Rattle.s3_types.specs.declared.request.Committer.TheVariants as committers
 
 -- the plan is one of its job's committer
 pub record GoesBy (magic staging : Task → Type 0) (t : Task) : Type 0 where

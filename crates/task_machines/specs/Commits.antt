@@ -1,9 +1,23 @@
 -- The replies that fit a commit of a task, and what it has left, for every committer.
-use Rattle.std.specs.Prelude.{ℕ, ◌+◌, Bool, List, [], ◌∷◌, ◌++◌, length}
-use Rattle.job_protocol.specs.Prelude.{Scene, Reply, Page, RisesFrom, File, Who, Known, Script, Attempting, task_script, who_of, files, Uploading, Creating, Sending, file_parts, keys_on, TaskCommit, Looking, Reading, Checking, Storing, TaskCommitOver, attempt_prefix, FitsPage, walk_left}
-use Rattle.job_protocol.specs.TaskCommits as commits
+use Rattle.basics.specs.Members.{RisesFrom}
+use Rattle.job_model.specs.Attempts.{Who}
+use Rattle.job_model.specs.Files.{File}
+use Rattle.job_model.specs.JobScript.{Script}
+use Rattle.job_model.specs.Known.{Known}
+use Rattle.job_protocol.specs.AtWork.{Attempting, task_script, who_of}
+use Rattle.job_protocol.specs.Outputs.{files}
+use Rattle.job_protocol.specs.TaskCommits.{Checking, Looking, Reading, Storing, TaskCommit, TaskCommitOver, attempt_prefix}
+use Rattle.job_protocol.specs.Uploading.{Creating, Sending, Uploading, file_parts}
+use Rattle.list_walk.specs.Fitting.{FitsPage}
+use Rattle.list_walk.specs.Left.{walk_left}
+use Rattle.list_walk.specs.Walks.{keys_on}
+use Rattle.s3_types.specs.Store.{Scene}
+use Rattle.s3_types.specs.declared.reply.Reply.{Reply}
+use Rattle.s3_types.specs.declared.reply.Reply.TheVariants.{Page}
+use Rattle.std.specs.Prelude.{Bool, List, length, ℕ, [], ◌++◌, ◌+◌, ◌∷◌}
 use Rattle.task_requests.specs.Publishing.{FitsRecord}
 use Rattle.task_requests.specs.Writing.{FitsUpload}
+use Rattle.job_protocol.specs.TaskCommits as commits
 
 -- ---- what fits
 

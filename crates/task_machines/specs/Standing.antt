@@ -1,7 +1,7 @@
 -- How an attempt's operation stands by its end.
-use Rattle.std.specs.Prelude.{Option, Some, None}
-use Rattle.machine.specs.Prelude.{Standing, Fine, Faulted, Broken}
-use Rattle.job_protocol.specs.Prelude.{TaskEnd}
+use Rattle.job_model.specs.declared.ends.TaskEnd.{TaskEnd}
+use Rattle.machine.specs.Standing.{Broken, Faulted, Fine, Standing}
+use Rattle.std.specs.Prelude.{None, Option, Some}
 use Rattle.job_model.specs.declared.ends.TaskEnd.TheVariants as ends
 
 -- how an operation stands that ended so

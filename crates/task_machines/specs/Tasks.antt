@@ -1,19 +1,28 @@
 -- What holds of an attempt's operations, for every committer.
-use Rattle.std.specs.Prelude.{◌≡◌, Bool, Option, Some, None}
-use Rattle.std.proofs.Common.{refl, ap}
-use Rattle.job_protocol.specs.Prelude.{Request, Reply, Item, WornOut, OutOfMemory, Who, Known, Task, Script, TaskEnd, Attempting, task_script, who_of, with_known, learned, write_wants, write_told, task_commit_wants, task_commit_told, task_abort_wants, task_abort_told, WriteOver, TaskCommitOver, TaskAbortOver}
-use Rattle.machine.specs.Prelude.{Standing, AskLaws}
-use Rattle.job_model.specs.declared.ends.TaskEnd.TheVariants as ends
-use Rattle.job_protocol.specs.AtWork.{told}
-use Rattle.job_protocol.specs.TaskAborts.{task_abort_over}
-use Rattle.job_protocol.specs.TaskCommits.{task_commit_over}
-use Rattle.job_protocol.specs.Writes.{write_over}
-use Rattle.task_requests.specs.Writing.{write_fits}
-use Rattle.task_machines.specs.Writes.{write_standing, write_asks}
-use Rattle.task_machines.specs.Commits.{commit_fits}
-use Rattle.task_machines.specs.CommitStands.{commit_standing, commit_laws}
+use Rattle.job_model.specs.Attempts.{Who}
+use Rattle.job_model.specs.JobScript.{Script}
+use Rattle.job_model.specs.Jobs.{Task}
+use Rattle.job_model.specs.Known.{Known}
+use Rattle.job_model.specs.declared.ends.TaskEnd.{TaskEnd}
+use Rattle.job_protocol.specs.AtWork.{Attempting, learned, task_abort_told, task_abort_wants, task_commit_told, task_commit_wants}
+use Rattle.job_protocol.specs.AtWork.{task_script, told, who_of, with_known, write_told, write_wants}
+use Rattle.job_protocol.specs.TaskAborts.{TaskAbortOver, task_abort_over}
+use Rattle.job_protocol.specs.TaskCommits.{TaskCommitOver, task_commit_over}
+use Rattle.job_protocol.specs.Writes.{WriteOver, write_over}
+use Rattle.machine.specs.Asks.{AskLaws}
+use Rattle.machine.specs.Standing.{Standing}
+use Rattle.retries.specs.Retries.{Item, OutOfMemory, WornOut}
+use Rattle.s3_types.specs.declared.reply.Reply.{Reply}
+use Rattle.s3_types.specs.declared.request.Request.{Request}
+use Rattle.std.proofs.Common.{ap, refl}
+use Rattle.std.specs.Prelude.{Bool, None, Option, Some, ◌≡◌}
+use Rattle.task_machines.specs.AbortStands.{abort_laws, abort_standing}
 use Rattle.task_machines.specs.Aborts.{abort_fits}
-use Rattle.task_machines.specs.AbortStands.{abort_standing, abort_laws}
+use Rattle.task_machines.specs.CommitStands.{commit_laws, commit_standing}
+use Rattle.task_machines.specs.Commits.{commit_fits}
+use Rattle.task_machines.specs.Writes.{write_asks, write_standing}
+use Rattle.task_requests.specs.Writing.{write_fits}
+use Rattle.job_model.specs.declared.ends.TaskEnd.TheVariants as ends
 
 -- an operation beside the plan
 abbrev pub at : {O : Type 0} → Task → O → Attempting O
@@ -34,7 +43,8 @@ no_memory w a k (Some r) = refl
 no_memory w a k None = refl
 
 broken : {O : Type 0} (m : Attempting O) (asked : Option Request) (next : O) → told m asked OutOfMemory next ≡ at m.plan next
-broken {O} m asked next = ap (λ (k : Known). let then : Attempting O = at (with_known m.plan k) next in then) (no_memory (task_script m.plan) (who_of m.plan) m.plan.known asked)
+broken {O} m asked next = ap (λ (k : Known). let then : Attempting O = at (with_known m.plan k) next in then)
+    (no_memory (task_script m.plan) (who_of m.plan) m.plan.known asked)
 
 pub write_is : TaskLaws write_wants write_told write_fits write_over write_standing WriteOver
 write_is = record { asks = write_asks; broken = λ m. broken m _ _; worn = λ m. refl }

@@ -1,12 +1,22 @@
 -- How a write stands, and its laws as a machine.
-use Rattle.std.specs.Prelude.{◌≡◌, ℕ, List, [], ◌∷◌, Some, is_none, is_some}
+use Rattle.job_model.specs.Files.{File}
+use Rattle.job_model.specs.JobScript.{Script}
+use Rattle.job_model.specs.Jobs.{Task}
+use Rattle.job_model.specs.Known.{Drawn}
+use Rattle.job_protocol.specs.AtWork.{Attempting, task_script, write_told, write_wants}
+use Rattle.job_protocol.specs.Uploading.{Creating, Sending, created, file_parts, sending, sent_part}
+use Rattle.job_protocol.specs.Writes.{Write, uploaded, write_hears, write_over, writing}
+use Rattle.machine.specs.Asks.{AskLaws}
+use Rattle.machine.specs.Standing.{Fine, Standing}
+use Rattle.s3_types.specs.declared.reply.Refusal.TheVariants.{NoSuchUpload}
+use Rattle.s3_types.specs.declared.reply.Reply.{Reply}
+use Rattle.s3_types.specs.declared.reply.Reply.TheVariants.{Part, Refused, Upload}
+use Rattle.s3_types.specs.declared.request.Request.{Request}
 use Rattle.std.proofs.Common.{refl}
-use Rattle.job_protocol.specs.Prelude.{Request, Reply, Part, Refused, NoSuchUpload, File, Drawn, Task, Script, Attempting, task_script, write_wants, write_told, Creating, Sending, sending, file_parts, created, sent_part, Write, writing, write_hears}
-use Rattle.machine.specs.Prelude.{Upload, Standing, Fine, AskLaws}
-use Rattle.job_protocol.specs.Writes as writes
-use Rattle.job_protocol.specs.Writes.{uploaded, write_over}
+use Rattle.std.specs.Prelude.{List, Some, is_none, is_some, ℕ, [], ◌∷◌, ◌≡◌}
 use Rattle.task_machines.specs.Standing.{standing_of}
-use Rattle.task_requests.specs.Writing.{write_fits, FitsWrite, FitsCreate, FitsPart}
+use Rattle.task_requests.specs.Writing.{FitsCreate, FitsPart, FitsWrite, write_fits}
+use Rattle.job_protocol.specs.Writes as writes
 
 -- ---- how it stands
 
@@ -23,11 +33,13 @@ sent_fine : (w : Script) (f : File) (fs : List File) (ps : List (List ℕ)) → 
 sent_fine w f fs [] = refl
 sent_fine w f fs (p ∷ ps) = refl
 
-begun_fine : (w : Script) (minimum : ℕ) (f : File) (fs : List File) (ds : List Drawn) (r : Reply) → FitsCreate ds r → standing_at (uploaded w f fs (created w minimum f r)) ≡ Fine
+begun_fine : (w : Script) (minimum : ℕ) (f : File) (fs : List File) (ds : List Drawn) (r : Reply) → FitsCreate ds r
+    → standing_at (uploaded w f fs (created w minimum f r)) ≡ Fine
 begun_fine w minimum f fs ds (Upload id) h = sent_fine w f fs (file_parts w minimum f)
 begun_fine w minimum f fs ds _ h = absurd h
 
-part_fine : (w : Script) (f : File) (fs : List File) (ps : List (List ℕ)) (r : Reply) → FitsPart r → standing_at (uploaded w f fs (sent_part ps r)) ≡ Fine
+part_fine : (w : Script) (f : File) (fs : List File) (ps : List (List ℕ)) (r : Reply) → FitsPart r
+    → standing_at (uploaded w f fs (sent_part ps r)) ≡ Fine
 part_fine w f fs ps (Part tag) h = sent_fine w f fs ps
 part_fine w f fs ps (Refused NoSuchUpload) h = refl
 part_fine w f fs ps _ h = absurd h
@@ -36,7 +48,8 @@ written_fine : (fs : List File) → standing_at (writing fs) ≡ Fine
 written_fine [] = refl
 written_fine (f ∷ fs) = refl
 
-fine_at : (t : Task) (o : Write) (r : Request) (a : Reply) → write_wants (record { plan = t; operation = o }) ≡ Some r → FitsWrite t.known o a → standing_at (write_hears (task_script t) t.minimum o a) ≡ standing_at o
+fine_at : (t : Task) (o : Write) (r : Request) (a : Reply) → write_wants (record { plan = t; operation = o }) ≡ Some r
+    → FitsWrite t.known o a → standing_at (write_hears (task_script t) t.minimum o a) ≡ standing_at o
 fine_at t (writes.Uploads f fs Creating) r a w h = begun_fine (task_script t) t.minimum f fs t.known.drawn a h
 fine_at t (writes.Uploads f fs (Sending p ps)) r a w h = part_fine (task_script t) f fs ps a h
 fine_at t (writes.Recording f fs) r a w h = written_fine fs

@@ -2,4 +2,3 @@ pub mod Whole
 pub mod Undone
 pub mod Listed
 pub mod Committed
-mod Common

@@ -1,6 +1,16 @@
 -- Where replies lead an abort, by how many of its uploads are aborted.
-use Rattle.task_magic.proofs.Common.{Bool, Committer, Drawn, Known, List, Magic, None, Option, Reply, Script, Sweep, TaskEnd, [], add-one, ap, arith, as_made, drop, dropping, length, refl, suc, sweep_start, sym, task_abort_hears, zero, ℕ, ◌+◌, ◌<◌, ◌∙◌, ◌∷◌, ◌≡◌}
-use Rattle.task_magic.specs.Undoing.{abort_from, abort_by}
+use Rattle.job_model.specs.JobScript.{Script}
+use Rattle.job_model.specs.Known.{Drawn, Known}
+use Rattle.job_model.specs.declared.ends.TaskEnd.{TaskEnd}
+use Rattle.job_protocol.specs.Knowledge.{as_made}
+use Rattle.job_protocol.specs.TaskAborts.{dropping, task_abort_hears}
+use Rattle.list_walk.specs.Walks.{Sweep, sweep_start}
+use Rattle.s3_types.specs.declared.reply.Reply.{Reply}
+use Rattle.s3_types.specs.declared.request.Committer.{Committer}
+use Rattle.s3_types.specs.declared.request.Committer.TheVariants.{Magic}
+use Rattle.std.proofs.Common.{Bool, List, None, Option, add-one, ap, arith, drop, length, refl, suc, sym, zero, ℕ, [], ◌+◌, ◌<◌, ◌∙◌, ◌∷◌}
+use Rattle.std.proofs.Common.{◌≡◌}
+use Rattle.task_magic.specs.Undoing.{abort_by, abort_from}
 
 -- ---- behind an upload
 
@@ -14,7 +24,8 @@ first_of [] at h = absurd (omega arith)
 first_of (x ∷ xs) zero h = (x, refl)
 first_of (x ∷ xs) (suc i) h = let y = first_of xs i (omega arith) in (y.0, y.1 ∙ rw (add-one, add-one) refl)
 
-pub goes_drawn : (w : Script) (k : Known) (at : ℕ) (s z : Sweep) (end : Option TaskEnd) (r : Reply) → end ≡ None → w.committer ≡ Magic → z ≡ sweep_start → at < length (as_made k.drawn)
+pub goes_drawn : (w : Script) (k : Known) (at : ℕ) (s z : Sweep) (end : Option TaskEnd) (r : Reply) → end ≡ None → w.committer ≡ Magic
+    → z ≡ sweep_start → at < length (as_made k.drawn)
     → abort_by k (at + 1) z end ≡ task_abort_hears w (abort_by k at s end) r
 goes_drawn w k at s z end r e h g i =
     let x = first_of (as_made k.drawn) at i in

@@ -1,9 +1,22 @@
 -- A commit of a magic attempt, by the keys listed, the places of the files that it commits, and how many records were read.
-use Rattle.std.specs.Prelude.{◌≡◌, ℕ, nat_eq, Bool, true, false, List, [], ◌∷◌, ◌++◌, map, take, drop, length, slice_get, slice_set, codes, Option, Some, None}
-use Rattle.job_protocol.specs.Prelude.{list_any, text_eq, Reply, Refused, NoSuchKey, File, Known, Task, TaskEnd, task_script, who_of, with_known, record_key, TaskCommit, Looking, Publishing, TaskCommitOver, least_of, reading, keys_on, in_order}
+use Rattle.basics.specs.Order.{text_eq}
+use Rattle.job_model.specs.Files.{File}
+use Rattle.job_model.specs.Jobs.{Task}
+use Rattle.job_model.specs.Known.{Known}
+use Rattle.job_model.specs.declared.ends.TaskEnd.{TaskEnd}
+use Rattle.job_protocol.specs.AtWork.{task_script, who_of, with_known}
+use Rattle.job_protocol.specs.Records.{record_key}
+use Rattle.job_protocol.specs.TaskCommits.{Looking, Publishing, TaskCommit, TaskCommitOver, in_order, least_of, reading}
+use Rattle.list_walk.specs.Walks.{keys_on}
+use Rattle.s3_types.specs.declared.reply.Refusal.TheVariants.{NoSuchKey}
+use Rattle.s3_types.specs.declared.reply.Reply.{Reply}
+use Rattle.s3_types.specs.declared.reply.Reply.TheVariants.{Refused}
+use Rattle.std.specs.List.{list_any}
+use Rattle.std.specs.Prelude.{Bool, List, None, Option, Some, codes, drop, false, length, map, nat_eq, slice_get, slice_set, take, true, ℕ}
+use Rattle.std.specs.Prelude.{[], ◌++◌, ◌∷◌, ◌≡◌}
 use Rattle.task_magic.specs.declared.committing.Committing.{Committing}
 use Rattle.task_magic.specs.declared.listing.Listed.{Listed}
-use Rattle.task_requests.specs.Publishing.{picked, AreReady, are_places}
+use Rattle.task_requests.specs.Publishing.{AreReady, are_places, picked}
 
 -- ---- where it stands
 
@@ -98,7 +111,8 @@ least_unseen (false ∷ seen) (k ∷ ks) = Some (least_of (least_unseen seen ks)
 least_unseen (true ∷ seen) (k ∷ ks) = least_unseen seen ks
 least_unseen _ _ = None
 
--- what the keys of a listing are of: the places of the files whose records are among them, these records, and of each file whether its record is
+-- what the keys of a listing are of: the places of the files whose records are among them, these records, and of each file whether its
+-- record is
 pub record IsListed (t : Task) (keys : List (List ℕ)) (x : Listed) : Type 0 where
   pub places : are_places (length t.files) x.places ≡ true
   pub records : AreRecords t x.records x.places

@@ -1,9 +1,13 @@
 -- An abort of a magic attempt, by how many of its uploads are aborted, its sweep and its end.
-use Rattle.std.specs.Prelude.{ℕ, Bool, List, [], ◌∷◌, drop, Option, Some, None, if◌then◌else◌}
-use Rattle.job_protocol.specs.Prelude.{Drawn, Known, Task, TaskEnd, as_made, Sweep, TaskAbort, Dropping, TaskAbortOver}
-use Rattle.job_model.specs.declared.ends.TaskEnd.TheVariants as ends
-use Rattle.job_protocol.specs.TaskAborts.{Sweeping}
+use Rattle.job_model.specs.Jobs.{Task}
+use Rattle.job_model.specs.Known.{Drawn, Known}
+use Rattle.job_model.specs.declared.ends.TaskEnd.{TaskEnd}
+use Rattle.job_protocol.specs.Knowledge.{as_made}
+use Rattle.job_protocol.specs.TaskAborts.{Dropping, Sweeping, TaskAbort, TaskAbortOver}
+use Rattle.list_walk.specs.Walks.{Sweep}
+use Rattle.std.specs.Prelude.{Bool, List, None, Option, Some, drop, if◌then◌else◌, ℕ, [], ◌∷◌}
 use Rattle.task_magic.specs.declared.undoing.Undoing.{Undoing}
+use Rattle.job_model.specs.declared.ends.TaskEnd.TheVariants as ends
 
 -- ---- where it stands
 

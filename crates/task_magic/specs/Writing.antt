@@ -1,9 +1,13 @@
 -- A write of a magic attempt's files, by the place and the stage of the next one.
-use Rattle.std.specs.Prelude.{List, [], ◌∷◌, Option, Some, None}
-use Rattle.job_protocol.specs.Prelude.{File, Task, TaskEnd, write_wants, Write}
-use Rattle.job_model.specs.declared.ends.TaskEnd.TheVariants as ends
-use Rattle.task_requests.specs.Writing.{write_by, seen_write, IsWrite}
+use Rattle.job_model.specs.Files.{File}
+use Rattle.job_model.specs.Jobs.{Task}
+use Rattle.job_model.specs.declared.ends.TaskEnd.{TaskEnd}
+use Rattle.job_protocol.specs.AtWork.{write_wants}
+use Rattle.job_protocol.specs.Writes.{Write}
+use Rattle.std.specs.Prelude.{List, None, Option, Some, [], ◌∷◌}
 use Rattle.task_magic.specs.declared.write.Writing.{Writing}
+use Rattle.task_requests.specs.Writing.{IsWrite, seen_write, write_by}
+use Rattle.job_model.specs.declared.ends.TaskEnd.TheVariants as ends
 
 -- where it stands
 abbrev pub operation_of : Task → Writing → Write

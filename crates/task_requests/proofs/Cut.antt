@@ -1,6 +1,10 @@
 -- What is cut of a plan's file, in numbers that fit.
-use Rattle.task_requests.proofs.Common.{IsTask, List, Task, ap, arith, count_of, few_parts, length, length-parts, most_size, size_of, some_size, subst, sym, ℕ, ◌*◌, ◌+◌, ◌<◌, ◌^◌, ◌∙◌, ◌≡◌, ◌≤◌}
-use Rattle.s3_types.specs.Prelude.{quotient_up, greater}
+use Rattle.job_model.specs.Jobs.{Task}
+use Rattle.job_model.specs.Plans.{IsTask}
+use Rattle.s3_types.proofs.Blocks.{few_parts, length-parts, most_size, some_size}
+use Rattle.s3_types.specs.Blocks.{greater, quotient_up}
+use Rattle.std.proofs.Common.{List, ap, arith, length, subst, sym, ℕ, ◌*◌, ◌+◌, ◌<◌, ◌^◌, ◌∙◌, ◌≡◌, ◌≤◌}
+use Rattle.task_requests.specs.Writing.{count_of, size_of}
 
 most : (t : Task) (bytes : List ℕ) → IsTask t → length bytes ≤ 67108864 → size_of t bytes ≤ 67108864
 most t bytes k short =
@@ -14,13 +18,17 @@ product n size h g = grind arith
 pub number_fits : (t : Task) (bytes : List ℕ) (n : ℕ) → n < count_of t bytes → n + 1 ≤ 10000
 number_fits t bytes n h = grind (arith, few_parts)
 
-pub start_fits : (t : Task) (bytes : List ℕ) (n size : ℕ) → IsTask t → length bytes ≤ 67108864 → n < count_of t bytes → size ≡ size_of t bytes → n * size < 2 ^ 63
+pub start_fits : (t : Task) (bytes : List ℕ) (n size : ℕ) → IsTask t → length bytes ≤ 67108864 → n < count_of t bytes
+    → size ≡ size_of t bytes → n * size < 2 ^ 63
 start_fits t bytes n size k short h s =
     let few : n + 1 ≤ 10000 = number_fits t bytes n h in
     subst (λ m. n * m < 2 ^ 63) (sym s) (product n (size_of t bytes) (omega arith) (most t bytes k short))
 
-pub count_made : (t : Task) (bytes : List ℕ) (len size n : ℕ) → n ≡ greater 1 (quotient_up len size) → len ≡ length bytes → size ≡ size_of t bytes → n ≡ count_of t bytes
-count_made t bytes len size n e l s = e ∙ (ap (λ m. greater 1 (quotient_up m size)) l ∙ (ap (λ m. greater 1 (quotient_up (length bytes) m)) s ∙ sym (length-parts (size_of t bytes) bytes)))
+pub count_made : (t : Task) (bytes : List ℕ) (len size n : ℕ) → n ≡ greater 1 (quotient_up len size) → len ≡ length bytes
+    → size ≡ size_of t bytes → n ≡ count_of t bytes
+count_made t bytes len size n e l s = e ∙ (ap (λ m. greater 1 (quotient_up m size)) l ∙
+    (ap (λ m. greater 1 (quotient_up (length bytes) m)) s ∙ sym (length-parts (size_of t bytes) bytes)))
 
-pub count_fits : (t : Task) (bytes : List ℕ) (len size : ℕ) → IsTask t → length bytes ≤ 67108864 → len ≡ length bytes → size ≡ size_of t bytes → (1 ≤ size) × (len + size < 2 ^ 64)
+pub count_fits : (t : Task) (bytes : List ℕ) (len size : ℕ) → IsTask t → length bytes ≤ 67108864 → len ≡ length bytes
+    → size ≡ size_of t bytes → (1 ≤ size) × (len + size < 2 ^ 64)
 count_fits t bytes len size h g e f = grind (arith, some_size, most)

@@ -1,5 +1,8 @@
 -- The uploads of an attempt in the order of their making.
-use Rattle.task_requests.proofs.Common.{Drawn, List, [], ap, as_made, refl, reverse, reverse-append, sym, ◌++◌, ◌∙◌, ◌∷◌, ◌≡◌}
+use Rattle.job_model.specs.Known.{Drawn}
+use Rattle.job_protocol.specs.Knowledge.{as_made}
+use Rattle.std.proofs.Common.{List, ap, refl, reverse, sym, [], ◌++◌, ◌∙◌, ◌∷◌, ◌≡◌}
+use Rattle.std.proofs.lemmas.List.{reverse-append}
 
 pub made_reverse : (ds : List Drawn) → as_made ds ≡ reverse ds
 made_reverse [] = refl

@@ -4,4 +4,3 @@ pub mod Told
 pub mod Steps
 pub mod InOrder
 pub mod LastDrawn
-mod Common

@@ -1,15 +1,36 @@
 -- The paths of an attempt's files as parts of keys.
-use Rattle.task_requests.proofs.Common.{ArePlaced, Bool, File, IfSome, IsFile, IsGiven, IsJob, IsNamed, IsPlaced, IsTask, Job, List, Option, Path, Some, Task, [], and_parts, ap, are_elements, arith, attempt_key, begins_hidden, below, bytes_eq, bytes_eq-Decides, bytes_of, codes, contrary, dir_of, false, inl, inr, is_element, is_full, is_job_id, join_parts, join_with_byte, leb-true, length, length-append, list_all, list_all-append, list_any, lone_from, one_part, option_map, or_parts, refl, same_Some, short_number, slice_get, subst, suc, sym, true, unique_name, with_id, with_id_last, zero, ℕ, ◌++◌, ◌+◌, ◌<◌, ◌==◌, ◌^◌, ◌∙◌, ◌∷◌, ◌≡◌, ◌≤◌}
-use Rattle.basics.specs.Parts.{parts_from, parts_of}
-use Rattle.path_keys.proofs.Beneath.{elements_append}
+use Rattle.basics.proofs.Bools.{contrary}
+use Rattle.basics.proofs.Lists.{short_number}
+use Rattle.basics.proofs.Pieces.{join_parts, one_part}
+use Rattle.basics.proofs.Split.{lone_from}
+use Rattle.basics.specs.Parts.{is_other, parts_from, parts_of}
+use Rattle.job_model.specs.Files.{File}
+use Rattle.job_model.specs.Jobs.{Job, Task}
+use Rattle.job_model.specs.Legal.{IsGiven, bytes_of}
+use Rattle.job_model.specs.Paths.{begins_hidden, is_dest_key, is_full, is_path}
+use Rattle.job_model.specs.Placed.{unique_name, with_id, with_id_last}
+use Rattle.job_model.specs.Plans.{ArePlaced, IsJob, IsPlaced, IsTask}
 use Rattle.magic_paths.proofs.Elements.{id_others}
 use Rattle.magic_paths.proofs.Kept.{some_parts}
-use Rattle.job_model.specs.Prelude.{is_other, is_dest_key, is_path}
 use Rattle.magic_paths.proofs.Tails.{below_is}
+use Rattle.magic_paths.specs.Layout.{attempt_key}
+use Rattle.path_keys.proofs.Beneath.{elements_append}
+use Rattle.path_keys.specs.Paths.{Path, below}
+use Rattle.s3_types.specs.Names.{are_elements, is_element, is_job_id}
+use Rattle.std.proofs.Common.{Bool, List, Option, Some, ap, arith, codes, false, inl, inr, length, length-append, refl, slice_get, subst}
+use Rattle.std.proofs.Common.{suc, sym, true, zero, ℕ, [], ◌++◌, ◌+◌, ◌<◌, ◌==◌, ◌^◌, ◌∙◌, ◌∷◌, ◌≡◌, ◌≤◌}
+use Rattle.std.proofs.lemmas.Bool.{and_parts, leb-true, or_parts}
+use Rattle.std.proofs.lemmas.List.Folds.{list_all-append}
+use Rattle.std.proofs.lemmas.Option.{same_Some}
+use Rattle.std.proofs.lemmas.Slice.Eq.{bytes_eq-Decides}
+use Rattle.std.specs.List.{join_with_byte, list_all, list_any}
+use Rattle.std.specs.Prelude.{IfSome, bytes_eq, option_map}
+use Rattle.task_requests.specs.Writing.{IsFile, IsNamed, dir_of}
 
 -- ---- one of the files
 
-pub placed_at : (id : List ℕ) (before files : List File) (i : ℕ) (f : File) → ArePlaced id before files → slice_get files i ≡ Some f → IsPlaced id f.0
+pub placed_at : (id : List ℕ) (before files : List File) (i : ℕ) (f : File) → ArePlaced id before files → slice_get files i ≡ Some f
+    → IsPlaced id f.0
 placed_at id before [] i f a e = absurd (cc)
 placed_at id before (g ∷ fs) zero f a e = let same : g ≡ f = cc in subst (λ (x : File). IsPlaced id x.0) same a.0
 placed_at id before (g ∷ fs) (suc i) f a e = placed_at id (before ++ g ∷ []) fs i f a.3 e
@@ -24,7 +45,9 @@ unfolding parts_from
 others_from part [] h = rw h refl
 others_from part (x ∷ text) h = by (x == 47) refl (others_from [] text refl) (others_from (part ++ x ∷ []) text)
   where
-    by : (b : Bool) → (x == 47) ≡ b → AreOther (parts_from 47 [] text) ≡ true → (list_all (is_other 47) (part ++ x ∷ []) ≡ true → AreOther (parts_from 47 (part ++ x ∷ []) text) ≡ true) → AreOther (parts_from 47 part (x ∷ text)) ≡ true
+    by : (b : Bool) → (x == 47) ≡ b → AreOther (parts_from 47 [] text) ≡ true
+        → (list_all (is_other 47) (part ++ x ∷ []) ≡ true → AreOther (parts_from 47 (part ++ x ∷ []) text) ≡ true)
+        → AreOther (parts_from 47 part (x ∷ text)) ≡ true
     by true e old new = rw (e, h, old) refl
     by false e old new = rw e (new (list_all-append (is_other 47) part (x ∷ []) ∙ rw (h, e) refl))
 
@@ -48,18 +71,21 @@ short_given path g = leb-true (length path) 400 (and_parts _ _ (and_parts _ _ (a
 
 -- ---- a path made unique
 
-named_others : (id name : List ℕ) → list_all (is_other 47) id ≡ true → list_all (is_other 47) name ≡ true → list_all (is_other 47) (with_id id name) ≡ true
+named_others : (id name : List ℕ) → list_all (is_other 47) id ≡ true → list_all (is_other 47) name ≡ true
+    → list_all (is_other 47) (with_id id name) ≡ true
 named_others id [] i h = rw i refl
 named_others id (x ∷ name) i h = by (x == 46) refl (named_others id name i (and_parts (is_other 47 x) _ h).1)
   where
-    by : (b : Bool) → (x == 46) ≡ b → list_all (is_other 47) (with_id id name) ≡ true → list_all (is_other 47) (with_id id (x ∷ name)) ≡ true
+    by : (b : Bool) → (x == 46) ≡ b → list_all (is_other 47) (with_id id name) ≡ true
+        → list_all (is_other 47) (with_id id (x ∷ name)) ≡ true
     by true e old = rw e (list_all-append (is_other 47) id (x ∷ name) ∙ rw (i, h) refl)
     by false e old = let p = and_parts (is_other 47 x) (list_all (is_other 47) name) h in rw (e, p.0, old) refl
 
 named_element : (id name : List ℕ) → is_full name ≡ true → begins_hidden name ≡ false → is_element (with_id id name) ≡ true
 named_element id name h g = grind arith
 
-unique_elements_of : (id e : List ℕ) (es : List (List ℕ)) → list_all (is_other 47) id ≡ true → AreOther (e ∷ es) ≡ true → list_all is_full (e ∷ es) ≡ true → list_any begins_hidden (e ∷ es) ≡ false
+unique_elements_of : (id e : List ℕ) (es : List (List ℕ)) → list_all (is_other 47) id ≡ true → AreOther (e ∷ es) ≡ true
+    → list_all is_full (e ∷ es) ≡ true → list_any begins_hidden (e ∷ es) ≡ false
     → are_elements (join_with_byte 47 (with_id_last id (e ∷ es))) ≡ true
 unique_elements_of id e [] i o full h =
     let p = and_parts (list_all (is_other 47) e) true o in
@@ -74,15 +100,18 @@ unique_elements_of id e (f ∷ es) i o full h =
     let first : are_elements e ≡ true = ap (list_all is_element) (one_part 47 e p.0) ∙ rw (element_so e q.0 r.0) refl in
     behind (with_id_last id (f ∷ es)) old first
   where
-    behind : (l : List (List ℕ)) → are_elements (join_with_byte 47 l) ≡ true → are_elements e ≡ true → are_elements (join_with_byte 47 (e ∷ l)) ≡ true
+    behind : (l : List (List ℕ)) → are_elements (join_with_byte 47 l) ≡ true → are_elements e ≡ true
+        → are_elements (join_with_byte 47 (e ∷ l)) ≡ true
     behind [] old first = first
     behind (x ∷ l) old first = elements_append e (join_with_byte 47 (x ∷ l)) first old
 
-unique_elements : (id path : List ℕ) (es : List (List ℕ)) → parts_of 47 path ≡ es → list_all (is_other 47) id ≡ true → IsGiven path → are_elements (unique_name path id) ≡ true
+unique_elements : (id path : List ℕ) (es : List (List ℕ)) → parts_of 47 path ≡ es → list_all (is_other 47) id ≡ true → IsGiven path
+    → are_elements (unique_name path id) ≡ true
 unique_elements id path [] e i g = ap (λ l. are_elements (join_with_byte 47 (with_id_last id l))) e ∙ absurd (some_parts path e)
 unique_elements id path (x ∷ es) e i g =
     ap (λ l. are_elements (join_with_byte 47 (with_id_last id l))) e
-    ∙ unique_elements_of id x es i (ap AreOther (sym e) ∙ others_from [] path refl) (ap (list_all is_full) (sym e) ∙ full_parts path g.stated) (ap (list_any begins_hidden) (sym e) ∙ g.shown)
+    ∙ unique_elements_of id x es i (ap AreOther (sym e) ∙ others_from [] path refl)
+    (ap (list_all is_full) (sym e) ∙ full_parts path g.stated) (ap (list_any begins_hidden) (sym e) ∙ g.shown)
 
 pub placed_elements : (id path : List ℕ) → is_job_id id ≡ true → IsPlaced id path → are_elements path ≡ true
 placed_elements id path i (inl g) = elements_so (parts_of 47 path) (full_parts path g.stated) g.shown
@@ -94,22 +123,26 @@ length_named : (id name : List ℕ) → length (with_id id name) ≡ length name
 length_named id [] = omega arith
 length_named id (x ∷ name) = by (x == 46) refl (length_named id name)
   where
-    by : (b : Bool) → (x == 46) ≡ b → length (with_id id name) ≡ length name + (1 + length id) → length (with_id id (x ∷ name)) ≡ length (x ∷ name) + (1 + length id)
+    by : (b : Bool) → (x == 46) ≡ b → length (with_id id name) ≡ length name + (1 + length id)
+        → length (with_id id (x ∷ name)) ≡ length (x ∷ name) + (1 + length id)
     by true e old = rw e (simp length-append (omega arith))
     by false e old = rw e (omega (arith, old))
 
 joined_more : (e l m : List ℕ) (k : ℕ) → length l ≡ length m + k → length (e ++ 47 ∷ l) ≡ length (e ++ 47 ∷ m) + k
 joined_more e l m k h = simp length-append (omega arith)
 
-length_unique : (id e : List ℕ) (es : List (List ℕ)) → length (join_with_byte 47 (with_id_last id (e ∷ es))) ≡ length (join_with_byte 47 (e ∷ es)) + (1 + length id)
+length_unique : (id e : List ℕ) (es : List (List ℕ))
+    → length (join_with_byte 47 (with_id_last id (e ∷ es))) ≡ length (join_with_byte 47 (e ∷ es)) + (1 + length id)
 length_unique id e [] = length_named id e
 length_unique id e (f ∷ []) = simp length-append (omega (arith, length_named id f))
-length_unique id e (f ∷ g ∷ es) = joined_more e (join_with_byte 47 (with_id_last id (f ∷ g ∷ es))) (join_with_byte 47 (f ∷ g ∷ es)) (1 + length id) (length_unique id f (g ∷ es))
+length_unique id e (f ∷ g ∷ es) = joined_more e (join_with_byte 47 (with_id_last id (f ∷ g ∷ es))) (join_with_byte 47 (f ∷ g ∷ es))
+    (1 + length id) (length_unique id f (g ∷ es))
 
 id_short : (id : List ℕ) → is_job_id id ≡ true → length id ≤ 64
 id_short id h = leb-true _ _ (and_parts _ _ (and_parts _ _ h).0).1
 
-short_unique : (id path : List ℕ) (es : List (List ℕ)) → parts_of 47 path ≡ es → is_job_id id ≡ true → IsGiven path → length (unique_name path id) ≤ 465
+short_unique : (id path : List ℕ) (es : List (List ℕ)) → parts_of 47 path ≡ es → is_job_id id ≡ true → IsGiven path
+    → length (unique_name path id) ≤ 465
 short_unique id path [] e i g = subst (λ (l : List (List ℕ)). length (join_with_byte 47 (with_id_last id l)) ≤ 465) (sym e) (omega arith)
 short_unique id path (x ∷ es) e i g =
     let whole : join_with_byte 47 (x ∷ es) ≡ path = ap (join_with_byte 47) (sym e) ∙ join_parts 47 path in
@@ -134,13 +167,16 @@ long_element e h = grind (arith, not_same)
 pending_element : (part : List ℕ) → is_element (part ++ codes ".pending") ≡ true
 pending_element part = long_element (part ++ codes ".pending") (simp length-append (omega arith))
 
-pending_from : (part text : List ℕ) → list_all is_element (parts_from 47 part text) ≡ true → list_all is_element (parts_from 47 part (text ++ codes ".pending")) ≡ true
+pending_from : (part text : List ℕ) → list_all is_element (parts_from 47 part text) ≡ true
+    → list_all is_element (parts_from 47 part (text ++ codes ".pending")) ≡ true
 unfolding parts_from
 pending_from part [] h = ap (list_all is_element) (lone_from 47 part (codes ".pending") refl) ∙ rw (pending_element part) refl
 pending_from part (x ∷ text) h = by (x == 47) refl (pending_from [] text) (pending_from (part ++ x ∷ []) text)
   where
-    by : (b : Bool) → (x == 47) ≡ b → (list_all is_element (parts_from 47 [] text) ≡ true → list_all is_element (parts_from 47 [] (text ++ codes ".pending")) ≡ true)
-        → (list_all is_element (parts_from 47 (part ++ x ∷ []) text) ≡ true → list_all is_element (parts_from 47 (part ++ x ∷ []) (text ++ codes ".pending")) ≡ true)
+    by : (b : Bool) → (x == 47) ≡ b → (list_all is_element (parts_from 47 [] text) ≡ true
+        → list_all is_element (parts_from 47 [] (text ++ codes ".pending")) ≡ true)
+        → (list_all is_element (parts_from 47 (part ++ x ∷ []) text) ≡ true
+        → list_all is_element (parts_from 47 (part ++ x ∷ []) (text ++ codes ".pending")) ≡ true)
         → list_all is_element (parts_from 47 part (x ∷ text ++ codes ".pending")) ≡ true
     by true e old new =
         let k : list_all is_element (part ∷ parts_from 47 [] text) ≡ true = rw e at h in
@@ -150,8 +186,13 @@ pending_from part (x ∷ text) h = by (x == 47) refl (pending_from [] text) (pen
 
 -- ---- keys below an attempt's directory
 
-short_dir : (dest id : List ℕ) (task attempt : ℕ) → length dest ≤ 400 → is_job_id id ≡ true → task < 2 ^ 32 → attempt < 2 ^ 32 → (1 ≤ length (attempt_key dest id task attempt)) × (length (attempt_key dest id task attempt) ≤ 520)
-short_dir dest id task attempt d h t a = (simp length-append (omega arith), simp length-append (omega (arith, id_short id h, short_number task t, short_number attempt a)))
+short_dir : (dest id : List ℕ) (task attempt : ℕ) → length dest ≤ 400 → is_job_id id ≡ true → task < 2 ^ 32 → attempt < 2 ^ 32
+    → (1 ≤ length (attempt_key dest id task attempt)) × (length (attempt_key dest id task attempt) ≤ 520)
+short_dir dest id task attempt d h t a = (
+  simp length-append (omega arith),
+  simp length-append
+      (omega (arith, id_short id h, short_number task t, short_number attempt a)),
+)
 
 dest_short : (key : List ℕ) → is_dest_key key ≡ true → (1 ≤ length key) × (length key ≤ 400)
 dest_short key h = grind arith
@@ -167,7 +208,8 @@ target_short j path h p =
     subst (λ (l : List ℕ). length l ≤ 1024) (sym (below_is j.dest.key path d.0)) (simp length-append (omega (arith, d.1, short)))
 
 -- and of one below the attempt's directory
-pub dir_short : (t : Task) (dir : Path) (path : List ℕ) → IsJob t.job → IsTask t → dir ≡ dir_of t → length path ≤ 473 → length (below dir.key path) ≤ 1024
+pub dir_short : (t : Task) (dir : Path) (path : List ℕ) → IsJob t.job → IsTask t → dir ≡ dir_of t → length path ≤ 473
+    → length (below dir.key path) ≤ 1024
 dir_short t dir path j k e short =
     let task : t.task < t.job.tasks = k.task in
     let tasks : t.job.tasks ≤ 1000 = j.tasks in
@@ -185,9 +227,11 @@ pub named_short : (t : Task) (j : Job) (path : List ℕ) → IsNamed t path → 
 named_short t j path n e = subst (λ (x : Job). length (below x.dest.key path) ≤ 1024) (sym e) (target_short t.job path n.job n.placed)
 
 pub marker_short : (t : Task) (dir : Path) (path : List ℕ) → IsNamed t path → dir ≡ dir_of t → length (below dir.key path) ≤ 1024
-marker_short t dir path n e = let short = placed_short t.job.job path n.job.job n.placed in dir_short t dir path n.job n.task e (omega arith)
+marker_short t dir path n e = let short = placed_short t.job.job path n.job.job n.placed in dir_short t dir path n.job n.task e
+    (omega arith)
 
-pub record_short : (t : Task) (dir : Path) (path name : List ℕ) → IsNamed t path → dir ≡ dir_of t → name ≡ path ++ codes ".pending" → length (below dir.key name) ≤ 1024
+pub record_short : (t : Task) (dir : Path) (path name : List ℕ) → IsNamed t path → dir ≡ dir_of t → name ≡ path ++ codes ".pending"
+    → length (below dir.key name) ≤ 1024
 record_short t dir path name n e s =
     let short = placed_short t.job.job path n.job.job n.placed in
     let long : length name ≤ 473 = subst (λ (l : List ℕ). length l ≤ 473) (sym s) (simp length-append (omega arith)) in
@@ -203,5 +247,6 @@ short_at [] i f e = absurd (cc)
 short_at (g ∷ fs) zero f e = let same : length g.1 ≡ length f.1 = ap (λ (x : File). length x.1) (same_Some g f e) in omega arith
 short_at (g ∷ fs) (suc i) f e = let old = short_at fs i f e in omega arith
 
-pub file_found : {X : Type 0} (t : Task) (i : ℕ) (g : X → File) (o : Option X) (es : List File) → option_map g o ≡ slice_get es i → es ≡ t.files → IsJob t.job → IsTask t → IfSome o (λ x. IsFile t (g x))
+pub file_found : {X : Type 0} (t : Task) (i : ℕ) (g : X → File) (o : Option X) (es : List File) → option_map g o ≡ slice_get es i
+    → es ≡ t.files → IsJob t.job → IsTask t → IfSome o (λ x. IsFile t (g x))
 file_found t i g o es h e f p = grind (arith, short_at, placed_at)

@@ -1,7 +1,18 @@
 -- What a set publishes: files by their places, and what an attempt knows of their uploads.
-use Rattle.std.specs.Prelude.{◌≡◌, ℕ, nat_lt, Bool, true, List, [], map, length, get_or, slice_get, reverse, Option, Some, None}
-use Rattle.job_protocol.specs.Prelude.{list_all, AllByRecursion, Reply, Refused, NoSuchKey, Pending, are_tags, are_sizes, File, Who, Drawn, Known, Task, Script, task_script, who_of, nothing_drawn, drawn_in, drawn_for, file_key, file_record, record_text}
-use Rattle.s3_types.specs.declared.reply.Reply.TheVariants.{Object}
+use Rattle.job_model.specs.Attempts.{Who}
+use Rattle.job_model.specs.Files.{File}
+use Rattle.job_model.specs.JobScript.{Script}
+use Rattle.job_model.specs.Jobs.{Task}
+use Rattle.job_model.specs.Known.{Drawn, Known}
+use Rattle.job_protocol.specs.AtWork.{task_script, who_of}
+use Rattle.job_protocol.specs.Knowledge.{drawn_for, drawn_in, nothing_drawn}
+use Rattle.job_protocol.specs.Records.{file_key, file_record, record_text}
+use Rattle.pending_json.specs.Pending.{Pending, are_sizes, are_tags}
+use Rattle.s3_types.specs.declared.reply.Refusal.TheVariants.{NoSuchKey}
+use Rattle.s3_types.specs.declared.reply.Reply.{Reply}
+use Rattle.s3_types.specs.declared.reply.Reply.TheVariants.{Object, Refused}
+use Rattle.std.specs.List.{AllByRecursion, list_all}
+use Rattle.std.specs.Prelude.{Bool, List, None, Option, Some, get_or, length, map, nat_lt, reverse, slice_get, true, ℕ, [], ◌≡◌}
 
 -- the files at these places
 abbrev pub picked : List File → List ℕ → List File

@@ -1,12 +1,32 @@
 -- A write of a magic attempt's files, by how many files are whole and how far the next has come.
-use Rattle.std.specs.Prelude.{◌≡◌, ℕ, ◌+◌, ◌*◌, ◌<◌, ◌≤◌, not, nat_eq, nat_lt, cond, Bool, true, List, [], ◌∷◌, ◌++◌, length, map, take, drop, Option, Some, None}
-use Rattle.job_protocol.specs.Prelude.{list_all, Scene, Spelled, is_plain_tag, Request, Reply, Part, Refused, NoSuchUpload, MOST_SCRIPT_BYTES, Path, IsJob, IsTask, IsPlaced, File, Task, Drawn, Known, with_last, Script, TaskEnd, Attempting, task_script, who_of, write_wants, drawn_last, file_key, marker_key, UploadPart, PutObject, Uploading, Creating, Sending, file_parts, Write}
-use Rattle.s3_types.specs.declared.reply.Reply.TheVariants.{Upload}
+use Rattle.job_model.specs.Files.{File}
+use Rattle.job_model.specs.JobScript.{Script}
+use Rattle.job_model.specs.Jobs.{Task}
+use Rattle.job_model.specs.Known.{Drawn, Known, with_last}
+use Rattle.job_model.specs.Plans.{IsJob, IsPlaced, IsTask}
+use Rattle.job_model.specs.declared.ends.TaskEnd.{TaskEnd}
+use Rattle.job_protocol.specs.AtWork.{Attempting, task_script, who_of, write_wants}
+use Rattle.job_protocol.specs.Knowledge.{drawn_last}
+use Rattle.job_protocol.specs.Records.{file_key, marker_key}
+use Rattle.job_protocol.specs.Uploading.{Creating, Sending, Uploading, file_parts}
+use Rattle.job_protocol.specs.Writes.{Write}
+use Rattle.path_keys.specs.Paths.{Path}
 use Rattle.s3_types.specs.Blocks.{block_of, parts_of}
+use Rattle.s3_types.specs.Store.{Scene}
+use Rattle.s3_types.specs.Tags.{Spelled, is_plain_tag}
+use Rattle.s3_types.specs.declared.limits.TheConstants.{MOST_SCRIPT_BYTES}
+use Rattle.s3_types.specs.declared.reply.Refusal.TheVariants.{NoSuchUpload}
+use Rattle.s3_types.specs.declared.reply.Reply.{Reply}
+use Rattle.s3_types.specs.declared.reply.Reply.TheVariants.{Part, Refused, Upload}
+use Rattle.s3_types.specs.declared.request.Request.{Request}
+use Rattle.s3_types.specs.declared.request.Request.TheVariants.{PutObject, UploadPart}
+use Rattle.std.specs.List.{list_all}
+use Rattle.std.specs.Prelude.{Bool, List, None, Option, Some, cond, drop, length, map, nat_eq, nat_lt, not, take, true, ℕ, [], ◌*◌, ◌++◌}
+use Rattle.std.specs.Prelude.{◌+◌, ◌<◌, ◌∷◌, ◌≡◌, ◌≤◌}
+use Rattle.task_requests.specs.declared.stage.WriteStage.{WriteStage}
 use Rattle.magic_paths.specs.Layout as layout
 use Rattle.job_model.specs.declared.ends.TaskEnd.TheVariants as ends
 use Rattle.job_protocol.specs.Writes as writes
-use Rattle.task_requests.specs.declared.stage.WriteStage.{WriteStage}
 use Rattle.task_requests.specs.declared.stage.WriteStage.TheVariants as stage
 
 -- ---- where it stands
@@ -45,12 +65,17 @@ is_new id ds = list_all (λ d. not (nat_eq d.upload id)) ds
 
 -- an upload of which no part was sent, beside what is known
 abbrev pub with_drawn : Known → List ℕ → ℕ → Known
-with_drawn k key id = record { drawn = record { key = key; upload = id; tags = []; sizes = [] } ∷ k.drawn; put_sent = k.put_sent; publish_sent = k.publish_sent }
+with_drawn k key id = record {
+  drawn = record { key = key; upload = id; tags = []; sizes = [] } ∷ k.drawn;
+  put_sent = k.put_sent;
+  publish_sent = k.publish_sent;
+}
 
 -- the first of them has these parts and no more, under an id of its own
 abbrev pub HasSent : List Drawn → List (List ℕ) → Type 0
 HasSent [] parts = ⊥
-HasSent (d ∷ ds) parts = (is_new d.upload ds ≡ true) × (length d.tags ≡ length parts) × (d.sizes ≡ map length parts) × (list_all is_plain_tag d.tags ≡ true)
+HasSent (d ∷ ds) parts = (is_new d.upload ds ≡ true) × (length d.tags ≡ length parts) × (d.sizes ≡ map length parts)
+    × (list_all is_plain_tag d.tags ≡ true)
 
 -- an upload with one more part
 abbrev pub one_more : Spelled → ℕ → Drawn → Drawn
@@ -190,7 +215,8 @@ IsBehind parts ds _ = Unit {0}
 
 -- the next part of the upload that was drawn last, else the marker
 abbrev pub asks_behind : Task → File → WriteStage → Request
-asks_behind t f (stage.Sending n) = UploadPart t.job.dest.bucket (file_key (task_script t) f) (drawn_last t.known).upload (n + 1) (part_behind t f.1 n)
+asks_behind t f (stage.Sending n) = UploadPart t.job.dest.bucket (file_key (task_script t) f) (drawn_last t.known).upload (n + 1)
+    (part_behind t f.1 n)
 asks_behind t f _ = PutObject t.job.dest.bucket (marker_key (task_script t) (who_of t) f) [] (Some (length f.1))
 
 -- the end of a write that asks nothing

@@ -1,6 +1,17 @@
 -- The files of an attempt in order: each stands at a key of its own.
-use Rattle.task_staging.proofs.Common.{ArePlaced, Bool, File, List, Script, Some, [], add-one, ap, append-nil, append_assoc, arith, below, bytes_decides, cond, contrary, drop, false, file_key, get_or, has_path, is_some, length, lookup, refl, suc, sym, take, take-append-drop, text_eq, true, zero, ℕ, ◌++◌, ◌+◌, ◌<◌, ◌∙◌, ◌∷◌, ◌≡◌}
+use Rattle.basics.proofs.Bools.{contrary}
 use Rattle.basics.proofs.Lists.{front_cancels}
+use Rattle.basics.specs.Order.{text_eq}
+use Rattle.job_model.specs.Files.{File, has_path}
+use Rattle.job_model.specs.JobScript.{Script}
+use Rattle.job_model.specs.Plans.{ArePlaced}
+use Rattle.job_protocol.specs.Records.{file_key}
+use Rattle.path_keys.specs.Paths.{below}
+use Rattle.std.proofs.Common.{Bool, List, Some, add-one, ap, append_assoc, arith, cond, drop, false, get_or, is_some, length, refl, suc}
+use Rattle.std.proofs.Common.{sym, take, true, zero, ℕ, [], ◌++◌, ◌+◌, ◌<◌, ◌∙◌, ◌∷◌, ◌≡◌}
+use Rattle.std.proofs.lemmas.List.{append-nil, take-append-drop}
+use Rattle.std.specs.Cmp.Lexicographic.{bytes_decides}
+use Rattle.std.specs.Map.{lookup}
 
 -- ---- the file at a place
 
@@ -14,18 +25,21 @@ all_taken fs place e = sym (append-nil (take place fs)) ∙ (ap (λ l. take plac
 
 -- ---- no other file has its path
 
-free_before : (id : List ℕ) (before fs : List File) (i : ℕ) → ArePlaced id before fs → i < length fs → has_path (before ++ take i fs) (get_or fs i ([], [])).0 ≡ false
+free_before : (id : List ℕ) (before fs : List File) (i : ℕ) → ArePlaced id before fs → i < length fs
+    → has_path (before ++ take i fs) (get_or fs i ([], [])).0 ≡ false
 free_before id before [] i a h = absurd (omega arith)
 free_before id before (f ∷ fs) zero a h = ap (λ l. has_path l f.0) (append-nil before) ∙ a.2
 free_before id before (f ∷ fs) (suc i) a h =
-    ap (λ l. has_path l (get_or fs i ([], [])).0) (sym (append_assoc before (f ∷ []) (take i fs))) ∙ free_before id (before ++ f ∷ []) fs i a.3 (omega arith)
+    ap (λ l. has_path l (get_or fs i ([], [])).0) (sym (append_assoc before (f ∷ []) (take i fs))) ∙ free_before id (before ++ f ∷ []) fs i
+    a.3 (omega arith)
 
 below_same : (key p q : List ℕ) → below key p ≡ below key q → p ≡ q
 below_same [] p q e = e
 below_same (x ∷ xs) p q e = let same : 47 ∷ p ≡ 47 ∷ q = front_cancels (x ∷ xs) (47 ∷ p) (47 ∷ q) e in cc
 
 other_key : (key p q : List ℕ) → text_eq p q ≡ false → text_eq (below key p) (below key q) ≡ false
-other_key key p q h = contrary (text_eq (below key p) (below key q)) (λ e. sym h ∙ (bytes_decides p q).1 (below_same key p q ((bytes_decides (below key p) (below key q)).0 e)))
+other_key key p q h = contrary (text_eq (below key p) (below key q)) (λ e. sym h ∙ (bytes_decides p q).1
+    (below_same key p q ((bytes_decides (below key p) (below key q)).0 e)))
 
 -- these files have other keys
 abbrev pub AreOthers : Script → List ℕ → List File → Type 0
@@ -36,9 +50,11 @@ others_by : (w : Script) (p : List ℕ) (fs : List File) → has_path fs p ≡ f
 others_by w p [] h = tt
 others_by w p (g ∷ fs) h = by (text_eq p g.0) refl h (others_by w p fs)
   where
-    by : (b : Bool) → text_eq p g.0 ≡ b → is_some (cond b (Some g.1) (lookup (text_eq p) fs)) ≡ false → (has_path fs p ≡ false → AreOthers w (below w.dest.key p) fs) → AreOthers w (below w.dest.key p) (g ∷ fs)
+    by : (b : Bool) → text_eq p g.0 ≡ b → is_some (cond b (Some g.1) (lookup (text_eq p) fs)) ≡ false
+        → (has_path fs p ≡ false → AreOthers w (below w.dest.key p) fs) → AreOthers w (below w.dest.key p) (g ∷ fs)
     by true e h later = absurd cc
     by false e h later = (other_key w.dest.key p g.0 e, later h)
 
-pub others_before : (w : Script) (id : List ℕ) (fs : List File) (place : ℕ) → ArePlaced id [] fs → place < length fs → AreOthers w (file_key w (get_or fs place ([], []))) (take place fs)
+pub others_before : (w : Script) (id : List ℕ) (fs : List File) (place : ℕ) → ArePlaced id [] fs → place < length fs
+    → AreOthers w (file_key w (get_or fs place ([], []))) (take place fs)
 others_before w id fs place a h = others_by w (get_or fs place ([], [])).0 (take place fs) (free_before id [] fs place a h)

@@ -4,4 +4,3 @@ pub mod Records
 pub mod Undone
 pub mod Written
 pub mod Opened
-mod Common

@@ -1,13 +1,33 @@
--- A commit of a staging attempt, by the partitions that are left to check, the records of the files that are uploaded, and how far the next file has come.
-use Rattle.std.specs.Prelude.{◌≡◌, ℕ, ◌<◌, ◌&&◌, nat_le, Bool, true, false, List, [], ◌∷◌, take, drop, length, get_or, Option, Some, None, Result, IfOk, OnOk, OnErr}
-use Rattle.job_protocol.specs.Prelude.{compact_text, Spelled, is_plain_tag, Request, CreateUpload, ClusterPut, Reply, Refused, NoSuchFile, Got, set_tree, PendingSet, File, Task, Drawn, Known, Script, TaskEnd, Attempting, task_script, who_of, task_commit_wants, task_commit_told, file_key, files_set, Sending, file_parts, TaskCommit, Checking, Storing, Renaming, TaskCommitOver, storing, temporary_path}
-use Rattle.job_model.specs.declared.known.DrawnPart.{DrawnPart}
-use Rattle.job_protocol.specs.TaskCommits as commits
+-- A commit of a staging attempt, by the partitions that are left to check, the records of the files that are uploaded, and how far the next
+-- file has come.
 use Rattle.conflict.specs.Checks.{is_none}
+use Rattle.job_model.specs.Files.{File}
+use Rattle.job_model.specs.JobScript.{Script}
+use Rattle.job_model.specs.Jobs.{Task}
+use Rattle.job_model.specs.Known.{Drawn, Known}
+use Rattle.job_model.specs.declared.ends.TaskEnd.{TaskEnd}
+use Rattle.job_model.specs.declared.known.DrawnPart.{DrawnPart}
+use Rattle.job_protocol.specs.AtWork.{Attempting, task_commit_told, task_commit_wants, task_script, who_of}
+use Rattle.job_protocol.specs.Records.{file_key, files_set}
+use Rattle.job_protocol.specs.TaskCommits.{Checking, Renaming, Storing, TaskCommit, TaskCommitOver, storing, temporary_path}
+use Rattle.job_protocol.specs.Uploading.{Sending, file_parts}
+use Rattle.pending_json.specs.Trees.{set_tree}
+use Rattle.pending_json.specs.declared.records.PendingSet.{PendingSet}
+use Rattle.retries.specs.Retries.{Got}
+use Rattle.s3_types.specs.Tags.{Spelled, is_plain_tag}
+use Rattle.s3_types.specs.declared.reply.Refusal.TheVariants.{NoSuchFile}
+use Rattle.s3_types.specs.declared.reply.Reply.{Reply}
+use Rattle.s3_types.specs.declared.reply.Reply.TheVariants.{Refused}
+use Rattle.s3_types.specs.declared.request.Request.{Request}
+use Rattle.s3_types.specs.declared.request.Request.TheVariants.{ClusterPut, CreateUpload}
+use Rattle.serde_json.specs.Written.{compact_text}
+use Rattle.std.specs.Prelude.{Bool, IfOk, List, None, OnErr, OnOk, Option, Result, Some, drop, false, get_or, length, nat_le, take, true, ℕ}
+use Rattle.std.specs.Prelude.{[], ◌&&◌, ◌<◌, ◌∷◌, ◌≡◌}
 use Rattle.task_requests.specs.Writing.{HasSent, part_behind, parts_in, with_tag}
 use Rattle.task_staging.specs.declared.staging.Stage.{Stage}
-use Rattle.task_staging.specs.declared.staging.Stage.TheVariants as stages
 use Rattle.task_staging.specs.declared.staging.Staging.{Staging}
+use Rattle.job_protocol.specs.TaskCommits as commits
+use Rattle.task_staging.specs.declared.staging.Stage.TheVariants as stages
 
 -- ---- where it stands
 
@@ -55,7 +75,8 @@ IsOfKey key (d ∷ ds) = d.key ≡ key
 -- so many parts of the first of these files came back, and not all
 abbrev pub HoldsSent : Script → ℕ → Known → ℕ → List File → Type 0
 HoldsSent w minimum k n [] = ⊥
-HoldsSent w minimum k n (f ∷ fs) = (n < length (file_parts w minimum f)) × HasSent k.drawn (take n (file_parts w minimum f)) × IsOfKey (file_key w f) k.drawn
+HoldsSent w minimum k n (f ∷ fs) = (n < length (file_parts w minimum f)) × HasSent k.drawn (take n (file_parts w minimum f))
+    × IsOfKey (file_key w f) k.drawn
 
 -- while partitions are left to check no file is uploaded
 abbrev pub HoldsAt : Task → Stage → List (List ℕ) → ℕ → Type 0

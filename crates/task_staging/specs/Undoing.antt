@@ -1,9 +1,12 @@
 -- An abort of a staging attempt, by how many of its uploads are aborted and its end.
-use Rattle.std.specs.Prelude.{ℕ, nat_lt, ◌||◌, Bool, List, [], ◌∷◌, length, drop, Option, Some, None, if◌then◌else◌}
-use Rattle.job_protocol.specs.Prelude.{Drawn, Known, Task, TaskEnd, as_made, TaskAbort, Dropping, TaskAbortOver}
-use Rattle.job_model.specs.declared.ends.TaskEnd.TheVariants as ends
-use Rattle.job_protocol.specs.TaskAborts.{Removing}
+use Rattle.job_model.specs.Jobs.{Task}
+use Rattle.job_model.specs.Known.{Drawn, Known}
+use Rattle.job_model.specs.declared.ends.TaskEnd.{TaskEnd}
+use Rattle.job_protocol.specs.Knowledge.{as_made}
+use Rattle.job_protocol.specs.TaskAborts.{Dropping, Removing, TaskAbort, TaskAbortOver}
+use Rattle.std.specs.Prelude.{Bool, List, None, Option, Some, drop, if◌then◌else◌, length, nat_lt, ℕ, [], ◌||◌, ◌∷◌}
 use Rattle.task_staging.specs.declared.undoing.Undoing.{Undoing}
+use Rattle.job_model.specs.declared.ends.TaskEnd.TheVariants as ends
 
 -- these uploads are to be aborted, and then its temporary file is deleted
 abbrev pub abort_from : List Drawn → Bool → TaskAbort

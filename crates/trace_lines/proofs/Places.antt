@@ -1,12 +1,12 @@
 -- Where a member is put among others.
-use Rattle.std.proofs.Common.{Equal, Greater, Less, List, Ordering, [], add-one, ap, arith, drop, get_or, insert, is_eq, length, nat_cmp}
-use Rattle.std.proofs.Common.{refl, set, sym, take, ℕ, ◌++◌, ◌+◌, ◌<◌, ◌∙◌, ◌∷◌, ◌≡◌, ◌≤◌}
-use Rattle.std.proofs.lemmas.Map.Text.{is_eq-slice_cmp}
-use Rattle.basics.proofs.Common.{bytes_eq-Decides}
+use Rattle.serde_json.specs.Data.{Data, Members, member, put}
+use Rattle.std.proofs.Common.{Equal, Greater, Less, List, Ordering, add-one, ap, arith, drop, get_or, insert, is_eq, length, nat_cmp, refl}
+use Rattle.std.proofs.Common.{set, sym, take, ℕ, [], ◌++◌, ◌+◌, ◌<◌, ◌∙◌, ◌∷◌, ◌≡◌, ◌≤◌}
 use Rattle.std.proofs.lemmas.List.{drop_all, drop_more, set_split, take_all, take_more}
+use Rattle.std.proofs.lemmas.Map.Text.{is_eq-slice_cmp}
+use Rattle.std.proofs.lemmas.Slice.Eq.{bytes_eq-Decides}
 use Rattle.std.specs.Cmp.Lexicographic.{slice_cmp}
 use Rattle.std.specs.Ordering.{match_ordering}
-use Rattle.serde_json.specs.Data.{Data, Members, member, put}
 use Rattle.trace_lines.specs.Members.{data_of, listed}
 use Rattle.trace_lines.specs.declared.line.Member.{Member}
 

@@ -1,12 +1,12 @@
 -- The parts of a file that is longer than one of them.
-use Rattle.std.proofs.Common.{ℕ, ◌*◌, ◌+◌, ◌-◌, ◌/◌, ◌<◌, ◌≤◌, ◌≡◌, ◌∷◌, ◌∙◌, ◌++◌, [], append_assoc, List, length, take, drop, suc, ap}
-use Rattle.std.proofs.Common.{sym, arith, length-drop, map}
-use Rattle.std.proofs.Math.Nat.{add-div_right, div-lt_iff_lt-mul}
-use Rattle.basics.proofs.Common.{cases_lt, inl, inr}
-use Rattle.std.proofs.lemmas.Bool.Decides.{nat_tests}
+use Rattle.s3_types.proofs.Blocks.{one_part, parts_are}
 use Rattle.s3_types.specs.Blocks.{blocks, greater, parts_of, quotient_up}
 use Rattle.s3_types.specs.Tags.{Spelled, plain_tag}
-use Rattle.s3_types.proofs.Blocks.{one_part, parts_are}
+use Rattle.std.proofs.Common.{List, ap, append_assoc, arith, drop, inl, inr, length, length-drop, map, suc, sym, take, ℕ, [], ◌*◌, ◌++◌}
+use Rattle.std.proofs.Common.{◌+◌, ◌-◌, ◌/◌, ◌<◌, ◌∙◌, ◌∷◌, ◌≡◌, ◌≤◌}
+use Rattle.std.proofs.Math.Nat.{add-div_right, div-lt_iff_lt-mul}
+use Rattle.std.proofs.lemmas.Bool.{cases_lt}
+use Rattle.std.proofs.lemmas.Bool.Decides.{nat_tests}
 
 -- so many parts are one more than those of what is behind the first
 one_more : (n size : ℕ) → 1 ≤ size → size < n → quotient_up n size ≡ quotient_up (n - size) size + 1

@@ -1,10 +1,10 @@
 -- The first event of a list that passes a test and was not refused.
-use Rattle.std.proofs.Common.{ℕ, get_or, ◌<◌, zero, suc, ◌+◌, ◌≡◌, ◌∷◌, ◌∙◌, ◌&&◌, Bool, true, false, cond, not, List, [], length, drop}
-use Rattle.std.proofs.Common.{Option, Some, option_map, slice_get, unwrap_or, refl, ap, sym, arith}
-use Rattle.basics.proofs.Common.{and-true}
 use Rattle.job_model.specs.declared.ends.EventEnd.{EventEnd}
 use Rattle.job_model.specs.declared.events.Event.{Event}
 use Rattle.job_spec.specs.States.{event_from, is_refused}
+use Rattle.std.proofs.Common.{Bool, List, Option, Some, ap, arith, cond, drop, false, get_or, length, not, option_map, refl, slice_get, suc}
+use Rattle.std.proofs.Common.{sym, true, unwrap_or, zero, ℕ, [], ◌&&◌, ◌+◌, ◌<◌, ◌∙◌, ◌∷◌, ◌≡◌}
+use Rattle.std.proofs.Math.Bool.{and-true}
 
 -- the event at a place was refused
 abbrev pub refused_at : List EventEnd → ℕ → Bool

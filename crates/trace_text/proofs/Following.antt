@@ -1,9 +1,4 @@
 -- One more send of a run is written.
-use Rattle.std.proofs.Common.{ℕ, zero, suc, ◌+◌, ◌≡◌, ◌≤◌, ◌<◌, ◌∷◌, ◌∙◌, ◌++◌, ◌⊎◌, ◌&&◌, true, false, cond, not, arith}
-use Rattle.std.proofs.Common.{List, [], drop, take, append_assoc, slice_get, string_bytes, Option, Some, IfSome, refl, ap, subst, sym}
-use Rattle.std.proofs.lemmas.Option.{none-some, same_Some}
-use Rattle.std.specs.List.{flat_map}
-use Rattle.basics.proofs.Common.{cases_lt, inl, inr, le-leb}
 use Rattle.basics.proofs.Naturals.{below_so, not_below}
 use Rattle.s3_types.specs.Answer.{answer}
 use Rattle.s3_types.specs.Moment.{AreHonest, IsHonestOutcome, after_all, effect, moment}
@@ -14,12 +9,17 @@ use Rattle.s3_types.specs.declared.journal.Outcome.TheVariants.{Answered, ReplyL
 use Rattle.s3_types.specs.declared.reply.Reply.{Reply}
 use Rattle.s3_types.specs.declared.request.Actor.{Actor}
 use Rattle.s3_types.specs.declared.request.Request.{Request}
+use Rattle.std.proofs.Common.{IfSome, List, Option, Some, ap, append_assoc, arith, cond, drop, false, inl, inr, not, refl, slice_get}
+use Rattle.std.proofs.Common.{string_bytes, subst, suc, sym, take, true, zero, ℕ, [], ◌&&◌, ◌++◌, ◌+◌, ◌<◌, ◌∙◌, ◌∷◌, ◌≡◌, ◌≤◌, ◌⊎◌}
+use Rattle.std.proofs.lemmas.Bool.{cases_lt, le-leb}
+use Rattle.std.proofs.lemmas.Option.{none-some, same_Some}
+use Rattle.std.specs.List.{flat_map}
 use Rattle.trace_lines.proofs.Tagged.{answer_tells}
 use Rattle.trace_lines.specs.Requests.{TellsTag, request_line}
+use Rattle.trace_text.proofs.Due.{none_told}
 use Rattle.trace_text.specs.Sends.{Send, behind_event, commit_line, is_of_commit, is_until, send_lines, sends_from, until_event}
 use Rattle.trace_text.specs.Tapes.{Follows, HasWritten, NoneLostBehind, is_reply_lost, left, reply_known, reply_told}
 use Rattle.trace_text.specs.declared.tape.Tape.{Tape}
-use Rattle.trace_text.proofs.Due.{none_told}
 
 -- ---- the send at a place of a journal
 

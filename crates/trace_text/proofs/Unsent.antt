@@ -1,16 +1,19 @@
 -- How many sends that have a fate are numbered above another.
-use Rattle.std.proofs.Common.{ℕ, ◌+◌, ◌≡◌, ◌≤◌, ◌<◌, ◌∷◌, ◌⊎◌, Bool, cond, List, [], length, Some, None, nat_lt, refl, ap, arith}
-use Rattle.std.specs.FinMap as fin
-use Rattle.std.specs.List.{count_by}
-use Rattle.std.proofs.lemmas.List.Sums.{sum_by-cons}
-use Rattle.std.specs.List.Sorted.{IsStrictlySortedBy}
-use Rattle.basics.proofs.Common.{cases_lt, inl, inr, keys_of, nat_cmp, sorted_head, sorted_tail}
 use Rattle.basics.proofs.EntriesFrom.{AreAbove, entries_from, entry_from, from_on, no_entry_from}
 use Rattle.basics.proofs.Naturals.{below_so, less_is, not_below}
 use Rattle.basics.proofs.Tree.{map_sorted}
 use Rattle.s3_types.specs.Fates.{FateMap, IsFirstFrom}
 use Rattle.s3_types.specs.declared.fates.Fate.{Fate}
+use Rattle.std.proofs.Common.{Bool, List, None, Some, ap, arith, cond, inl, inr, length, nat_lt, refl, ℕ, [], ◌+◌, ◌<◌, ◌∷◌, ◌≡◌, ◌≤◌, ◌⊎◌}
+use Rattle.std.proofs.lemmas.Bool.{cases_lt}
+use Rattle.std.proofs.lemmas.List.Sums.{sum_by-cons}
+use Rattle.std.proofs.lemmas.Map.Keys.{sorted_head, sorted_tail}
+use Rattle.std.specs.List.{count_by}
+use Rattle.std.specs.List.Sorted.{IsStrictlySortedBy}
+use Rattle.std.specs.Map.{keys_of}
+use Rattle.std.specs.Ordering.{nat_cmp}
 use Rattle.trace_text.specs.Trace.{unsent}
+use Rattle.std.specs.FinMap as fin
 
 -- it is numbered above n
 abbrev above : ℕ → ℕ × Fate → Bool

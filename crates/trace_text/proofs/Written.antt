@@ -1,17 +1,17 @@
 -- What is written one after another.
-use Rattle.std.proofs.Common.{ℕ, ◌≡◌, ◌≤◌, ◌∷◌, ◌∙◌, ◌++◌, Bool, true, List, [], length, drop, cond, refl, ap, sym, append_assoc}
-use Rattle.std.specs.FinMap as fin
-use Rattle.std.specs.List.{filter, flat_map, zip}
-use Rattle.basics.proofs.Common.{append-nil, drop_all}
 use Rattle.basics.specs.Order.{text_eq}
-use Rattle.s3_types.specs.Pages.{begins}
-use Rattle.s3_types.specs.Store.{BucketContent}
-use Rattle.path_keys.specs.Paths.{Path, below}
 use Rattle.job_model.specs.declared.ends.EventEnd.{EventEnd}
 use Rattle.job_model.specs.declared.events.Event.{Event}
+use Rattle.path_keys.specs.Paths.{Path, below}
+use Rattle.s3_types.specs.Pages.{begins}
+use Rattle.s3_types.specs.Store.{BucketContent}
+use Rattle.std.proofs.Common.{Bool, List, ap, append_assoc, cond, drop, length, refl, sym, true, ℕ, [], ◌++◌, ◌∙◌, ◌∷◌, ◌≡◌, ◌≤◌}
+use Rattle.std.proofs.lemmas.List.{append-nil, drop_all}
+use Rattle.std.specs.List.{filter, flat_map, zip}
 use Rattle.trace_text.specs.Heads.{bucket_lines, object_line}
 use Rattle.trace_text.specs.Sends.{Send}
 use Rattle.trace_text.specs.Trace.{event_lines}
+use Rattle.std.specs.FinMap as fin
 
 -- the objects of the bucket of a path
 pub bucket_written : (dest : Path) (name prefix : List ℕ) (b : List ℕ × BucketContent) (left next : List (List ℕ × BucketContent))

@@ -1,7 +1,27 @@
 -- What names only one job's own is a stranger's to the other.
-use Rattle.twin_facts.proofs.Common.{AreTwins, Bool, Drawn, Ids, IsForeign, IsIn, IsKnown, IsLegal, IsStranger, List, NamesOwn, Path, Request, Script, Some, Who, ap, append_assoc, append_cancel_left, arith, begins, begins_back, changed_keys, changed_paths, changed_upload, cluster_prefix, codes, false, false_true, inl, inr, is_job_id, magic_prefix, named_keys, named_paths, named_upload, no_magic, not, refl, sym, true, ℕ, ◌++◌, ◌∙◌, ◌∷◌, ◌≡◌}
-use Rattle.magic_paths.proofs.Elements.{id_others}
 use Rattle.basics.proofs.Cuts.{cut_once}
+use Rattle.basics.proofs.Members.{false_true}
+use Rattle.basics.specs.Members.{IsIn}
+use Rattle.job_facts.proofs.JobCommitting.{no_magic}
+use Rattle.job_facts.specs.Foreign.{IsForeign}
+use Rattle.job_facts.specs.Stores.{IsKnown}
+use Rattle.job_model.specs.Attempts.{Who}
+use Rattle.job_model.specs.JobScript.{Script}
+use Rattle.job_model.specs.Known.{Drawn}
+use Rattle.job_model.specs.Legal.{IsLegal}
+use Rattle.magic_paths.proofs.Elements.{id_others}
+use Rattle.magic_paths.proofs.Tails.{begins_back}
+use Rattle.magic_paths.specs.Layout.{cluster_prefix, magic_prefix}
+use Rattle.path_keys.specs.Paths.{Path}
+use Rattle.s3_types.specs.Names.{is_job_id}
+use Rattle.s3_types.specs.Pages.{begins}
+use Rattle.s3_types.specs.declared.request.Request.{Request}
+use Rattle.std.proofs.Common.{Bool, List, Some, ap, append_assoc, arith, codes, false, inl, inr, not, refl, sym, true, ℕ, ◌++◌, ◌∙◌, ◌∷◌}
+use Rattle.std.proofs.Common.{◌≡◌}
+use Rattle.std.proofs.lemmas.List.{append_cancel_left}
+use Rattle.store_frame.specs.Frame.{changed_keys, changed_paths, changed_upload}
+use Rattle.twin_facts.specs.Laws.{AreTwins}
+use Rattle.twin_facts.specs.Names.{Ids, IsStranger, NamesOwn, named_keys, named_paths, named_upload}
 
 -- ---- directories of two jobs
 
@@ -9,7 +29,8 @@ use Rattle.basics.proofs.Cuts.{cut_once}
 one_job : (front i o r t : List ℕ) → is_job_id i ≡ true → is_job_id o ≡ true → front ++ (i ++ 47 ∷ r) ≡ front ++ (o ++ 47 ∷ t) → i ≡ o
 one_job front i o r t a b e = (cut_once 47 i o r t (id_others i a) (id_others o b) (append_cancel_left front _ _ e)).front
 
-pub one_magic : (dest i o k : List ℕ) → is_job_id i ≡ true → is_job_id o ≡ true → begins (magic_prefix dest i) k ≡ true → begins (magic_prefix dest o) k ≡ true → i ≡ o
+pub one_magic : (dest i o k : List ℕ) → is_job_id i ≡ true → is_job_id o ≡ true → begins (magic_prefix dest i) k ≡ true
+    → begins (magic_prefix dest o) k ≡ true → i ≡ o
 one_magic dest i o k a b h g =
     let x = begins_back (magic_prefix dest i) k h in
     let y = begins_back (magic_prefix dest o) k g in
@@ -21,7 +42,8 @@ one_magic dest i o k a b h g =
         ∙ ap (λ l. dest ++ (codes "/__magic/job-" ++ l)) (append_assoc i (codes "/") r)
         ∙ sym (append_assoc dest (codes "/__magic/job-") (i ++ 47 ∷ r))
 
-pub one_cluster : (i o p : List ℕ) → is_job_id i ≡ true → is_job_id o ≡ true → begins (cluster_prefix i) p ≡ true → begins (cluster_prefix o) p ≡ true → i ≡ o
+pub one_cluster : (i o p : List ℕ) → is_job_id i ≡ true → is_job_id o ≡ true → begins (cluster_prefix i) p ≡ true
+    → begins (cluster_prefix o) p ≡ true → i ≡ o
 one_cluster i o p a b h g =
     let x = begins_back (cluster_prefix i) p h in
     let y = begins_back (cluster_prefix o) p g in
@@ -36,11 +58,13 @@ pub not_true : {b : Bool} → (b ≡ true → ⊥) → b ≡ false
 not_true {b = true} h = absurd (h refl)
 not_true {b = false} h = refl
 
-pub twin_stranger : (w v : Script) → IsLegal w → IsLegal v → AreTwins w v → (drawn : Who → List Drawn) (drew : Ids) → ((id : ℕ) → IsKnown drawn id → drew id ≡ false) → (r : Request) → NamesOwn w drawn r → IsStranger v drew r
+pub twin_stranger : (w v : Script) → IsLegal w → IsLegal v → AreTwins w v → (drawn : Who → List Drawn) (drew : Ids)
+    → ((id : ℕ) → IsKnown drawn id → drew id ≡ false) → (r : Request) → NamesOwn w drawn r → IsStranger v drew r
 twin_stranger w v j i twins drawn drew apart r own = record {
   keys = λ b k x. elim (own.keys k x) [
     | inl free ↦ no_magic v k (sym (ap (λ (d : Path). not (begins ((d.key ++ codes "/") ++ codes "__magic/") k)) twins.dest) ∙ free)
-    | inr mine ↦ not_true (λ h. twins.jobs (one_magic v.dest.key w.job v.job k j.job i.job (sym (ap (λ (d : Path). begins (magic_prefix d.key w.job) k) twins.dest) ∙ mine) h))
+    | inr mine ↦ not_true (λ h. twins.jobs (one_magic v.dest.key w.job v.job k j.job i.job
+        (sym (ap (λ (d : Path). begins (magic_prefix d.key w.job) k) twins.dest) ∙ mine) h))
   ];
   uploads = λ b id e. apart id (own.uploads id e);
   paths = λ p x. not_true (λ h. twins.jobs (one_cluster w.job v.job p j.job i.job (own.paths p x) h));
@@ -57,7 +81,8 @@ upload_named r id h = grind arith
 paths_named : (r : Request) (p : List ℕ) → IsIn p (changed_paths r) → IsIn p (named_paths r)
 paths_named r p h = grind arith
 
-pub stranger_foreign : (v : Script) (drawn : Who → List Drawn) (drew : Ids) → ((id : ℕ) → IsKnown drawn id → drew id ≡ true) → (r : Request) → IsStranger v drew r → IsForeign v drawn r
+pub stranger_foreign : (v : Script) (drawn : Who → List Drawn) (drew : Ids) → ((id : ℕ) → IsKnown drawn id → drew id ≡ true) → (r : Request)
+    → IsStranger v drew r → IsForeign v drawn r
 stranger_foreign v drawn drew known r h = record {
   keys = λ b k i. h.keys b k (changes_named r k i);
   uploads = λ b id e x. false_true (h.uploads b id (upload_named r id e)) (known id x);

@@ -1,22 +1,32 @@
 -- A side whose bucket is not there: it makes none and puts no marker, and readers are shown nothing.
-use Rattle.twin_facts.proofs.Common.{Bool, Content, DeleteObjects, Deleting, Early, Entry, IsLegal, IsOpening, Late, List, Listing, None}
-use Rattle.twin_facts.proofs.Common.{Option}
-use Rattle.twin_facts.proofs.Common.{Outcome, Path, Request, Runs, Scene, Script, Sends, Setting, Setup, Slow, Some, Stand, Sweep, TheSetup}
-use Rattle.twin_facts.proofs.Common.{Times}
-use Rattle.twin_facts.proofs.Common.{ap, apply, asks, below, cond, effect, good, inl, inr, is_marking, last_of, late_now, none_some}
-use Rattle.twin_facts.proofs.Common.{nothing_learnt, option_map, page_after, setup_asks, setup_plain, some_is, subst, sweep_asks, sym, view}
-use Rattle.twin_facts.proofs.Common.{who}
-use Rattle.twin_facts.proofs.Common.{false, refl, true, ℕ, ◌∙◌, ◌≡◌, ◌⊎◌}
-use Rattle.std.proofs.Common.{arith}
-use Rattle.std.specs.FinMap as fin
-use Rattle.job_facts.specs.Prelude.{Driver, RequestLost}
-use Rattle.job_protocol.specs.View.{is_file_path, object_in}
-use Rattle.job_protocol.specs.Setup.{Checking, Clearing, Heading, SetupOver, Sweeping, dest_prefix}
+use Rattle.basics.proofs.Members.{none_some, some_is}
+use Rattle.job_facts.proofs.Sharing.{setup_plain}
+use Rattle.job_model.specs.JobScript.{Script}
+use Rattle.job_model.specs.Legal.{IsLegal}
+use Rattle.job_protocol.specs.Operations.{Setting, TheSetup, asks, who}
+use Rattle.job_protocol.specs.Seen.{Times, is_marking}
+use Rattle.job_protocol.specs.Setup.{Checking, Clearing, Heading, Setup, SetupOver, Sweeping, dest_prefix, setup_asks}
+use Rattle.job_protocol.specs.View.{is_file_path, object_in, view}
+use Rattle.job_traces.proofs.Entries.{late_now}
+use Rattle.job_traces.proofs.EveryRun.{good}
+use Rattle.job_traces.proofs.Running.{Early, Late}
+use Rattle.job_traces.specs.Runs.{IsOpening, Runs, Stand, nothing_learnt}
+use Rattle.list_walk.specs.Walks.{Deleting, Listing, Sweep, last_of, page_after, sweep_asks}
 use Rattle.magic_paths.specs.Layout.{magic_prefix, success_key}
-use Rattle.s3_types.specs.Answer.{apply_at}
-use Rattle.s3_types.specs.Store.{BucketContent}
-use Rattle.s3_types.specs.declared.request.Request.TheVariants.{DeleteObject, HeadObject, ListPage}
-use Rattle.twin_facts.specs.Sides.{attempt_sends, driver_sends}
+use Rattle.path_keys.specs.Paths.{Path, below}
+use Rattle.s3_types.specs.Answer.{apply, apply_at}
+use Rattle.s3_types.specs.Moment.{effect}
+use Rattle.s3_types.specs.Store.{BucketContent, Content, Scene}
+use Rattle.s3_types.specs.declared.journal.Entry.{Entry}
+use Rattle.s3_types.specs.declared.journal.Outcome.{Outcome}
+use Rattle.s3_types.specs.declared.journal.Outcome.TheVariants.{RequestLost, Slow}
+use Rattle.s3_types.specs.declared.request.Actor.TheVariants.{Driver}
+use Rattle.s3_types.specs.declared.request.Request.{Request}
+use Rattle.s3_types.specs.declared.request.Request.TheVariants.{DeleteObject, DeleteObjects, HeadObject, ListPage}
+use Rattle.std.proofs.Common.{Bool, List, None, Option, Some, ap, arith, cond, false, inl, inr, refl, subst, sym, true, ℕ, ◌∙◌, ◌≡◌, ◌⊎◌}
+use Rattle.std.specs.Option.{option_map}
+use Rattle.twin_facts.specs.Sides.{Sends, attempt_sends, driver_sends}
+use Rattle.std.specs.FinMap as fin
 
 -- no bucket has this name
 abbrev pub IsBare : Content → List ℕ → Type 0

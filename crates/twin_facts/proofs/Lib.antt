@@ -16,4 +16,3 @@ pub mod Spared
 pub mod ByEvents
 pub mod Joining
 pub mod Named
-mod Common

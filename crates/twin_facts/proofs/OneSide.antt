@@ -1,12 +1,35 @@
 -- A side's entries make its run go on; where its destination is shared no abort or clean of it is one of a job alone.
-use Rattle.twin_facts.proofs.Common.{Answered, BeginClean, BeginCommit, BeginSetup, Clean, Content, Driver, Entry, List, Operation, Option, Outcome, Request, Retried, Runs, Script, Seen, Sends, Setting, Slow, Some, Stand, TheClean, TheSparing, Times, Who, [], actor_begins, and-false, ap, arith, attempt_sends, clean_start, commit_of_so, cond, driver_entry, driver_sends, effect, entry, false, fresh, is_effective, is_marking, is_picking, is_reading, refl, run_begins, see, sparing_start, strays, subst, sym, tells, true, who, ℕ, ◌&&◌, ◌++◌, ◌∙◌, ◌∷◌, ◌≡◌}
+use Rattle.job_facts.specs.Told.{driver_entry, entry}
+use Rattle.job_model.specs.Attempts.{Who}
+use Rattle.job_model.specs.JobScript.{Script}
+use Rattle.job_protocol.proofs.Begun.{commit_of_so}
+use Rattle.job_protocol.specs.Cleanups.{Clean, clean_start}
+use Rattle.job_protocol.specs.Operations.{Operation, Setting, TheClean, TheSparing, tells, who}
+use Rattle.job_protocol.specs.Seen.{Seen, Times, is_marking, is_picking, is_reading, see}
+use Rattle.job_protocol.specs.Sparing.{sparing_start}
+use Rattle.job_traces.specs.Runs.{BeginClean, BeginCommit, BeginSetup, Runs, Stand, actor_begins, attempt_sends, driver_sends, run_begins}
+use Rattle.job_traces.specs.Runs.{strays}
+use Rattle.retries.specs.Retries.{Retried, fresh}
+use Rattle.s3_types.specs.Moment.{effect, is_effective}
+use Rattle.s3_types.specs.Store.{Content}
+use Rattle.s3_types.specs.declared.journal.Entry.{Entry}
+use Rattle.s3_types.specs.declared.journal.Outcome.{Outcome}
+use Rattle.s3_types.specs.declared.journal.Outcome.TheVariants.{Answered, Slow}
+use Rattle.s3_types.specs.declared.request.Actor.TheVariants.{Driver}
+use Rattle.s3_types.specs.declared.request.Request.{Request}
+use Rattle.std.proofs.Common.{List, Option, Some, ap, arith, cond, false, refl, subst, sym, true, ℕ, [], ◌&&◌, ◌++◌, ◌∙◌, ◌∷◌, ◌≡◌}
+use Rattle.std.proofs.Math.Bool.{and-false}
+use Rattle.twin_facts.specs.Sides.{Sends}
 use Rattle.twin_facts.specs.Sides as sides
 
 -- ---- the run of a side
 
-pub goes_on : (g : Setting) (k : Times) (opening : Content) (es : List Entry) (x z : Stand) (e : Entry) → Runs g k opening es x → Sends g k x e z → Runs g k opening (es ++ e ∷ []) z
-goes_on g k opening es x _ _ run (sides.driver_sends _ op n r o d asked timely few honest) = driver_sends es x op n r o run d asked timely few honest
-goes_on g k opening es x _ _ run (sides.attempt_sends _ a op n r o set at asked honest) = attempt_sends es x a op n r o run set at asked honest
+pub goes_on : (g : Setting) (k : Times) (opening : Content) (es : List Entry) (x z : Stand) (e : Entry) → Runs g k opening es x
+    → Sends g k x e z → Runs g k opening (es ++ e ∷ []) z
+goes_on g k opening es x _ _ run (sides.driver_sends _ op n r o d asked timely few honest) = driver_sends es x op n r o run d asked timely
+    few honest
+goes_on g k opening es x _ _ run (sides.attempt_sends _ a op n r o set at asked honest) = attempt_sends es x a op n r o run set at asked
+    honest
 
 -- ---- what one entry leaves
 
@@ -18,7 +41,8 @@ module _ (w : Script) (k : Times) (s : Seen) (n : ℕ) (r : Request) where
   attempt_scene a o = grind arith
 
   -- where it reads no set, or behind the beginning of an abort or clean, nothing is picked
-  pub picks_still : ((t : ℕ) → (is_picking k s.begun n && is_reading w t r) ≡ false) → (o : Outcome) → (see w k s (driver_entry n r o)).picks ≡ s.picks
+  pub picks_still : ((t : ℕ) → (is_picking k s.begun n && is_reading w t r) ≡ false) → (o : Outcome)
+      → (see w k s (driver_entry n r o)).picks ≡ s.picks
   picks_still none (Answered y) = λ i t. ap (λ b. cond b (s.last t) (s.picks t)) (none t) i
   picks_still none Slow = refl
   picks_still none _ = refl
@@ -51,8 +75,11 @@ module _ (g : Setting) (shared : g.shared ≡ true) (k : Times) (opening : Conte
   no_clean : (es : List Entry) (x : Stand) → Runs g k opening es x → IsNone x.driver
   no_clean es x run_begins = tt
   no_clean es x (actor_begins fs y BeginSetup run may) = tt
-  no_clean es x (actor_begins fs y (BeginCommit reports) run may) = commit_of_so g (λ op. IsNone (Some op)) (λ missing. tt) (λ t. tt) reports
-  no_clean es x (actor_begins fs y BeginClean run may) = subst (λ b. IsNone (Some (cond b (TheSparing (fresh g.script.retries (sparing_start g.script.committer))) (TheClean (fresh g.script.retries clean_start))))) (sym shared) tt
+  no_clean es x (actor_begins fs y (BeginCommit reports) run may) = commit_of_so g (λ op. IsNone (Some op)) (λ missing. tt) (λ t. tt)
+      reports
+  no_clean es x (actor_begins fs y BeginClean run may) = subst (λ b. IsNone
+      (Some (cond b (TheSparing (fresh g.script.retries (sparing_start g.script.committer)))
+      (TheClean (fresh g.script.retries clean_start))))) (sym shared) tt
   no_clean es x (actor_begins fs y b run may) = no_clean fs y run
   no_clean es x (driver_sends fs y op n r o run d asked timely few honest) = goes_none op o (subst IsNone d (no_clean fs y run))
   no_clean es x (attempt_sends fs y a op n r o run set at asked honest) = no_clean fs y run

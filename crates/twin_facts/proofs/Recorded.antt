@@ -1,15 +1,72 @@
--- Of the magic committer: as long as its upload lives, the record of a file that an attempt has written stands; an abort or clean of the job deletes none whose upload lives.
-use Rattle.twin_facts.proofs.Common.{AbortUpload, Answered, Bool, Committer, Deleting, Drawn, Facts, File, Fits, FitsSparing, FitsWrite, GetObject, HasBucket, HasItsKey, HasKey, IsAttempt, IsHonestOutcome, IsIn, IsLegal, Knows, List, Magic, MarkerPlace, None, Operation, Option, Outcome, Page, PageEntry, RecordPlace, Recording, Reply, Request, Retried, Scene, Script, Setting, Some, TaskAbort, TheTaskAbort, TheTaskCommit, TheWrite, Told, UploadRef, Uploaded, Uploading, Who, Write, WriteOver, [], abort_keys, another, answer, answer_is, ap, apply, arith, asks, at_event, at_key, begins, bucket_of, changed_keys, commit_keys, drawn_last, drop, dropped_in, effect, effect_so, false, false_true, file_key, file_record, files, filter, filter_in, found, in_append, in_back, in_front, in_or_not, inl, inr, is_magic, is_record, is_staging, key_before, key_left, keys_on, known, known_still, last_of, learn, length, listed, magic_prefix, nat_lt, or-false, or-true, page_after, puts, record_below, record_ends_so, record_key, record_read, record_text, refl, same_or_another, some_dest, some_is, stays_gone, step, step_so, subst, sym, take, taken_in, task_abort_asks, tell_attempt, tell_driver, tells, true, undoes, upload_asks, upload_hears, walked, walked_by, who_here, who_other, write_after, write_asks, write_hears, write_keys, writing, ℕ, ◌++◌, ◌^◌, ◌||◌, ◌∙◌, ◌∷◌, ◌≡◌, ◌≤◌, ◌⊎◌}
-use Rattle.pending_json.specs.Reading as reading
-use Rattle.job_model.specs.declared.ends.TaskEnd.TheVariants as ends
-use Rattle.job_protocol.specs.Writes.{Marking, uploaded}
-use Rattle.job_protocol.specs.Writes as writes
-use Rattle.store_frame.proofs.Flat.{page_begins}
+-- Of the magic committer: as long as its upload lives, the record of a file that an attempt has written stands; an abort or clean of the
+-- job deletes none whose upload lives.
+use Rattle.basics.proofs.Members.{false_true, filter_in, in_append, in_back, in_front, some_is}
+use Rattle.basics.specs.Members.{IsIn}
+use Rattle.job_facts.proofs.Aborting.{dropped_in, taken_in}
+use Rattle.job_facts.proofs.Apart.{HasKey, abort_keys, another, commit_keys, key_left, record_below, write_keys}
+use Rattle.job_facts.proofs.EndedGone.{stays_gone}
+use Rattle.job_facts.proofs.Going.{effect_so, step_so}
+use Rattle.job_facts.proofs.Learning.{Knows, known_still}
+use Rattle.job_facts.proofs.Legal.{some_dest}
+use Rattle.job_facts.proofs.Legible.{record_read}
 use Rattle.job_facts.proofs.Sent.{not_set}
-use Rattle.job_protocol.specs.Sparing.{Sparing, Walking, Naming, Reading, Aborting, Removing, SparingOver, record_request, sparing_asks, sparing_hears, sparing_after, names, record_names, ref_of, deleting, removing, emptying, aborting, reading_on, walking}
-use Rattle.job_protocol.specs.Sparing as sparing
+use Rattle.job_facts.proofs.Shapes.{answer_is, key_before, puts}
+use Rattle.job_facts.proofs.Spares.{in_or_not}
+use Rattle.job_facts.proofs.Suffix.{record_ends_so}
+use Rattle.job_facts.proofs.Whose.{same_or_another, who_here, who_other}
+use Rattle.job_facts.specs.Facts.{Facts, IsAttempt}
+use Rattle.job_facts.specs.Filed.{HasItsKey}
+use Rattle.job_facts.specs.Fits.{Fits, FitsWrite}
+use Rattle.job_facts.specs.Spares.{FitsSparing}
+use Rattle.job_facts.specs.Stores.{at_key}
+use Rattle.job_facts.specs.Told.{Told, at_event, known, tell_attempt, tell_driver, undoes}
+use Rattle.job_model.specs.Attempts.{Who}
+use Rattle.job_model.specs.Files.{File}
+use Rattle.job_model.specs.JobScript.{Script}
+use Rattle.job_model.specs.Known.{Drawn}
+use Rattle.job_model.specs.Legal.{IsLegal}
+use Rattle.job_protocol.specs.Knowledge.{drawn_last, learn}
+use Rattle.job_protocol.specs.Operations.{Operation, Setting, TheTaskAbort, TheTaskCommit, TheWrite, asks, tells}
+use Rattle.job_protocol.specs.Outputs.{files}
+use Rattle.job_protocol.specs.Records.{file_key, file_record, record_key, record_text}
+use Rattle.job_protocol.specs.Seen.{is_magic, is_staging}
+use Rattle.job_protocol.specs.Sparing.{Aborting, Naming, Reading, Removing, Sparing, SparingOver, Walking, aborting, deleting, emptying}
+use Rattle.job_protocol.specs.Sparing.{names, reading_on, record_names, record_request, ref_of, removing, sparing_after, sparing_asks}
+use Rattle.job_protocol.specs.Sparing.{sparing_hears, walking}
+use Rattle.job_protocol.specs.TaskAborts.{TaskAbort, task_abort_asks}
+use Rattle.job_protocol.specs.Uploading.{Uploaded, Uploading, upload_asks, upload_hears}
+use Rattle.job_protocol.specs.Writes.{Marking, Recording, Write, WriteOver, uploaded, write_after, write_asks, write_hears, writing}
+use Rattle.list_walk.specs.Walks.{Deleting, keys_on, last_of, page_after, walked, walked_by}
+use Rattle.magic_paths.specs.Layout.{magic_prefix}
+use Rattle.magic_paths.specs.Places.{MarkerPlace, RecordPlace, is_record}
+use Rattle.retries.specs.Retries.{Retried, step}
+use Rattle.s3_types.specs.Answer.{answer, apply, bucket_of, found}
+use Rattle.s3_types.specs.Moment.{IsHonestOutcome, effect}
+use Rattle.s3_types.specs.Pages.{begins, listed}
+use Rattle.s3_types.specs.Store.{Scene}
+use Rattle.s3_types.specs.declared.journal.Outcome.{Outcome}
+use Rattle.s3_types.specs.declared.journal.Outcome.TheVariants.{Answered}
+use Rattle.s3_types.specs.declared.reply.PageEntry.{PageEntry}
+use Rattle.s3_types.specs.declared.reply.Reply.{Reply}
+use Rattle.s3_types.specs.declared.reply.Reply.TheVariants.{Page}
+use Rattle.s3_types.specs.declared.request.Committer.{Committer}
+use Rattle.s3_types.specs.declared.request.Committer.TheVariants.{Magic}
+use Rattle.s3_types.specs.declared.request.Request.{Request}
+use Rattle.s3_types.specs.declared.request.Request.TheVariants.{AbortUpload, GetObject}
+use Rattle.s3_types.specs.declared.request.UploadRef.{UploadRef}
+use Rattle.std.proofs.Common.{Bool, List, None, Option, Some, ap, arith, drop, false, inl, inr, length, nat_lt, refl, subst, sym, take}
+use Rattle.std.proofs.Common.{true, ℕ, [], ◌++◌, ◌^◌, ◌||◌, ◌∙◌, ◌∷◌, ◌≡◌, ◌≤◌, ◌⊎◌}
+use Rattle.std.proofs.Math.Bool.{or-false, or-true}
+use Rattle.std.specs.List.{filter}
+use Rattle.store_frame.proofs.Flat.{page_begins}
+use Rattle.store_frame.specs.Frame.{changed_keys}
+use Rattle.store_frame.specs.Held.{HasBucket}
 use Rattle.twin_facts.proofs.Keyed.{Keyed, ref}
 use Rattle.twin_facts.proofs.Leaving.{Dead, abort_dead}
+use Rattle.pending_json.specs.Reading as reading
+use Rattle.job_model.specs.declared.ends.TaskEnd.TheVariants as ends
+use Rattle.job_protocol.specs.Writes as writes
+use Rattle.job_protocol.specs.Sparing as sparing
 
 -- ---- what becomes of a file's record
 
@@ -45,7 +102,8 @@ IsNamed w m us a f = (d : Drawn) × IsIn d (m.drawn a) × (d.key ≡ file_key w 
 -- what a sparing clean has to do with the records that it has listed
 abbrev pub Covers : Script → Scene → Told → Sparing → Who → File → Type 0
 Covers w s m (Walking keys) a f = IsIn (record_key w a f) keys → IsRecorded w s m a f
-Covers w s m (Reading named p ps all) a f = IsIn (record_key w a f) all → (IsIn (record_key w a f) (p ∷ ps) × IsRecorded w s m a f) ⊎ (IsNamed w m named a f ⊎ Settled w s m a f)
+Covers w s m (Reading named p ps all) a f = IsIn (record_key w a f) all → (IsIn (record_key w a f) (p ∷ ps) × IsRecorded w s m a f)
+    ⊎ (IsNamed w m named a f ⊎ Settled w s m a f)
 Covers w s m (Aborting u us all) a f = IsIn (record_key w a f) all → IsNamed w m (u ∷ us) a f ⊎ Settled w s m a f
 Covers w s m (sparing.Deleting k ks) a f = IsIn (record_key w a f) (k ∷ ks) → Settled w s m a f
 Covers w s m _ a f = Unit {0}
@@ -102,9 +160,12 @@ module _ {w : Script} {s t : Scene} {m n : Told} {a : Who} (l : Later w s t m n 
 
 module _ {w : Script} (j : IsLegal w) (s : Scene) (there : HasBucket s.content w.dest.bucket) (r : Request) (o : Outcome) where
   -- one that changes no key below the magic directory
-  pub free_keys : (n : Told) (a : Who) → (bucket_of r ≡ w.dest.bucket → (k : List ℕ) → IsIn k (changed_keys r) → begins (magic_prefix w.dest.key w.job) k ≡ false) → (f : File) → IsIn f (files w a) → HasKey w s (record_key w a f) → IsRecorded w (effect s r o) n a f
+  pub free_keys : (n : Told) (a : Who) → (bucket_of r ≡ w.dest.bucket → (k : List ℕ) → IsIn k (changed_keys r)
+      → begins (magic_prefix w.dest.key w.job) k ≡ false) → (f : File) → IsIn f (files w a) → HasKey w s (record_key w a f)
+      → IsRecorded w (effect s r o) n a f
   free_keys n a free f i h =
-      inr (effect_so (λ t. HasKey w t (record_key w a f)) s r o h (key_left w s there (record_key w a f) r (λ b x. false_true (free b (record_key w a f) x) (record_below j a f)) h))
+      inr (effect_so (λ t. HasKey w t (record_key w a f)) s r o h (key_left w s there (record_key w a f) r
+      (λ b x. false_true (free b (record_key w a f) x) (record_below j a f)) h))
 
   -- of the driver, and of a stranger
   pub driver_later : (m : Told) (k : ℕ) (a : Who) → Later w s (effect s r o) m (at_event k (tell_driver m r o)) a
@@ -124,10 +185,13 @@ module _ {w : Script} (j : IsLegal w) (s : Scene) (there : HasBucket s.content w
       ]
 
 -- a request of an abort takes something back, or changes no key
-abort_takes : (w : Script) (b : Who) (t : TaskAbort) (r : Request) → task_abort_asks w b t ≡ Some r → (undoes r ≡ true) ⊎ (changed_keys r ≡ [])
+abort_takes : (w : Script) (b : Who) (t : TaskAbort) (r : Request) → task_abort_asks w b t ≡ Some r → (undoes r ≡ true)
+    ⊎ (changed_keys r ≡ [])
 abort_takes w b t r h = grind arith
 
-module _ (g : Setting) (j : IsLegal g.script) (s : Scene) (there : HasBucket s.content g.script.dest.bucket) (m : Told) (b : Who) (d : IsAttempt g.script b) (op : Operation) (fits : Fits g.script g.minimum b m op) (r : Request) (asked : asks g b (known m b) op ≡ Some r) (o : Outcome) where
+module _ (g : Setting) (j : IsLegal g.script) (s : Scene) (there : HasBucket s.content g.script.dest.bucket) (m : Told) (b : Who)
+    (d : IsAttempt g.script b) (op : Operation) (fits : Fits g.script g.minimum b m op) (r : Request)
+    (asked : asks g b (known m b) op ≡ Some r) (o : Outcome) where
   abbrev w : Script
   w = g.script
 
@@ -146,7 +210,8 @@ module _ (g : Setting) (j : IsLegal g.script) (s : Scene) (there : HasBucket s.c
 
       own : (a ≡ b) → (undoes r ≡ true) ⊎ (changed_keys r ≡ []) → IsRecorded w t n a f
       own is (inl u) = inl (inl (who_here m.undone b _ a is ∙ ap (λ z. m.undone b || z) u ∙ or-true (m.undone b)))
-      own is (inr none) = stays (key_left w s there (record_key w a f) r (λ e x. subst (λ (l : List (List ℕ)). IsIn (record_key w a f) l) none x))
+      own is (inr none) = stays (key_left w s there (record_key w a f) r (λ e x. subst (λ (l : List (List ℕ)). IsIn (record_key w a f) l)
+          none x))
 
       by : (op : Operation) → Fits w g.minimum b m op → asks g b (known m b) op ≡ Some r → IsRecorded w t n a f
       by (TheWrite x) fits e = stays (write_keys w s there b (known m b) x.operation r e (record_key w a f))
@@ -171,10 +236,15 @@ module _ (g : Setting) (j : IsLegal g.script) (s : Scene) (there : HasBucket s.c
   upload_unsent : (f : File) (u : Uploading) → Unsent (upload_asks w (known m b) f u)
   upload_unsent f u = grind arith
 
-  write_unsent : is_magic w.committer ≡ true → (x : Write) → FitsWrite w g.minimum b (known m b) x → write_asks w b (known m b) x ≡ Some r → Unsent r
+  write_unsent : is_magic w.committer ≡ true → (x : Write) → FitsWrite w g.minimum b (known m b) x → write_asks w b (known m b) x ≡ Some r
+      → Unsent r
   write_unsent magic (writes.Uploads f fs u) h e = subst Unsent (some_is e) (upload_unsent f u)
-  write_unsent magic (Marking f fs) h e = subst Unsent (some_is e) (ap (λ z. m.publish_sent b || z) (not_set j magic b.task (MarkerPlace b.task b.attempt f.0) (f, h.2.each f (inl refl), refl) d.task (λ z. absurd cc)) ∙ or-false (m.publish_sent b))
-  write_unsent magic (Recording f fs) h e = subst Unsent (some_is e) (ap (λ z. m.publish_sent b || z) (not_set j magic b.task (RecordPlace b.task b.attempt f.0) (f, h.2.each f (inl refl), refl) d.task (λ z. absurd cc)) ∙ or-false (m.publish_sent b))
+  write_unsent magic (Marking f fs) h e = subst Unsent (some_is e) (ap (λ z. m.publish_sent b || z)
+      (not_set j magic b.task (MarkerPlace b.task b.attempt f.0) (f, h.2.each f (inl refl), refl) d.task (λ z. absurd cc)) ∙ or-false
+      (m.publish_sent b))
+  write_unsent magic (Recording f fs) h e = subst Unsent (some_is e) (ap (λ z. m.publish_sent b || z)
+      (not_set j magic b.task (RecordPlace b.task b.attempt f.0) (f, h.2.each f (inl refl), refl) d.task (λ z. absurd cc)) ∙ or-false
+      (m.publish_sent b))
   write_unsent magic (WriteOver end) h e = absurd cc
 
   writing_records : (fs : List File) → AreRecorded w t n b fs → WriteRecords w t n b (writing fs)
@@ -185,16 +255,19 @@ module _ (g : Setting) (j : IsLegal g.script) (s : Scene) (there : HasBucket s.c
   uploaded_records f fs u h = grind arith
 
   -- the record that it puts stands, where that is answered
-  put_records : (x : Reply) → o ≡ Answered x → (f : File) (fs : List File) → write_asks w b (known m b) (Recording f fs) ≡ Some r → AreRecorded w t n b (f ∷ fs) → AreRecorded w t n b fs
+  put_records : (x : Reply) → o ≡ Answered x → (f : File) (fs : List File) → write_asks w b (known m b) (Recording f fs) ≡ Some r
+      → AreRecorded w t n b (f ∷ fs) → AreRecorded w t n b fs
   put_records x is f fs e h k i = elim (h k i) [
     | inr y ↦ inr y
     | inl y ↦ elim y [ inr more ↦ inl more | inl same ↦ inr (inr (subst (λ q. HasKey w t (record_key w b q)) (sym same) put)) ]
   ]
     where
       put : HasKey w t (record_key w b f)
-      put = subst (λ v. HasKey w (effect s r v) (record_key w b f)) (sym is) (subst (λ q. HasKey w (apply s q) (record_key w b f)) (some_is e) (_, (puts w s there.0 there.1 (record_key w b f) (record_text w b f (drawn_last (known m b))) None).here))
+      put = subst (λ v. HasKey w (effect s r v) (record_key w b f)) (sym is) (subst (λ q. HasKey w (apply s q) (record_key w b f))
+          (some_is e) (_, (puts w s there.0 there.1 (record_key w b f) (record_text w b f (drawn_last (known m b))) None).here))
 
-  heard_records : (y : Write) → WriteRecords w t n b y → write_asks w b (known m b) y ≡ Some r → (x : Reply) → o ≡ Answered x → WriteRecords w t n b (write_hears w g.minimum y x)
+  heard_records : (y : Write) → WriteRecords w t n b y → write_asks w b (known m b) y ≡ Some r → (x : Reply) → o ≡ Answered x
+      → WriteRecords w t n b (write_hears w g.minimum y x)
   heard_records (writes.Uploads f fs u) h e x is = uploaded_records f fs (upload_hears w g.minimum f u x) h
   heard_records (Marking f fs) h e x is = h
   heard_records (Recording f fs) h e x is = writing_records fs (put_records x is f fs e h)
@@ -209,10 +282,12 @@ module _ (g : Setting) (j : IsLegal g.script) (s : Scene) (there : HasBucket s.c
   pub own_records : is_magic w.committer ≡ true → Records w s m b op → Records w t n b (tells g b op o)
   own_records magic h = by op fits asked h
     where
-      by : (op : Operation) → Fits w g.minimum b m op → asks g b (known m b) op ≡ Some r → Records w s m b op → Records w t n b (tells g b op o)
+      by : (op : Operation) → Fits w g.minimum b m op → asks g b (known m b) op ≡ Some r → Records w s m b op
+          → Records w t n b (tells g b op o)
       by (TheWrite x) fits e h = (
         sent_here ∙ write_unsent magic x.operation fits.1 e ∙ h.0,
-        step_so w.retries (write_after w g.minimum) x o (WriteRecords w t n b) (λ y is. heard_records x.operation (write_later mine (attempt_keys b d) x.operation h.1) e y is)
+        step_so w.retries (write_after w g.minimum) x o (WriteRecords w t n b)
+            (λ y is. heard_records x.operation (write_later mine (attempt_keys b d) x.operation h.1) e y is)
             (λ none. write_later mine (attempt_keys b d) x.operation h.1) (λ none e. absurd cc),
       )
       by (TheTaskCommit x) fits e h = still_all [] h
@@ -221,119 +296,163 @@ module _ (g : Setting) (j : IsLegal g.script) (s : Scene) (there : HasBucket s.c
 
 -- ---- an abort or clean goes on
 
-module _ {w : Script} {minimum : ℕ} (j : IsLegal w) (s : Scene) {last : ℕ → Option ℕ} (m : Told) (facts : Facts w minimum s last m) (few : s.content.next ≤ 2 ^ 64) (keyed : Keyed w m.drawn s.content) (magic : w.committer ≡ Magic) (n : ℕ) (t : Retried Sparing) (fits : FitsSparing w m.drawn t.operation) (r : Request)
-    (asked : sparing_asks w t.operation ≡ Some r) (o : Outcome) (honest : IsHonestOutcome o (answer s r)) (a : Who) (d : IsAttempt w a) where
-  abbrev now : Scene
-  now = effect s r o
+module _ {w : Script} {minimum : ℕ} (j : IsLegal w) (s : Scene) {last : ℕ → Option ℕ} (m : Told) (facts : Facts w minimum s last m)
+    (few : s.content.next ≤ 2 ^ 64) (keyed : Keyed w m.drawn s.content) (magic : w.committer ≡ Magic) (n : ℕ) (t : Retried Sparing)
+    (fits : FitsSparing w m.drawn t.operation) (r : Request)
+    (asked : sparing_asks w t.operation ≡ Some r) (o : Outcome) (honest : IsHonestOutcome o (answer s r)) (a : Who) (d : IsAttempt w a)
+  where
+    abbrev now : Scene
+    now = effect s r o
 
-  abbrev told : Told
-  told = at_event n (tell_driver m r o)
+    abbrev told : Told
+    told = at_event n (tell_driver m r o)
 
-  abbrev later : Later w s now m told a
-  later = driver_later j s facts.there r o m n a
+    abbrev later : Later w s now m told a
+    later = driver_later j s facts.there r o m n a
 
-  record_none : (c : Committer) (p : List ℕ) → changed_keys (record_request c w p) ≡ []
-  record_none c p = grind arith
+    record_none : (c : Committer) (p : List ℕ) → changed_keys (record_request c w p) ≡ []
+    record_none c p = grind arith
 
-  -- it deletes no record whose upload lives
-  pub sparing_left : ((f : File) → IsIn f (files w a) → Covers w s m t.operation a f) → (f : File) → IsIn f (files w a) → HasKey w s (record_key w a f) → IsRecorded w now told a f
-  sparing_left cover f i h = by t.operation asked (cover f i)
-    where
-      free : changed_keys r ≡ [] → IsRecorded w now told a f
-      free none = free_keys j s facts.there r o told a (λ b k x. absurd (subst (λ (l : List (List ℕ)). IsIn k l) none x)) f i h
+    -- it deletes no record whose upload lives
+    pub sparing_left : ((f : File) → IsIn f (files w a) → Covers w s m t.operation a f) → (f : File) → IsIn f (files w a)
+        → HasKey w s (record_key w a f) → IsRecorded w now told a f
+    sparing_left cover f i h = by t.operation asked (cover f i)
+      where
+        free : changed_keys r ≡ [] → IsRecorded w now told a f
+        free none = free_keys j s facts.there r o told a (λ b k x. absurd (subst (λ (l : List (List ℕ)). IsIn k l) none x)) f i h
 
-      by : (c : Sparing) → sparing_asks w c ≡ Some r → Covers w s m c a f → IsRecorded w now told a f
-      by (Reading named p ps all) e cover = free (ap changed_keys (sym (some_is e)) ∙ record_none w.committer p)
-      by (sparing.Deleting q qs) e cover = elim (in_or_not (record_key w a f) (take 1000 (q ∷ qs))) [
-        | inl x ↦ inl (settled_later later f (cover (taken_in 1000 (q ∷ qs) (record_key w a f) x)))
-        | inr out ↦ inr (effect_so (λ t. HasKey w t (record_key w a f)) s r o h
-            (key_left w s facts.there (record_key w a f) r (λ b x. out (subst (λ y. IsIn (record_key w a f) (changed_keys y)) (sym (some_is e)) x)) h))
-      ]
-      by (SparingOver end) e cover = absurd cc
-      by _ e cover = free (ap changed_keys (sym (some_is e)))
+        by : (c : Sparing) → sparing_asks w c ≡ Some r → Covers w s m c a f → IsRecorded w now told a f
+        by (Reading named p ps all) e cover = free (ap changed_keys (sym (some_is e)) ∙ record_none w.committer p)
+        by (sparing.Deleting q qs) e cover = elim (in_or_not (record_key w a f) (take 1000 (q ∷ qs))) [
+          | inl x ↦ inl (settled_later later f (cover (taken_in 1000 (q ∷ qs) (record_key w a f) x)))
+          | inr out ↦ inr (effect_so (λ t. HasKey w t (record_key w a f)) s r o h
+              (key_left w s facts.there (record_key w a f) r (λ b x. out
+              (subst (λ y. IsIn (record_key w a f) (changed_keys y)) (sym (some_is e)) x)) h))
+        ]
+        by (SparingOver end) e cover = absurd cc
+        by _ e cover = free (ap changed_keys (sym (some_is e)))
 
-  module _ (left : (f : File) → IsIn f (files w a) → HasKey w s (record_key w a f) → IsRecorded w now told a f) (f : File) (i : IsIn f (files w a)) where
-    abbrev key : List ℕ
-    key = record_key w a f
+    module _ (left : (f : File) → IsIn f (files w a) → HasKey w s (record_key w a f) → IsRecorded w now told a f) (f : File)
+        (i : IsIn f (files w a)) where
+      abbrev key : List ℕ
+      key = record_key w a f
 
-    abbrev After : Sparing → Type 0
-    After c = Covers w now told c a f
+      abbrev After : Sparing → Type 0
+      After c = Covers w now told c a f
 
-    still : IsRecorded w s m a f → IsRecorded w now told a f
-    still (inl x) = inl (settled_later later f x)
-    still (inr k) = left f i k
+      still : IsRecorded w s m a f → IsRecorded w now told a f
+      still (inl x) = inl (settled_later later f x)
+      still (inr k) = left f i k
 
-    after_deleting : (all : List (List ℕ)) → (IsIn key all → Settled w now told a f) → After (deleting all)
-    after_deleting all h = grind arith
+      after_deleting : (all : List (List ℕ)) → (IsIn key all → Settled w now told a f) → After (deleting all)
+      after_deleting all h = grind arith
 
-    after_emptying : (c : Committer) (all : List (List ℕ)) → (IsIn key all → Settled w now told a f) → After (emptying c all)
-    after_emptying c all h = grind arith
+      after_emptying : (c : Committer) (all : List (List ℕ)) → (IsIn key all → Settled w now told a f) → After (emptying c all)
+      after_emptying c all h = grind arith
 
-    after_aborting : (us : List UploadRef) (all : List (List ℕ)) → (IsIn key all → IsNamed w told us a f ⊎ Settled w now told a f) → After (aborting w.committer us all)
-    after_aborting [] all h = after_emptying w.committer all (λ k. elim (h k) [ inl x ↦ absurd x.3 | inr x ↦ x ])
-    after_aborting (u ∷ us) all h = h
+      after_aborting : (us : List UploadRef) (all : List (List ℕ)) → (IsIn key all → IsNamed w told us a f ⊎ Settled w now told a f)
+          → After (aborting w.committer us all)
+      after_aborting [] all h = after_emptying w.committer all (λ k. elim (h k) [ inl x ↦ absurd x.3 | inr x ↦ x ])
+      after_aborting (u ∷ us) all h = h
 
-    after_reading : (named : List UploadRef) (ps all : List (List ℕ)) → (IsIn key all → (IsIn key ps × IsRecorded w now told a f) ⊎ (IsNamed w told named a f ⊎ Settled w now told a f)) → After (reading_on w.committer named ps all)
-    after_reading named [] all h = after_aborting named all (λ k. elim (h k) [ inl x ↦ absurd x.0 | inr x ↦ x ])
-    after_reading named (p ∷ ps) all h = h
+      after_reading : (named : List UploadRef) (ps all : List (List ℕ))
+          → (IsIn key all → (IsIn key ps × IsRecorded w now told a f) ⊎ (IsNamed w told named a f ⊎ Settled w now told a f))
+          → After (reading_on w.committer named ps all)
+      after_reading named [] all h = after_aborting named all (λ k. elim (h k) [ inl x ↦ absurd x.0 | inr x ↦ x ])
+      after_reading named (p ∷ ps) all h = h
 
-    after_walked : (more : Bool) (keys : List (List ℕ)) → (IsIn key keys → IsRecorded w now told a f) → After (walking w.committer (walked_by more keys))
-    after_walked true keys h = h
-    after_walked false keys h =
-        after_reading [] (filter is_record keys) keys (λ k. inl (filter_in is_record key keys k (record_ends_so w.dest.key w.job a.task a.attempt f.0 (some_dest j)), h k))
+      after_walked : (more : Bool) (keys : List (List ℕ)) → (IsIn key keys → IsRecorded w now told a f)
+          → After (walking w.committer (walked_by more keys))
+      after_walked true keys h = h
+      after_walked false keys h =
+          after_reading [] (filter is_record keys) keys (λ k. inl
+          (filter_in is_record key keys k (record_ends_so w.dest.key w.job a.task a.attempt f.0 (some_dest j)), h k))
 
-    heard_page : (keys : List (List ℕ)) → (IsIn key keys → IsRecorded w s m a f) → (x : Reply) → x ≡ answer s (page_after w.dest.bucket (magic_prefix w.dest.key w.job) keys) → After (walking w.committer (walked keys x))
-    heard_page keys h x e =
-        let q = page_after w.dest.bucket (magic_prefix w.dest.key w.job) keys in
-        let xs : List PageEntry = listed (magic_prefix w.dest.key w.job) false (last_of keys) facts.there.0.objects in
-        let due : answer s q ≡ Page (take 1000 xs) (nat_lt 1000 (length xs)) = answer_is w s facts.there.0 facts.there.1 q refl in
-        let all : IsIn key (keys ++ keys_on (take 1000 xs)) → IsRecorded w now told a f = λ k. elim (in_append key keys (keys_on (take 1000 xs)) k) [
-          | inl old ↦ still (h old)
-          | inr new ↦ (let y = (page_begins 1000 (magic_prefix w.dest.key w.job) (last_of keys) key facts.there.0.objects new).1 in left f i (y.0, key_before w s facts.there.0 facts.there.1 key ∙ y.1))
-        ] in
-        subst (λ y. After (walking w.committer (walked keys y))) (sym (e ∙ due)) (after_walked (nat_lt 1000 (length xs)) (keys ++ keys_on (take 1000 xs)) all)
+      heard_page : (keys : List (List ℕ)) → (IsIn key keys → IsRecorded w s m a f) → (x : Reply)
+          → x ≡ answer s (page_after w.dest.bucket (magic_prefix w.dest.key w.job) keys) → After (walking w.committer (walked keys x))
+      heard_page keys h x e =
+          let q = page_after w.dest.bucket (magic_prefix w.dest.key w.job) keys in
+          let xs : List PageEntry = listed (magic_prefix w.dest.key w.job) false (last_of keys) facts.there.0.objects in
+          let due : answer s q ≡ Page (take 1000 xs) (nat_lt 1000 (length xs)) = answer_is w s facts.there.0 facts.there.1 q refl in
+          let all : IsIn key (keys ++ keys_on (take 1000 xs))
+          → IsRecorded w now told a f = λ k. elim (in_append key keys (keys_on (take 1000 xs)) k) [
+            | inl old ↦ still (h old)
+            | inr new ↦ (let y = (page_begins 1000 (magic_prefix w.dest.key w.job) (last_of keys) key facts.there.0.objects new).1 in left f
+                i
+                (y.0, key_before w s facts.there.0 facts.there.1 key ∙ y.1))
+          ] in
+          subst (λ y. After (walking w.committer (walked keys y))) (sym (e ∙ due))
+          (after_walked (nat_lt 1000 (length xs)) (keys ++ keys_on (take 1000 xs)) all)
 
-    -- a record that stands names the upload
-    read_named : (p : List ℕ) → key ≡ p → (x : Reply) → x ≡ answer s (record_request w.committer w p) → HasKey w s key → IsNamed w told (names x) a f
-    read_named p is x e h =
-        let rec = facts.records (ap is_magic magic) a f h.0 i h.1 in
-        let due : answer s (GetObject w.dest.bucket key) ≡ found (at_key w s.content key) = answer_is w s facts.there.0 facts.there.1 (GetObject w.dest.bucket key) refl ∙ ap found (sym (key_before w s facts.there.0 facts.there.1 key)) in
-        let asked_so : answer s (record_request w.committer w p) ≡ answer s (GetObject w.dest.bucket key) = ap (λ c. answer s (record_request c w p)) magic ∙ ap (λ q. answer s (GetObject w.dest.bucket q)) (sym is) in
-        let text : record_names (reading.pending_of (h.0).bytes) ≡ ref_of (file_record w a f rec.written.drawn) ∷ [] = ap record_names (ap reading.pending_of rec.bytes ∙ record_read j facts few a f i rec.written) in
-        let same : ref rec.written.drawn ≡ ref_of (file_record w a f rec.written.drawn) = λ z. record { key = rec.written.key z; upload = rec.written.drawn.upload } in
-        (rec.written.drawn, rec.written.known, rec.written.key, subst (λ y. IsIn (ref rec.written.drawn) (names y)) (sym (e ∙ asked_so ∙ due ∙ ap found h.1)) (subst (λ l. IsIn (ref rec.written.drawn) l) (sym text) (inl same)))
+      -- a record that stands names the upload
+      read_named : (p : List ℕ) → key ≡ p → (x : Reply) → x ≡ answer s (record_request w.committer w p) → HasKey w s key
+          → IsNamed w told (names x) a f
+      read_named p is x e h =
+          let rec = facts.records (ap is_magic magic) a f h.0 i h.1 in
+          let due : answer s (GetObject w.dest.bucket key) ≡ found (at_key w s.content key) = answer_is w s facts.there.0 facts.there.1
+          (GetObject w.dest.bucket key) refl ∙ ap found (sym (key_before w s facts.there.0 facts.there.1 key)) in
+          let asked_so : answer s (record_request w.committer w p) ≡ answer s (GetObject w.dest.bucket key) = ap
+          (λ c. answer s (record_request c w p)) magic ∙ ap (λ q. answer s (GetObject w.dest.bucket q)) (sym is) in
+          let text : record_names (reading.pending_of (h.0).bytes) ≡ ref_of (file_record w a f rec.written.drawn) ∷ [] = ap record_names
+          (ap reading.pending_of rec.bytes ∙ record_read j facts few a f i rec.written) in
+          let same : ref rec.written.drawn ≡ ref_of (file_record w a f rec.written.drawn) = λ z. record
+          { key = rec.written.key z; upload = rec.written.drawn.upload } in (
+            rec.written.drawn,
+            rec.written.known,
+            rec.written.key,
+            subst (λ y. IsIn (ref rec.written.drawn) (names y))
+                (sym (e ∙ asked_so ∙ due ∙ ap found h.1)) (subst (λ l. IsIn (ref rec.written.drawn) l) (sym text) (inl same)),
+          )
 
-    heard_record : (named : List UploadRef) (p : List ℕ) (ps all : List (List ℕ)) → Covers w s m (Reading named p ps all) a f → (x : Reply) → x ≡ answer s (record_request w.committer w p) → After (reading_on w.committer (named ++ names x) ps all)
-    heard_record named p ps all h x e = after_reading (named ++ names x) ps all (λ k. elim (h k) [
-      | inr y ↦ inr (elim y [ inl z ↦ (let v = named_later later named f z in inl (v.0, v.1, v.2, in_front (ref v.0) named (names x) v.3)) | inr z ↦ inr (settled_later later f z) ])
-      | inl y ↦ elim y.0 [
-        | inr more ↦ inl (more, still y.1)
-        | inl is ↦ inr (elim y.1 [
-          | inl z ↦ inr (settled_later later f z)
-          | inr z ↦ (let v = read_named p is x e z in inl (v.0, v.1, v.2, in_back (ref v.0) named (names x) v.3))
+      heard_record : (named : List UploadRef) (p : List ℕ) (ps all : List (List ℕ)) → Covers w s m (Reading named p ps all) a f
+          → (x : Reply)
+          → x ≡ answer s (record_request w.committer w p) → After (reading_on w.committer (named ++ names x) ps all)
+      heard_record named p ps all h x e = after_reading (named ++ names x) ps all (λ k. elim (h k) [
+        | inr y ↦ inr (elim y [
+          | inl z ↦ (let v = named_later later named f z in inl (v.0, v.1, v.2, in_front (ref v.0) named (names x) v.3))
+          | inr z ↦ inr (settled_later later f z)
         ])
-      ]
-    ])
+        | inl y ↦ elim y.0 [
+          | inr more ↦ inl (more, still y.1)
+          | inl is ↦ inr (elim y.1 [
+            | inl z ↦ inr (settled_later later f z)
+            | inr z ↦ (let v = read_named p is x e z in inl (v.0, v.1, v.2, in_back (ref v.0) named (names x) v.3))
+          ])
+        ]
+      ])
 
-    heard_abort : (u : UploadRef) (us : List UploadRef) (all : List (List ℕ)) → Covers w s m (Aborting u us all) a f → now ≡ apply s (AbortUpload w.dest.bucket u.key u.upload) → After (aborting w.committer us all)
-    heard_abort u us all h is = after_aborting us all (λ k. elim (h k) [
-      | inr x ↦ inr (settled_later later f x)
-      | inl x ↦ elim x.3 [
-        | inr more ↦ inl (x.0, x.1, x.2, more)
-        | inl same ↦
-            let dead : Dead w (apply s (AbortUpload w.dest.bucket u.key u.upload)) u.upload = abort_dead w s s facts.there u (subst (HasItsKey w s.content) same (keyed a x.0 x.1)) in
-            inr (inr (x.0, x.1, x.2, subst (λ v. Dead w v (x.0).upload) (sym is) (subst (λ (q : UploadRef). Dead w (apply s (AbortUpload w.dest.bucket u.key u.upload)) q.upload) (sym same) dead)))
-      ]
-    ])
+      heard_abort : (u : UploadRef) (us : List UploadRef) (all : List (List ℕ)) → Covers w s m (Aborting u us all) a f
+          → now ≡ apply s (AbortUpload w.dest.bucket u.key u.upload) → After (aborting w.committer us all)
+      heard_abort u us all h is = after_aborting us all (λ k. elim (h k) [
+        | inr x ↦ inr (settled_later later f x)
+        | inl x ↦ elim x.3 [
+          | inr more ↦ inl (x.0, x.1, x.2, more)
+          | inl same ↦
+              let dead : Dead w (apply s (AbortUpload w.dest.bucket u.key u.upload)) u.upload = abort_dead w s s facts.there u
+              (subst (HasItsKey w s.content) same (keyed a x.0 x.1)) in
+              inr (inr (
+                x.0,
+                x.1,
+                x.2,
+                subst (λ v. Dead w v (x.0).upload) (sym is)
+                    (subst (λ (q : UploadRef). Dead w (apply s (AbortUpload w.dest.bucket u.key u.upload)) q.upload) (sym same) dead),
+              ))
+        ]
+      ])
 
-    heard_by : (c : Sparing) → FitsSparing w m.drawn c → Covers w s m c a f → sparing_asks w c ≡ Some r → (x : Reply) → o ≡ Answered x → After (sparing_hears w c x)
-    heard_by (Walking keys) g h e x is = heard_page keys h x (subst (λ v. IsHonestOutcome v (answer s r)) is honest ∙ ap (answer s) (sym (some_is e)))
-    heard_by Naming g h e x is = absurd (false_true (ap is_staging magic) g)
-    heard_by (Reading named p ps all) g h e x is = heard_record named p ps all h x (subst (λ v. IsHonestOutcome v (answer s r)) is honest ∙ ap (answer s) (sym (some_is e)))
-    heard_by (Aborting u us all) g h e x is = heard_abort u us all h (ap (effect s r) is ∙ ap (apply s) (sym (some_is e)))
-    heard_by (sparing.Deleting q qs) g h e x is = after_deleting (drop 1000 (q ∷ qs)) (λ k. settled_later later f (h (dropped_in 1000 (q ∷ qs) key k)))
-    heard_by (Removing p ps) g h e x is = elim ps as (λ l. After (removing l)) [ [] ↦ tt | q ∷ qs ↦ tt ]
-    heard_by (SparingOver end) g h e x is = tt
+      heard_by : (c : Sparing) → FitsSparing w m.drawn c → Covers w s m c a f → sparing_asks w c ≡ Some r → (x : Reply) → o ≡ Answered x
+          → After (sparing_hears w c x)
+      heard_by (Walking keys) g h e x is = heard_page keys h x (subst (λ v. IsHonestOutcome v (answer s r)) is honest ∙ ap (answer s)
+          (sym (some_is e)))
+      heard_by Naming g h e x is = absurd (false_true (ap is_staging magic) g)
+      heard_by (Reading named p ps all) g h e x is = heard_record named p ps all h x
+          (subst (λ v. IsHonestOutcome v (answer s r)) is honest ∙ ap (answer s) (sym (some_is e)))
+      heard_by (Aborting u us all) g h e x is = heard_abort u us all h (ap (effect s r) is ∙ ap (apply s) (sym (some_is e)))
+      heard_by (sparing.Deleting q qs) g h e x is = after_deleting (drop 1000 (q ∷ qs))
+          (λ k. settled_later later f (h (dropped_in 1000 (q ∷ qs) key k)))
+      heard_by (Removing p ps) g h e x is = elim ps as (λ l. After (removing l)) [ [] ↦ tt | q ∷ qs ↦ tt ]
+      heard_by (SparingOver end) g h e x is = tt
 
-    pub covers_goes : Covers w s m t.operation a f → After (step w.retries (sparing_after w) t o).operation
-    covers_goes h = step_so w.retries (sparing_after w) t o After (λ x is. heard_by t.operation fits h asked x is) (λ none. covers_later later left t.operation f i h) (λ none. tt)
+      pub covers_goes : Covers w s m t.operation a f → After (step w.retries (sparing_after w) t o).operation
+      covers_goes h = step_so w.retries (sparing_after w) t o After (λ x is. heard_by t.operation fits h asked x is)
+          (λ none. covers_later later left t.operation f i h) (λ none. tt)

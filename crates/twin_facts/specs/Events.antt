@@ -1,9 +1,12 @@
 -- What is seen and told of a side by the numbers of events alone.
-use Rattle.std.specs.Prelude.{◌≡◌, ℕ, ◌≤◌, true, false, List, length, take}
-use Rattle.job_facts.specs.Prelude.{Content, Script, Seen, see_all, nothing_seen, nothing_told, tell_all, Times}
+use Rattle.job_facts.specs.Told.{nothing_told, tell_all}
+use Rattle.job_model.specs.JobScript.{Script}
+use Rattle.job_protocol.specs.Seen.{Seen, Times, nothing_seen, see_all}
 use Rattle.job_traces.specs.Runs.{Stand}
-use Rattle.twin_facts.specs.Sides.{Side, First, Second, TwinEntry, eyes}
-use Rattle.twin_facts.specs.TwinLaws.{InEachRun, Shows, Marked, is_marked_by}
+use Rattle.s3_types.specs.Store.{Content}
+use Rattle.std.specs.Prelude.{List, false, length, take, true, ℕ, ◌≡◌, ◌≤◌}
+use Rattle.twin_facts.specs.Sides.{First, Second, Side, TwinEntry, eyes}
+use Rattle.twin_facts.specs.TwinLaws.{InEachRun, Marked, Shows, is_marked_by}
 
 -- what is seen of a side at moment m
 abbrev pub seen_twin : Script → Times → Side → Content → List TwinEntry → ℕ → Seen
@@ -20,8 +23,10 @@ TwinsAreSaid = InEachRun (λ g h k l opening es x y. IsSaid g.script k First ope
 -- What readers may rely on at each moment of the journal of both, by events.
 pub record AtMoment (w v : Script) (k l : Times) (opening : Content) (es : List TwinEntry) (m : ℕ) : Type 0 where
   pub shows : let s = seen_twin w k First opening es m in let t = seen_twin v l Second opening es m in Shows w v opening s.scene.content s t
-  pub first : is_marked_by w First false (take m es) ≡ true → let s = seen_twin w k First opening es m in let t = seen_twin v l Second opening es m in Marked w v s.scene.content s.picks t.picks
-  pub second : is_marked_by v Second false (take m es) ≡ true → let s = seen_twin w k First opening es m in let t = seen_twin v l Second opening es m in Marked v w t.scene.content t.picks s.picks
+  pub first : is_marked_by w First false (take m es) ≡ true
+      → let s = seen_twin w k First opening es m in let t = seen_twin v l Second opening es m in Marked w v s.scene.content s.picks t.picks
+  pub second : is_marked_by v Second false (take m es) ≡ true
+      → let s = seen_twin w k First opening es m in let t = seen_twin v l Second opening es m in Marked v w t.scene.content t.picks s.picks
 
 abbrev pub TwinsAlways : Type 0
 TwinsAlways = InEachRun (λ g h k l opening es x y. (m : ℕ) → m ≤ length es → AtMoment g.script h.script k l opening es m)

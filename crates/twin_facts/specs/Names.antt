@@ -1,6 +1,18 @@
 -- What a request names, and requests of a job that name only what is the job's own or nobody's.
-use Rattle.std.specs.Prelude.{◌≡◌, ℕ, ◌⊎◌, Bool, true, false, List, [], ◌∷◌, Option, Some, None}
-use Rattle.job_facts.specs.Prelude.{begins, bucket_of, Request, PutObject, GetObject, HeadObject, DeleteObject, DeleteObjects, CopyObject, CreateUpload, UploadPart, CompleteUpload, AbortUpload, ListParts, ClusterPut, ClusterRename, ClusterGet, ClusterDelete, IsIn, magic_prefix, cluster_prefix, Who, Script, Drawn, is_no_magic, IsKnown}
+use Rattle.basics.specs.Members.{IsIn}
+use Rattle.job_facts.specs.Stores.{IsKnown}
+use Rattle.job_model.specs.Attempts.{Who}
+use Rattle.job_model.specs.JobScript.{Script}
+use Rattle.job_model.specs.Known.{Drawn}
+use Rattle.job_protocol.specs.JobCommits.{is_no_magic}
+use Rattle.magic_paths.specs.Layout.{cluster_prefix, magic_prefix}
+use Rattle.s3_types.specs.Answer.{bucket_of}
+use Rattle.s3_types.specs.Pages.{begins}
+use Rattle.s3_types.specs.declared.request.Request.{Request}
+use Rattle.s3_types.specs.declared.request.Request.TheVariants.{AbortUpload, ClusterDelete, ClusterGet, ClusterPut, ClusterRename}
+use Rattle.s3_types.specs.declared.request.Request.TheVariants.{CompleteUpload, CopyObject, CreateUpload, DeleteObject, DeleteObjects}
+use Rattle.s3_types.specs.declared.request.Request.TheVariants.{GetObject, HeadObject, ListParts, PutObject, UploadPart}
+use Rattle.std.specs.Prelude.{Bool, List, None, Option, Some, false, true, ℕ, [], ◌∷◌, ◌≡◌, ◌⊎◌}
 
 -- the keys that a request names; the prefix and the `after` of a listing name nothing
 abbrev pub named_keys : Request → List (List ℕ)

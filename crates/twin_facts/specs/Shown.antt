@@ -1,28 +1,57 @@
 -- What one request of a job's driver changes of what stands where files are shown.
-use Rattle.std.specs.Prelude.{◌≡◌, ℕ, ◌<◌, ◌⊎◌, true, false, List, ◌∷◌, length, Option, Some, None}
-use Rattle.job_facts.specs.Prelude.{Object, Request, Outcome, Scene, effect, below, IsIn, changed_keys, Script, IsLegal, keeps_of, Sets, picks_of, Commit, Fetching, Replacing, Completing, Marking, Reverting, CommitOver, replaced, commit_asks, Setting, Operation, asks, Who, IsAttempt, Hold, Fits, Picks, wanted_at, is_decided, is_file_path, Seen, Told, known, at_key, SweepsUnder, whole_of, Commits}
-use Rattle.job_protocol.specs.Sparing.{Sparing, sparing_asks}
-use Rattle.job_protocol.specs.Rechecks.{Check, check_asks}
+use Rattle.basics.specs.Members.{IsIn}
+use Rattle.job_facts.specs.Driver.{SweepsUnder}
+use Rattle.job_facts.specs.Facts.{Hold, IsAttempt}
+use Rattle.job_facts.specs.Filed.{whole_of}
+use Rattle.job_facts.specs.FiledLaws.{Commits}
+use Rattle.job_facts.specs.Fits.{Fits}
 use Rattle.job_facts.specs.Spares.{FitsSparing}
+use Rattle.job_facts.specs.Stores.{at_key}
+use Rattle.job_facts.specs.Told.{Told, known}
+use Rattle.job_model.specs.Attempts.{Who}
+use Rattle.job_model.specs.JobScript.{Script}
+use Rattle.job_model.specs.Legal.{IsLegal}
+use Rattle.job_protocol.specs.Conflicts.{keeps_of}
+use Rattle.job_protocol.specs.JobCommits.{Commit, CommitOver, Completing, Fetching, Marking, Replacing, Reverting, Sets, commit_asks}
+use Rattle.job_protocol.specs.JobCommits.{is_untouched, picks_of, replaced}
+use Rattle.job_protocol.specs.Operations.{Operation, Setting, asks}
+use Rattle.job_protocol.specs.Outputs.{Picks, is_decided, wanted_at}
+use Rattle.job_protocol.specs.Rechecks.{Check, check_asks}
+use Rattle.job_protocol.specs.Seen.{Seen}
+use Rattle.job_protocol.specs.Sparing.{Sparing, sparing_asks}
+use Rattle.job_protocol.specs.View.{is_file_path}
+use Rattle.path_keys.specs.Paths.{below}
+use Rattle.s3_types.specs.Moment.{effect}
+use Rattle.s3_types.specs.Store.{Scene}
+use Rattle.s3_types.specs.declared.journal.Outcome.{Outcome}
+use Rattle.s3_types.specs.declared.object.Object.{Object}
+use Rattle.s3_types.specs.declared.request.Request.{Request}
+use Rattle.std.specs.Prelude.{List, None, Option, Some, false, length, true, ℕ, ◌<◌, ◌∷◌, ◌≡◌, ◌⊎◌}
+use Rattle.store_frame.specs.Frame.{changed_keys}
 use Rattle.twin_facts.specs.Requests.{SetsUpBy}
-use Rattle.job_protocol.specs.JobCommits.{is_untouched}
 
--- It stays as it is. Or the job's picks are decided, and it is the whole wanted file or nothing where one is wanted, or nothing where the mode does not keep what was there.
+-- It stays as it is. Or the job's picks are decided, and it is the whole wanted file or nothing where one is wanted, or nothing where the
+-- mode does not keep what was there.
 abbrev pub Changed : Script → Picks → List ℕ → Option Object → Option Object → Type 0
-Changed w picks q old now = (now ≡ old) ⊎ ((is_decided w picks ≡ true) × (((b : List ℕ) × (wanted_at w picks q ≡ Some b) × ((now ≡ Some (whole_of b)) ⊎ (now ≡ None))) ⊎ ((now ≡ None) × (keeps_of w picks q ≡ false))))
+Changed w picks q old now = (now ≡ old) ⊎ ((is_decided w picks ≡ true)
+    × (((b : List ℕ) × (wanted_at w picks q ≡ Some b) × ((now ≡ Some (whole_of b)) ⊎ (now ≡ None)))
+    ⊎ ((now ≡ None) × (keeps_of w picks q ≡ false))))
 
 -- the keys that a request changes are those of wanted files
 abbrev pub OfWanted : Script → Picks → Request → Type 0
-OfWanted w picks r = (k : List ℕ) → IsIn k (changed_keys r) → (q : List ℕ) × (b : List ℕ) × (k ≡ below w.dest.key q) × (wanted_at w picks q ≡ Some b)
+OfWanted w picks r = (k : List ℕ) → IsIn k (changed_keys r) → (q : List ℕ) × (b : List ℕ) × (k ≡ below w.dest.key q)
+    × (wanted_at w picks q ≡ Some b)
 
 -- the picks of the first n tasks are those of the sets
 abbrev pub PickedBy : Picks → Sets → ℕ → Type 0
 PickedBy picks sets n = (t : ℕ) → t < n → picks t ≡ picks_of sets t
 
--- the picks are those of the sets that the driver holds; what a replace mode lists is below a prefix that it empties; and a revert deletes only wanted files
+-- the picks are those of the sets that the driver holds; what a replace mode lists is below a prefix that it empties; and a revert deletes
+-- only wanted files
 abbrev pub IsPickedSo : Script → Picks → Commit → Type 0
 IsPickedSo w picks (Fetching sets n) = PickedBy picks sets (length sets)
-IsPickedSo w picks (Replacing sets p ps s n) = PickedBy picks sets w.tasks × IsIn p (replaced w.committer w.mode w (picks_of sets)) × SweepsUnder p s
+IsPickedSo w picks (Replacing sets p ps s n) = PickedBy picks sets w.tasks × IsIn p (replaced w.committer w.mode w (picks_of sets))
+    × SweepsUnder p s
 IsPickedSo w picks (Completing sets x xs finished) = PickedBy picks sets w.tasks
 IsPickedSo w picks (Marking sets n) = PickedBy picks sets w.tasks
 IsPickedSo w picks (Reverting r rs n) = (is_decided w picks ≡ true) × ((y : Request) → IsIn y (r ∷ rs) → OfWanted w picks y)
@@ -30,17 +59,23 @@ IsPickedSo w picks (CommitOver end) = is_untouched end ≡ false → is_decided 
 
 -- The view law of one request of a job's commit, for every committer and mode, whatever becomes of it: at each path where files are shown.
 abbrev pub CommitShows : Type 0
-CommitShows = (g : Setting) → IsLegal g.script → (s : Seen) (m : Told) (c : Commit) → Commits g.script g.minimum s m c → IsPickedSo g.script s.picks c → (r : Request) → commit_asks g.script c ≡ Some r → (o : Outcome) (q : List ℕ) → is_file_path q ≡ true
-    → Changed g.script s.picks q (at_key g.script s.scene.content (below g.script.dest.key q)) (at_key g.script (effect s.scene r o).content (below g.script.dest.key q))
+CommitShows = (g : Setting) → IsLegal g.script → (s : Seen) (m : Told) (c : Commit) → Commits g.script g.minimum s m c
+    → IsPickedSo g.script s.picks c → (r : Request) → commit_asks g.script c ≡ Some r → (o : Outcome) (q : List ℕ) → is_file_path q ≡ true
+    → Changed g.script s.picks q (at_key g.script s.scene.content (below g.script.dest.key q))
+    (at_key g.script (effect s.scene r o).content (below g.script.dest.key q))
 
 -- what stands at each path where files are shown stays
 abbrev pub Stays : Script → Scene → Request → Outcome → Type 0
-Stays w s r o = (q : List ℕ) → is_file_path q ≡ true → at_key w (effect s r o).content (below w.dest.key q) ≡ at_key w s.content (below w.dest.key q)
+Stays w s r o = (q : List ℕ) → is_file_path q ≡ true
+    → at_key w (effect s r o).content (below w.dest.key q) ≡ at_key w s.content (below w.dest.key q)
 
 -- No other request of the job changes it.
 pub record OthersShow : Type 0 where
   pub setup : (g : Setting) → IsLegal g.script → (s : Seen) (r : Request) → SetsUpBy g s r → (o : Outcome) → Stays g.script s.scene r o
-  pub attempts : (g : Setting) → IsLegal g.script → (s : Seen) (m : Told) → Hold g.script g.minimum s m → (a : Who) → IsAttempt g.script a → (op : Operation) → Fits g.script g.minimum a m op → (r : Request) → asks g a (known m a) op ≡ Some r
+  pub attempts : (g : Setting) → IsLegal g.script → (s : Seen) (m : Told) → Hold g.script g.minimum s m → (a : Who) → IsAttempt g.script a
+      → (op : Operation) → Fits g.script g.minimum a m op → (r : Request) → asks g a (known m a) op ≡ Some r
       → (o : Outcome) → Stays g.script s.scene r o
-  pub check : (g : Setting) → IsLegal g.script → (s : Seen) (c : Check) (r : Request) → check_asks g.script c ≡ Some r → (o : Outcome) → effect s.scene r o ≡ s.scene
-  pub sparing : (g : Setting) → IsLegal g.script → (s : Seen) (m : Told) → Hold g.script g.minimum s m → (c : Sparing) → FitsSparing g.script m.drawn c → (r : Request) → sparing_asks g.script c ≡ Some r → (o : Outcome) → Stays g.script s.scene r o
+  pub check : (g : Setting) → IsLegal g.script → (s : Seen) (c : Check) (r : Request) → check_asks g.script c ≡ Some r → (o : Outcome)
+      → effect s.scene r o ≡ s.scene
+  pub sparing : (g : Setting) → IsLegal g.script → (s : Seen) (m : Told) → Hold g.script g.minimum s m → (c : Sparing)
+      → FitsSparing g.script m.drawn c → (r : Request) → sparing_asks g.script c ≡ Some r → (o : Outcome) → Stays g.script s.scene r o

@@ -1,7 +1,19 @@
 -- Runs of two jobs at one destination, request by request, in any order of their actors. An operation may also stop at any time.
-use Rattle.std.specs.Prelude.{◌≡◌, ℕ, ◌<◌, ◌≤◌, ◌^◌, ◌||◌, ◌&&◌, nat_le, nat_lt, Bool, true, false, cond, List, [], ◌∷◌, ◌++◌, map, Some}
-use Rattle.job_facts.specs.Prelude.{Content, Scene, Upload, answer, effect, IsHonestOutcome, Driver, Request, Outcome, Entry, Who, Setting, Operation, who, asks, tells, nothing_seen, known, entry, driver_entry, strange_entry, at_id, Times}
-use Rattle.job_traces.specs.Runs.{Stand, first_stand, with_attempt, with_driver, with_commit, saw, commit_with, is_set, IsTimely, nothing_learnt, Beginning, begin, MayBegin}
+use Rattle.job_facts.specs.Stores.{at_id}
+use Rattle.job_facts.specs.Told.{driver_entry, entry, known, strange_entry}
+use Rattle.job_model.specs.Attempts.{Who}
+use Rattle.job_protocol.specs.Operations.{Operation, Setting, asks, tells, who}
+use Rattle.job_protocol.specs.Seen.{Times, nothing_seen}
+use Rattle.job_traces.specs.Runs.{Beginning, IsTimely, MayBegin, Stand, begin, commit_with, first_stand, is_set, nothing_learnt, saw}
+use Rattle.job_traces.specs.Runs.{with_attempt, with_commit, with_driver}
+use Rattle.s3_types.specs.Answer.{answer}
+use Rattle.s3_types.specs.Moment.{IsHonestOutcome, effect}
+use Rattle.s3_types.specs.Store.{Content, Scene, Upload}
+use Rattle.s3_types.specs.declared.journal.Entry.{Entry}
+use Rattle.s3_types.specs.declared.journal.Outcome.{Outcome}
+use Rattle.s3_types.specs.declared.request.Actor.TheVariants.{Driver}
+use Rattle.s3_types.specs.declared.request.Request.{Request}
+use Rattle.std.specs.Prelude.{Bool, List, Some, cond, false, map, nat_le, nat_lt, true, ℕ, [], ◌&&◌, ◌++◌, ◌<◌, ◌^◌, ◌||◌, ◌∷◌, ◌≡◌, ◌≤◌}
 use Rattle.twin_facts.specs.Names.{Ids}
 
 pub data Side : Type 0 where
@@ -13,7 +25,8 @@ is_side First First = true
 is_side Second Second = true
 is_side _ _ = false
 
--- an entry, with the side that sent it: its event is numbered as that side counts its own, and the other side reads it under a number of its own
+-- an entry, with the side that sent it: its event is numbered as that side counts its own, and the other side reads it under a number of
+-- its own
 pub record TwinEntry : Type 0 where
   pub side : Side
   pub entry : Entry
@@ -23,7 +36,8 @@ pub record TwinEntry : Type 0 where
 
 -- after an entry of the driver, which is at this
 abbrev pub driver_saw : Setting → Times → Stand → Operation → ℕ → Request → Outcome → Stand
-driver_saw g k x op n r o = with_commit (with_driver (saw g k x (driver_entry n r o)) (tells g (who Driver) op o)) (commit_with op x.commit (driver_entry n r o))
+driver_saw g k x op n r o = with_commit (with_driver (saw g k x (driver_entry n r o)) (tells g (who Driver) op o))
+    (commit_with op x.commit (driver_entry n r o))
 
 -- after one of an attempt
 abbrev pub attempt_saw : Setting → Times → Stand → Who → Operation → ℕ → Request → Outcome → Stand
@@ -35,9 +49,12 @@ observed g k x n e = saw g k x (strange_entry n e.request e.outcome)
 
 -- an actor of the side sends what its operation asks, and hears an outcome
 pub data Sends (g : Setting) (k : Times) : Stand → Entry → Stand → Type 0 where
-  driver_sends : (x : Stand) (op : Operation) (n : ℕ) (r : Request) (o : Outcome) → x.driver ≡ Some op → asks g (who Driver) nothing_learnt op ≡ Some r → IsTimely k n op → x.seen.scene.content.next ≤ 2 ^ 64 → IsHonestOutcome o (answer x.seen.scene r)
+  driver_sends : (x : Stand) (op : Operation) (n : ℕ) (r : Request) (o : Outcome) → x.driver ≡ Some op
+      → asks g (who Driver) nothing_learnt op ≡ Some r → IsTimely k n op → x.seen.scene.content.next ≤ 2 ^ 64
+      → IsHonestOutcome o (answer x.seen.scene r)
       → Sends g k x (driver_entry n r o) (driver_saw g k x op n r o)
-  attempt_sends : (x : Stand) (a : Who) (op : Operation) (n : ℕ) (r : Request) (o : Outcome) → is_set x.driver ≡ true → x.attempts a ≡ Some op → asks g a (known x.told a) op ≡ Some r → IsHonestOutcome o (answer x.seen.scene r)
+  attempt_sends : (x : Stand) (a : Who) (op : Operation) (n : ℕ) (r : Request) (o : Outcome) → is_set x.driver ≡ true
+      → x.attempts a ≡ Some op → asks g a (known x.told a) op ≡ Some r → IsHonestOutcome o (answer x.seen.scene r)
       → Sends g k x (entry a n r o) (attempt_saw g k x a op n r o)
 
 -- ---- two sides
@@ -55,7 +72,8 @@ drawn_by s r o id = nat_le s.content.next id && nat_lt id (effect s r o).content
 
 abbrev pub drew_from : Side → Scene → List TwinEntry → Ids
 drew_from side s [] id = false
-drew_from side s (t ∷ ts) id = (is_side side t.side && drawn_by s t.entry.request t.entry.outcome id) || drew_from side (effect s t.entry.request t.entry.outcome) ts id
+drew_from side s (t ∷ ts) id = (is_side side t.side && drawn_by s t.entry.request t.entry.outcome id) || drew_from side
+    (effect s t.entry.request t.entry.outcome) ts id
 
 -- the uploads that a side drew
 abbrev pub drew : Side → Content → List TwinEntry → Ids
@@ -64,10 +82,14 @@ drew side opening es = drew_from side (nothing_seen opening).scene es
 -- A run of two jobs over this content, with these times of each: its entries so far, and where both stand.
 pub data TwinRun (g h : Setting) (k l : Times) (opening : Content) : List TwinEntry → Stand → Stand → Type 0 where
   twins_begin : TwinRun g h k l opening [] (first_stand opening k.clean) (first_stand opening l.clean)
-  first_begins : (es : List TwinEntry) (x y : Stand) (b : Beginning) → TwinRun g h k l opening es x y → MayBegin g x b → TwinRun g h k l opening es (begin g x b) y
-  second_begins : (es : List TwinEntry) (x y : Stand) (b : Beginning) → TwinRun g h k l opening es x y → MayBegin h y b → TwinRun g h k l opening es x (begin h y b)
-  first_sends : (es : List TwinEntry) (x y z : Stand) (e : Entry) (n : ℕ) → TwinRun g h k l opening es x y → Sends g k x e z → TwinRun g h k l opening (es ++ record { side = First; entry = e; theirs = n } ∷ []) z (observed h l y n e)
-  second_sends : (es : List TwinEntry) (x y z : Stand) (e : Entry) (n : ℕ) → TwinRun g h k l opening es x y → Sends h l y e z → TwinRun g h k l opening (es ++ record { side = Second; entry = e; theirs = n } ∷ []) (observed g k x n e) z
+  first_begins : (es : List TwinEntry) (x y : Stand) (b : Beginning) → TwinRun g h k l opening es x y → MayBegin g x b
+      → TwinRun g h k l opening es (begin g x b) y
+  second_begins : (es : List TwinEntry) (x y : Stand) (b : Beginning) → TwinRun g h k l opening es x y → MayBegin h y b
+      → TwinRun g h k l opening es x (begin h y b)
+  first_sends : (es : List TwinEntry) (x y z : Stand) (e : Entry) (n : ℕ) → TwinRun g h k l opening es x y → Sends g k x e z
+      → TwinRun g h k l opening (es ++ record { side = First; entry = e; theirs = n } ∷ []) z (observed h l y n e)
+  second_sends : (es : List TwinEntry) (x y z : Stand) (e : Entry) (n : ℕ) → TwinRun g h k l opening es x y → Sends h l y e z
+      → TwinRun g h k l opening (es ++ record { side = Second; entry = e; theirs = n } ∷ []) (observed g k x n e) z
 
 -- two sides that share their destination, and a content that they may begin with
 pub record IsTwinOpening (g h : Setting) (c : Content) : Type 0 where

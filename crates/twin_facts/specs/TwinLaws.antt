@@ -1,14 +1,31 @@
 -- What readers of a destination may rely on while two jobs go on there.
-use Rattle.std.specs.Prelude.{◌≡◌, ℕ, ◌≤◌, ◌⊎◌, ◌&&◌, Bool, true, false, cond, List, [], ◌∷◌, length, map, take, Some, None}
-use Rattle.job_facts.specs.Prelude.{list_any, text_eq, Content, bucket_of, is_effective, Object, Request, Entry, changed_keys, success_key}
-use Rattle.job_facts.specs.Prelude.{Script, IsLegal, Mode, Replace, Picks, wanted_at, is_picked, is_clash, is_decided, mark_text, view}
-use Rattle.job_facts.specs.Prelude.{Setting, Seen, is_marking, Hold, IsKnown, Times}
-use Rattle.job_protocol.specs.View.{Shown, object_at}
-use Rattle.twin_facts.specs.Names.{IsStranger}
-use Rattle.twin_facts.specs.Laws.{AreTwins}
+use Rattle.basics.specs.Order.{text_eq}
+use Rattle.job_facts.specs.Facts.{Hold}
+use Rattle.job_facts.specs.Stores.{IsKnown}
+use Rattle.job_model.specs.JobScript.{Script}
+use Rattle.job_model.specs.Legal.{IsLegal}
+use Rattle.job_protocol.specs.Operations.{Setting}
+use Rattle.job_protocol.specs.Outputs.{Picks, is_clash, is_decided, is_picked, wanted_at}
+use Rattle.job_protocol.specs.Records.{mark_text}
+use Rattle.job_protocol.specs.Seen.{Seen, Times, is_marking}
+use Rattle.job_protocol.specs.View.{Shown, object_at, view}
+use Rattle.job_spec.specs.Ends.{is_driver}
 use Rattle.job_traces.specs.Runs.{Stand, is_set}
-use Rattle.twin_facts.specs.Sides.{Side, First, Second, is_side, TwinEntry, Sends, drew, TwinRun, IsTwinOpening}
-use Rattle.job_spec.specs.Prelude.{is_driver}
+use Rattle.magic_paths.specs.Layout.{success_key}
+use Rattle.s3_types.specs.Answer.{bucket_of}
+use Rattle.s3_types.specs.Moment.{is_effective}
+use Rattle.s3_types.specs.Store.{Content}
+use Rattle.s3_types.specs.declared.journal.Entry.{Entry}
+use Rattle.s3_types.specs.declared.object.Object.{Object}
+use Rattle.s3_types.specs.declared.request.Mode.{Mode}
+use Rattle.s3_types.specs.declared.request.Mode.TheVariants.{Replace}
+use Rattle.s3_types.specs.declared.request.Request.{Request}
+use Rattle.std.specs.List.{list_any}
+use Rattle.std.specs.Prelude.{Bool, List, None, Some, cond, false, length, map, take, true, ℕ, [], ◌&&◌, ◌∷◌, ◌≡◌, ◌≤◌, ◌⊎◌}
+use Rattle.store_frame.specs.Frame.{changed_keys}
+use Rattle.twin_facts.specs.Laws.{AreTwins}
+use Rattle.twin_facts.specs.Names.{IsStranger}
+use Rattle.twin_facts.specs.Sides.{First, IsTwinOpening, Second, Sends, Side, TwinEntry, TwinRun, drew, is_side}
 
 -- what counts of a side's wanted files: nothing until each of its tasks has a pick and no two write one path
 abbrev pub counted : Script → Picks → Shown
@@ -18,10 +35,12 @@ counted w picks p = cond (is_decided w picks) (wanted_at w picks p) None
 abbrev pub Gives : Script → Seen → List ℕ → List ℕ → Type 0
 Gives w s p b = (s.begun ≡ true) × (counted w s.picks p ≡ Some b)
 
--- Each path of the view has its opening bytes, or those of the wanted files of a side whose commit has begun; and each opening path that is in neither's stands with its opening bytes.
+-- Each path of the view has its opening bytes, or those of the wanted files of a side whose commit has begun; and each opening path that is
+-- in neither's stands with its opening bytes.
 pub record Shows (w v : Script) (opening c : Content) (s t : Seen) : Type 0 where
   pub only : (p b : List ℕ) → view w.dest c p ≡ Some b → (view w.dest opening p ≡ Some b) ⊎ (Gives w s p b ⊎ Gives v t p b)
-  pub kept : (p b : List ℕ) → view w.dest opening p ≡ Some b → counted w s.picks p ≡ None → counted v t.picks p ≡ None → view w.dest c p ≡ Some b
+  pub kept : (p b : List ℕ) → view w.dest opening p ≡ Some b → counted w s.picks p ≡ None → counted v t.picks p ≡ None
+      → view w.dest c p ≡ Some b
 
 -- ---- the marker
 
@@ -30,14 +49,16 @@ abbrev pub touches_mark : Script → Request → Bool
 touches_mark w r = text_eq (bucket_of r) w.dest.bucket && list_any (text_eq (success_key w.dest.key)) (changed_keys r)
 
 abbrev pub marks_by : Script → Side → Bool → TwinEntry → Bool
-marks_by w side b e = cond (is_effective e.entry.outcome && touches_mark w e.entry.request) (is_side side e.side && (is_driver e.entry.actor && is_marking w e.entry.request)) b
+marks_by w side b e = cond (is_effective e.entry.outcome && touches_mark w e.entry.request)
+    (is_side side e.side && (is_driver e.entry.actor && is_marking w e.entry.request)) b
 
 -- the last put or deletion of it that took effect is a put by the driver of this side
 abbrev pub is_marked_by : Script → Side → Bool → List TwinEntry → Bool
 is_marked_by w side b [] = b
 is_marked_by w side b (e ∷ es) = is_marked_by w side (marks_by w side b e) es
 
--- Each task of the side has a pick, no two write one path, each of its wanted files that is not the other's stands, and so does the marker, which says so.
+-- Each task of the side has a pick, no two write one path, each of its wanted files that is not the other's stands, and so does the marker,
+-- which says so.
 pub record Marked (w v : Script) (c : Content) (mine others : Picks) : Type 0 where
   pub picked : is_picked w mine ≡ true
   pub apart : is_clash w mine ≡ false
@@ -60,7 +81,8 @@ pub record MayBeTwins (w v : Script) : Type 0 where
 
 -- so it is in every run of two such jobs, with these events of their commits, from any content
 abbrev pub InEachRun : ((g h : Setting) (k l : Times) (opening : Content) (es : List TwinEntry) (x y : Stand) → Type 0) → Type 0
-InEachRun P = (g h : Setting) → MayBeTwins g.script h.script → (k l : Times) (opening : Content) → IsTwinOpening g h opening → (es : List TwinEntry) (x y : Stand) → TwinRun g h k l opening es x y → P g h k l opening es x y
+InEachRun P = (g h : Setting) → MayBeTwins g.script h.script → (k l : Times) (opening : Content) → IsTwinOpening g h opening
+    → (es : List TwinEntry) (x y : Stand) → TwinRun g h k l opening es x y → P g h k l opening es x y
 
 -- what readers are shown, and what the marker says
 pub record AreShown (g h : Setting) (opening : Content) (es : List TwinEntry) (x y : Stand) : Type 0 where
@@ -88,7 +110,8 @@ AllTwinsKeep = InEachRun TwinsKeep
 
 -- each moment of such a run is the end of one
 abbrev pub TwinMoments : Type 0
-TwinMoments = (g h : Setting) (k l : Times) (opening : Content) (es : List TwinEntry) (x y : Stand) → TwinRun g h k l opening es x y → (m : ℕ) → m ≤ length es
+TwinMoments = (g h : Setting) (k l : Times) (opening : Content) (es : List TwinEntry) (x y : Stand) → TwinRun g h k l opening es x y
+    → (m : ℕ) → m ≤ length es
     → (u v : Stand) × TwinRun g h k l opening (take m es) u v
 
 -- ---- which side is the first
@@ -102,4 +125,5 @@ turned_entry e = record { side = other_side e.side; entry = e.entry; theirs = e.
 
 -- a run of two jobs is one of them in the other order
 abbrev pub TwinsTurn : Type 0
-TwinsTurn = (g h : Setting) (k l : Times) (opening : Content) (es : List TwinEntry) (x y : Stand) → TwinRun g h k l opening es x y → TwinRun h g l k opening (map turned_entry es) y x
+TwinsTurn = (g h : Setting) (k l : Times) (opening : Content) (es : List TwinEntry) (x y : Stand) → TwinRun g h k l opening es x y
+    → TwinRun h g l k opening (map turned_entry es) y x

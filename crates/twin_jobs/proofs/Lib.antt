@@ -5,4 +5,3 @@ pub mod Playing
 pub mod Whole
 pub mod Turning
 pub mod Starting
-mod Common

@@ -1,7 +1,19 @@
 -- The numbers of the events of each side, and how many there are.
-use Rattle.twin_jobs.proofs.Common.{Bool, First, List, Second, Side, Some, [], ap, arith, cond, events_of, false, first_count, is_same, length, list_any, mine, nat_eq, nat_false, nat_true, none_some, not, number_in, other_of, others_in, refl, second_count, sides_in, slice_get, slice_get_within, some_is, subst, suc, sym, take, take_more, there, true, zero, ℕ, ◌++◌, ◌+◌, ◌<◌, ◌∙◌, ◌∷◌, ◌≡◌, ◌≤◌}
-use Rattle.std.specs.Prelude.{replicate, sum_by}
+use Rattle.basics.proofs.Members.{nat_false, nat_true, none_some, some_is}
+use Rattle.job_side.proofs.Firsts.{take_more}
+use Rattle.job_side.proofs.Places.{there}
+use Rattle.job_spec.specs.Eyes.{number_in}
+use Rattle.std.proofs.Common.{Bool, List, Some, ap, arith, cond, false, length, nat_eq, not, refl, slice_get, subst, suc, sym, take, true}
+use Rattle.std.proofs.Common.{zero, ℕ, [], ◌++◌, ◌+◌, ◌<◌, ◌∙◌, ◌∷◌, ◌≡◌, ◌≤◌}
 use Rattle.std.proofs.lemmas.List.Sums.{sum_by-cons}
+use Rattle.std.proofs.lemmas.Option.{slice_get_within}
+use Rattle.std.specs.List.{list_any}
+use Rattle.std.specs.Prelude.{replicate, sum_by}
+use Rattle.twin_jobs.specs.Order.{events_of, is_same, other_of, others_in}
+use Rattle.twin_jobs.specs.Worlds.{mine}
+use Rattle.twin_script.specs.TwinScripts.{first_count, second_count, sides_in}
+use Rattle.twin_script.specs.declared.turns.Side.{Side}
+use Rattle.twin_script.specs.declared.turns.Side.TheVariants.{First, Second}
 use Rattle.twin_script.specs.declared.turns.TwinTurn.{TwinTurn}
 
 -- ---- whose an event is
@@ -21,7 +33,8 @@ none_below side m n (s ∷ sides) below =
     ]
 
 -- the event at a place is another's, or is not
-is_among : (side s : Side) (m i : ℕ) (sides : List Side) → slice_get sides i ≡ Some s → list_any (λ k. nat_eq k (m + i)) (others_in side m sides) ≡ not (is_same side s)
+is_among : (side s : Side) (m i : ℕ) (sides : List Side) → slice_get sides i ≡ Some s
+    → list_any (λ k. nat_eq k (m + i)) (others_in side m sides) ≡ not (is_same side s)
 is_among side s m i [] e = absurd (none_some refl e)
 is_among side s m zero (x ∷ sides) e =
     rw (sym (some_is e))
@@ -29,7 +42,8 @@ is_among side s m zero (x ∷ sides) e =
     [ true ↦ none_below side (m + 1) (m + 0) sides (omega arith) | false ↦ rw (nat_true m (m + 0) (omega arith)) refl ])
 is_among side s m (suc i) (x ∷ sides) e =
     let over : m + 1 + i ≡ m + suc i = omega arith in
-    let rest = subst (λ n. list_any (λ k. nat_eq k n) (others_in side (m + 1) sides) ≡ not (is_same side s)) over (is_among side s (m + 1) i sides e) in
+    let rest = subst (λ n. list_any (λ k. nat_eq k n) (others_in side (m + 1) sides) ≡ not (is_same side s)) over
+    (is_among side s (m + 1) i sides e) in
     elim (is_same side x) as (λ b. list_any (λ k. nat_eq k (m + suc i)) (from b m (others_in side (m + 1) sides)) ≡ not (is_same side s))
     [ true ↦ rest | false ↦ rw (nat_false m (m + suc i) (λ q. omega (arith, q))) rest ]
 
@@ -37,7 +51,8 @@ is_among side s m (suc i) (x ∷ sides) e =
 pub mine_at : (side s : Side) (i : ℕ) (sides : List Side) → slice_get sides i ≡ Some s → mine sides side (i + 1) ≡ is_same side s
 mine_at side s i sides e =
     let over : 1 + i ≡ i + 1 = omega arith in
-    subst (λ n. mine sides side n ≡ is_same side s) over (ap not (is_among side s 1 i sides e) ∙ elim (is_same side s) as (λ b. not (not b) ≡ b) [ true ↦ refl | false ↦ refl ])
+    subst (λ n. mine sides side n ≡ is_same side s) over (ap not (is_among side s 1 i sides e) ∙ elim (is_same side s) as
+    (λ b. not (not b) ≡ b) [ true ↦ refl | false ↦ refl ])
 
 same_other : (side s : Side) → is_same (other_of side) s ≡ not (is_same side s)
 same_other First First = refl
@@ -64,7 +79,8 @@ opposite side (suc i) sides some few =
 abbrev more : Bool → ℕ → ℕ
 more b n = cond b (n + 1) n
 
-events_more : (side s : Side) (sides : List Side) → events_of side (sides ++ s ∷ []) ≡ cond (is_same side s) (events_of side sides + 1) (events_of side sides)
+events_more : (side s : Side) (sides : List Side) → events_of side (sides ++ s ∷ []) ≡ cond (is_same side s) (events_of side sides + 1)
+    (events_of side sides)
 events_more side s [] = refl
 events_more side s (x ∷ sides) = ap (more (is_same side x)) (events_more side s sides) ∙ by (is_same side x) (is_same side s)
   where
@@ -74,13 +90,15 @@ events_more side s (x ∷ sides) = ap (more (is_same side x)) (events_more side 
     by _ false = refl
 
 -- those up to a number are those of the front
-pub number_front : (side : Side) (n : ℕ) (sides : List Side) → n ≤ length sides → number_in (mine sides side) n ≡ events_of side (take n sides)
+pub number_front : (side : Side) (n : ℕ) (sides : List Side) → n ≤ length sides
+    → number_in (mine sides side) n ≡ events_of side (take n sides)
 number_front side zero sides few = refl
 number_front side (suc n) sides few =
     let h = there sides n (omega (arith, few)) in
     let over : n + 1 ≡ suc n = omega arith in
     let before : n ≤ length sides = omega (arith, few) in
-    ap (λ b. more b (number_in (mine sides side) n)) (ap (mine sides side) (sym over) ∙ mine_at side h.0 n sides h.1) ∙ ap (more (is_same side h.0))
+    ap (λ b. more b (number_in (mine sides side) n)) (ap (mine sides side) (sym over) ∙ mine_at side h.0 n sides h.1) ∙ ap
+    (more (is_same side h.0))
     (number_front side n sides before)
     ∙ sym (events_more side h.0 (take n sides)) ∙ ap (events_of side) (sym (take_more sides n h.0 h.1))
 
@@ -89,20 +107,24 @@ front_few side zero sides = omega arith
 front_few side (suc n) [] = omega arith
 front_few side (suc n) (s ∷ sides) =
     let h = front_few side n sides in
-    elim (is_same side s) as (λ b. more b (events_of side (take n sides)) ≤ more b (events_of side sides)) [ true ↦ omega (arith, h) | false ↦ h ]
+    elim (is_same side s) as (λ b. more b (events_of side (take n sides)) ≤ more b (events_of side sides))
+    [ true ↦ omega (arith, h) | false ↦ h ]
 
 -- where the side's turn is next there are more of its events than were played
-pub more_left : (side : Side) (n : ℕ) (sides : List Side) → slice_get sides n ≡ Some side → number_in (mine sides side) n < events_of side sides
+pub more_left : (side : Side) (n : ℕ) (sides : List Side) → slice_get sides n ≡ Some side
+    → number_in (mine sides side) n < events_of side sides
 more_left side n sides e =
     let inside = slice_get_within sides n side e in
     let next : events_of side (take (suc n) sides) ≡ events_of side (take n sides) + 1 =
-    ap (events_of side) (take_more sides n side e) ∙ events_more side side (take n sides) ∙ ap (λ b. more b (events_of side (take n sides))) (same_self side) in
+    ap (events_of side) (take_more sides n side e) ∙ events_more side side (take n sides) ∙ ap (λ b. more b (events_of side (take n sides)))
+    (same_self side) in
     omega (arith, next, front_few side (suc n) sides, number_front side n sides (omega (arith, inside)))
 
 -- each of the first events is one side's or the other's
 pub all_numbers : (n : ℕ) (sides : List Side) → n ≤ length sides → number_in (mine sides First) n + number_in (mine sides Second) n ≡ n
 all_numbers zero sides few = refl
-all_numbers (suc n) sides few = by (mine sides First (suc n)) (mine sides Second (suc n)) (opposite First (suc n) sides (omega arith) few) (all_numbers n sides (omega (arith, few)))
+all_numbers (suc n) sides few = by (mine sides First (suc n)) (mine sides Second (suc n)) (opposite First (suc n) sides (omega arith) few)
+    (all_numbers n sides (omega (arith, few)))
   where
     by : (b c : Bool) → c ≡ not b → number_in (mine sides First) n + number_in (mine sides Second) n ≡ n
         → more b (number_in (mine sides First) n) + more c (number_in (mine sides Second) n) ≡ suc n
@@ -117,12 +139,14 @@ events_append : (side : Side) (a b : List Side) → events_of side (a ++ b) ≡ 
 events_append side [] b = let none : events_of side b ≡ 0 + events_of side b = omega arith in none
 events_append side (s ∷ a) b =
     let h = events_append side a b in
-    elim (is_same side s) as (λ c. more c (events_of side (a ++ b)) ≡ more c (events_of side a) + events_of side b) [ true ↦ omega (arith, h) | false ↦ h ]
+    elim (is_same side s) as (λ c. more c (events_of side (a ++ b)) ≡ more c (events_of side a) + events_of side b)
+    [ true ↦ omega (arith, h) | false ↦ h ]
 
 events_replicate : (side s : Side) (n : ℕ) → events_of side (replicate n s) ≡ cond (is_same side s) n 0
 events_replicate side s zero = elim (is_same side s) as (λ b. ◌≡◌ {A = ℕ} 0 (cond b 0 0)) [ true ↦ refl | false ↦ refl ]
 events_replicate side s (suc n) =
-    ap (more (is_same side s)) (events_replicate side s n) ∙ elim (is_same side s) as (λ b. more b (cond b n 0) ≡ cond b (suc n) 0) [ true ↦ omega arith | false ↦ refl ]
+    ap (more (is_same side s)) (events_replicate side s n) ∙ elim (is_same side s) as (λ b. more b (cond b n 0) ≡ cond b (suc n) 0)
+    [ true ↦ omega arith | false ↦ refl ]
 
 -- how many events a turn asks of a side
 abbrev pub count_of : Side → TwinTurn → ℕ

@@ -1,13 +1,44 @@
 -- What a side that rests says of its job's run, and what another's event leaves of it.
-use Rattle.twin_jobs.proofs.Common.{Actor, AllByRecursion, AreOf, AreOwn, Body, Bool, Content, Drawn, Entry, EventEnd, IsAmong, IsOpening, IsTwinOpening, Known, List, MayBeTwins, None, Option, Pick, Play, Quiet, Request, RestsOne, RestsShared, Running, Scene, Script, Setting, Shared, Side, Some, TwinRun, Who, [], actor_of, after_all, ap, arith, both_of, by_actor, eyes, false, in_eyes, is_mine, knows, knows_of, length, mine, not, other_of, over, refl, setting, setting_of, slice_get, slice_get_within, subst, sym, take_whole, times, true, who, ℕ, ◌++◌, ◌+◌, ◌∙◌, ◌∷◌, ◌≡◌, ◌≤◌}
-use Rattle.job_traces.specs.Runs.{Runs, Stand}
-use Rattle.job_traces.proofs.Changes.{after_parts, moment_scene}
-use Rattle.job_steps.proofs.Running.{is_run}
+use Rattle.job_model.specs.Attempts.{Who, actor_of}
+use Rattle.job_model.specs.JobScript.{Script}
+use Rattle.job_model.specs.Known.{Drawn, Known}
+use Rattle.job_model.specs.declared.ends.EventEnd.{EventEnd}
+use Rattle.job_model.specs.declared.ends.Pick.{Pick}
+use Rattle.job_protocol.specs.Knowledge.{knows}
+use Rattle.job_protocol.specs.Operations.{Running, Setting, who}
 use Rattle.job_safety.proofs.Ending.{ahead_none}
-use Rattle.job_side.specs.Beside.{AreForeign}
 use Rattle.job_side.proofs.Beside.{rests_beside}
-use Rattle.twin_jobs.proofs.Numbers.{mine_at, opposite, same_self}
+use Rattle.job_side.specs.Beside.{AreForeign}
+use Rattle.job_side.specs.Events.{knows_of}
+use Rattle.job_side.specs.Holds.{AreOf, Quiet, is_mine, setting_of}
+use Rattle.job_side.specs.declared.body.Body.{Body}
+use Rattle.job_side.specs.declared.body.Shared.{Shared}
+use Rattle.job_spec.specs.Entries.{AreOwn}
+use Rattle.job_spec.specs.Eyes.{in_eyes}
+use Rattle.job_spec.specs.States.{times}
+use Rattle.job_spec.specs.Turns.{by_actor}
+use Rattle.job_steps.proofs.Parts.{take_whole}
+use Rattle.job_steps.proofs.Running.{is_run}
+use Rattle.job_steps.specs.Transitions.{Play}
+use Rattle.job_traces.proofs.Changes.{after_parts, moment_scene}
+use Rattle.job_traces.specs.Runs.{IsOpening, Runs, Stand}
+use Rattle.s3_types.specs.Moment.{after_all}
+use Rattle.s3_types.specs.Store.{Content, Scene}
+use Rattle.s3_types.specs.declared.journal.Entry.{Entry}
+use Rattle.s3_types.specs.declared.request.Actor.{Actor}
+use Rattle.s3_types.specs.declared.request.Request.{Request}
+use Rattle.std.proofs.Common.{Bool, List, None, Option, Some, ap, arith, false, length, not, refl, slice_get, subst, sym, true, ℕ, [], ◌++◌}
+use Rattle.std.proofs.Common.{◌+◌, ◌∙◌, ◌∷◌, ◌≡◌, ◌≤◌}
+use Rattle.std.proofs.lemmas.Option.{slice_get_within}
+use Rattle.std.specs.List.{AllByRecursion}
+use Rattle.twin_facts.specs.Sides.{IsTwinOpening, TwinRun, eyes}
+use Rattle.twin_facts.specs.TwinLaws.{MayBeTwins}
 use Rattle.twin_jobs.proofs.Eyes.{AreApart, actors, after_eyes, appended, by_first, first_eyes, foreign_by, own_on, second_eyes}
+use Rattle.twin_jobs.proofs.Numbers.{mine_at, opposite, same_self}
+use Rattle.twin_jobs.specs.Order.{other_of}
+use Rattle.twin_jobs.specs.Pairs.{IsAmong, RestsOne, RestsShared, over}
+use Rattle.twin_jobs.specs.Worlds.{both_of, mine, setting}
+use Rattle.twin_script.specs.declared.turns.Side.{Side}
 use Rattle.s3_types.specs.Store as store
 use Rattle.job_side.specs.declared.body.Side as body
 use Rattle.twin_facts.specs.Sides as two
@@ -18,30 +49,44 @@ use Rattle.twin_facts.proofs.Joining as joining
 
 -- a job and another are so in the other order
 pub twins_turned : (w v : Script) → MayBeTwins w v → MayBeTwins v w
-twins_turned w v m = record { first = m.second; second = m.first; twins = record { dest = sym m.twins.dest; jobs = λ e. m.twins.jobs (sym e) }; keeps_first = m.keeps_second; keeps_second = m.keeps_first }
+twins_turned w v m = record {
+  first = m.second;
+  second = m.first;
+  twins = record
+      { dest = sym m.twins.dest; jobs = λ e. m.twins.jobs (sym e) };
+  keeps_first = m.keeps_second;
+  keeps_second = m.keeps_first;
+}
 
 -- entries of events that were played are of one side or the other
-pub apart : (name : Side) (sides : List Side) (n : ℕ) (es : List Entry) → n ≤ length sides → AllByRecursion (IsAmong n) es → AreApart (mine sides name) (mine sides (other_of name)) es
+pub apart : (name : Side) (sides : List Side) (n : ℕ) (es : List Entry) → n ≤ length sides → AllByRecursion (IsAmong n) es
+    → AreApart (mine sides name) (mine sides (other_of name)) es
 apart name sides n [] few h = tt
 apart name sides n (e ∷ es) few h = (opposite name e.event sides h.0.0 (omega (arith, h.0.1, few)), apart name sides n es few h.1)
 
-pub among_more : (n : ℕ) (es fs : List Entry) → AllByRecursion (IsAmong n) es → AreOf (n + 1) fs → AllByRecursion (IsAmong (n + 1)) (es ++ fs)
+pub among_more : (n : ℕ) (es fs : List Entry) → AllByRecursion (IsAmong n) es → AreOf (n + 1) fs
+    → AllByRecursion (IsAmong (n + 1)) (es ++ fs)
 among_more n [] [] h g = tt
 among_more n [] (f ∷ fs) h g = ((omega (arith, g.0.0), omega (arith, g.0.0)), among_more n [] fs tt g.1)
 among_more n (e ∷ es) fs h g = ((h.0.0, omega (arith, h.0.1)), among_more n es fs h.1 g)
 
 -- what is shared, once an event was played
-pub shared_more : (sides : List Side) (name : Side) (s t : Shared) (part : List Entry) → RestsShared sides s → slice_get sides s.events ≡ Some name → t.events ≡ s.events + 1 → t.journal.entries ≡ s.journal.entries ++ part → AreOf (s.events + 1) part → RestsShared sides t
+pub shared_more : (sides : List Side) (name : Side) (s t : Shared) (part : List Entry) → RestsShared sides s
+    → slice_get sides s.events ≡ Some name → t.events ≡ s.events + 1 → t.journal.entries ≡ s.journal.entries ++ part
+    → AreOf (s.events + 1) part → RestsShared sides t
 shared_more sides name s t part r turn events more are = record {
   own = subst AreOwn (sym more) (own_on (s.events + 1) s.journal.entries part r.own are);
-  among = subst (λ n. AllByRecursion (IsAmong n) t.journal.entries) (sym events) (subst (AllByRecursion (IsAmong (s.events + 1))) (sym more) (among_more s.events s.journal.entries part r.among are));
+  among = subst (λ n. AllByRecursion (IsAmong n) t.journal.entries) (sym events)
+      (subst (AllByRecursion (IsAmong (s.events + 1))) (sym more) (among_more s.events s.journal.entries part r.among are));
   few = omega (arith, events, slice_get_within sides s.events name turn);
   short = r.short;
 }
 
-module _ {W : Type 0} (wants : W → Option Request) (is_of : Setting → Actor → W → Type 0) (running : Known → W → Running) (picks_of : W → Option (List Pick)) where
+module _ {W : Type 0} (wants : W → Option Request) (is_of : Setting → Actor → W → Type 0) (running : Known → W → Running)
+    (picks_of : W → Option (List Pick)) where
   -- the store is as the whole journal leaves it
-  pub plain_scene : (b : Body W) → Quiet wants is_of running picks_of b → b.shared.store.scene ≡ after_all (store.opening b.shared.opening) b.shared.journal.entries
+  pub plain_scene : (b : Body W) → Quiet wants is_of running picks_of b
+      → b.shared.store.scene ≡ after_all (store.opening b.shared.opening) b.shared.journal.entries
   plain_scene b q =
       q.holds.scene ∙ ap (after_all (store.opening b.shared.opening)) (take_whole q.holds.play.journal ∙ sym q.holds.journal)
       ∙ after_eyes (is_mine b.side.others.items) (store.opening b.shared.opening) b.shared.journal.entries
@@ -51,13 +96,16 @@ module _ {W : Type 0} (wants : W → Option Request) (is_of : Setting → Actor 
   -- the run of a side's job, as it reads the journal
   pub record SideRun (sides : List Side) (name : Side) (s : body.Side W) (shared : Shared) : Type 0 where
     pub stand : Stand
-    pub runs : Runs (setting s.script shared.opening) (times s.script s.ends.items) shared.opening (in_eyes (mine sides name) shared.journal.entries) stand
+    pub runs : Runs (setting s.script shared.opening) (times s.script s.ends.items) shared.opening
+        (in_eyes (mine sides name) shared.journal.entries) stand
     pub scene : shared.store.scene ≡ stand.seen.scene
     pub drawn : ◌≡◌ {A = Who → List Drawn} (λ a. (knows_of (over s shared) (actor_of a)).drawn) stand.told.drawn
 
   -- in the words of a run
-  pub in_words : (P : Setting → List Entry → List EventEnd → Type 0) (sides : List Side) (name : Side) (s : body.Side W) (shared : Shared) (r : RestsOne wants is_of running picks_of sides name s shared)
-      → P (setting_of (over s shared)) r.quiet.holds.play.journal r.quiet.holds.play.ends → P (setting s.script shared.opening) (in_eyes (mine sides name) shared.journal.entries) s.ends.items
+  pub in_words : (P : Setting → List Entry → List EventEnd → Type 0) (sides : List Side) (name : Side) (s : body.Side W) (shared : Shared)
+      (r : RestsOne wants is_of running picks_of sides name s shared)
+      → P (setting_of (over s shared)) r.quiet.holds.play.journal r.quiet.holds.play.ends
+      → P (setting s.script shared.opening) (in_eyes (mine sides name) shared.journal.entries) s.ends.items
   in_words P sides name s shared r h =
       let g : Bool → Setting = λ b. record { script = s.script; minimum = shared.opening.minimum; shared = b } in
       let es = shared.journal.entries in
@@ -69,7 +117,8 @@ module _ {W : Type 0} (wants : W → Option Request) (is_of : Setting → Actor 
   pub idle : (b : Body W) (q : Quiet wants is_of running picks_of b) → q.holds.play.now ≡ None
   idle b q = sym q.holds.now ∙ q.idle
 
-  pub side_run : (sides : List Side) (name : Side) (s : body.Side W) (shared : Shared) → RestsOne wants is_of running picks_of sides name s shared → SideRun sides name s shared
+  pub side_run : (sides : List Side) (name : Side) (s : body.Side W) (shared : Shared)
+      → RestsOne wants is_of running picks_of sides name s shared → SideRun sides name s shared
   side_run sides name s shared r =
       let q = r.quiet in
       let g : Setting = setting_of (over s shared) in
@@ -78,7 +127,8 @@ module _ {W : Type 0} (wants : W → Option Request) (is_of : Setting → Actor 
       record {
         stand = run.stand;
         runs = in_words (λ g es xs. Runs g (times s.script xs) shared.opening es run.stand) sides name s shared r run.runs;
-        scene = q.holds.scene ∙ moment_scene g (times s.script x.ends) shared.opening q.holds.legal q.holds.opens x.journal run.stand run.runs;
+        scene = q.holds.scene ∙ moment_scene g (times s.script x.ends) shared.opening q.holds.legal q.holds.opens x.journal run.stand
+            run.runs;
         drawn = λ i a. ((ap (λ es. knows s.script (who (actor_of a)) (by_actor (actor_of a) es)) q.holds.journal ∙ run.knows a) i).drawn;
       }
 
@@ -87,10 +137,14 @@ module _ {W : Type 0} (wants : W → Option Request) (is_of : Setting → Actor 
   opens_both : (w v : Script) (c : Content) → IsOpening (setting w c) c → IsTwinOpening (setting w c) (setting v c) c
   opens_both w v c o = record { shared_first = refl; shared_second = refl; first = refl; second = refl; fresh = o.fresh }
 
-  opens_of : (sides : List Side) (name : Side) (s : body.Side W) (shared : Shared) → RestsOne wants is_of running picks_of sides name s shared → IsOpening (setting s.script shared.opening) shared.opening
-  opens_of sides name s shared r = subst (λ b. IsOpening (record { script = s.script; minimum = shared.opening.minimum; shared = b }) shared.opening) r.shares r.quiet.holds.opens
+  opens_of : (sides : List Side) (name : Side) (s : body.Side W) (shared : Shared)
+      → RestsOne wants is_of running picks_of sides name s shared → IsOpening (setting s.script shared.opening) shared.opening
+  opens_of sides name s shared r = subst (λ b. IsOpening (record { script = s.script; minimum = shared.opening.minimum; shared = b })
+      shared.opening) r.shares r.quiet.holds.opens
 
-  pub twin_opening : (sides : List Side) (s t : body.Side W) (shared : Shared) (name : Side) → RestsOne wants is_of running picks_of sides name s shared → IsTwinOpening (setting s.script shared.opening) (setting t.script shared.opening) shared.opening
+  pub twin_opening : (sides : List Side) (s t : body.Side W) (shared : Shared) (name : Side)
+      → RestsOne wants is_of running picks_of sides name s shared
+      → IsTwinOpening (setting s.script shared.opening) (setting t.script shared.opening) shared.opening
   twin_opening sides s t shared name r = opens_both s.script t.script shared.opening (opens_of sides name s shared r)
 
   module _ (sides : List Side) (name : Side) where
@@ -100,21 +154,29 @@ module _ {W : Type 0} (wants : W → Option Request) (is_of : Setting → Actor 
     abbrev theirs : ℕ → Bool
     theirs = mine sides (other_of name)
 
-    pub twin_run : (s t : body.Side W) (shared : Shared) → RestsShared sides shared → (a : SideRun sides name s shared) (b : SideRun sides (other_of name) t shared)
-        → TwinRun (setting s.script shared.opening) (setting t.script shared.opening) (times s.script s.ends.items) (times t.script t.ends.items) shared.opening (both_of (mine sides name) (mine sides (other_of name)) shared.journal.entries) a.stand b.stand
+    pub twin_run : (s t : body.Side W) (shared : Shared) → RestsShared sides shared
+        → (a : SideRun sides name s shared) (b : SideRun sides (other_of name) t shared)
+        → TwinRun (setting s.script shared.opening) (setting t.script shared.opening) (times s.script s.ends.items)
+        (times t.script t.ends.items) shared.opening (both_of (mine sides name) (mine sides (other_of name)) shared.journal.entries)
+        a.stand b.stand
     twin_run s t shared r a b =
         let g = setting s.script shared.opening in
         let h = setting t.script shared.opening in
         let es = shared.journal.entries in
-        joining.joined g h (times s.script s.ends.items) (times t.script t.ends.items) shared.opening (both_of own theirs es) (actors own theirs es r.own) a.stand b.stand
+        joining.joined g h (times s.script s.ends.items) (times t.script t.ends.items) shared.opening (both_of own theirs es)
+        (actors own theirs es r.own) a.stand b.stand
         (subst (λ l. Runs g (times s.script s.ends.items) shared.opening l a.stand) (sym (first_eyes own theirs es)) a.runs)
-        (subst (λ l. Runs h (times t.script t.ends.items) shared.opening l b.stand) (sym (second_eyes own theirs es (apart name sides shared.events es r.few r.among))) b.runs)
+        (subst (λ l. Runs h (times t.script t.ends.items) shared.opening l b.stand)
+        (sym (second_eyes own theirs es (apart name sides shared.events es r.few r.among))) b.runs)
 
     -- ---- another's event
 
     -- what one side sent in its event is foreign to the other
-    pub foreign_to : (s s1 t : body.Side W) (old new : Shared) (part : List Entry) → MayBeTwins s1.script t.script → RestsShared sides new → RestsShared sides old → new.opening ≡ old.opening → new.journal.entries ≡ old.journal.entries ++ part → AreOf (old.events + 1) part → mine sides name (old.events + 1) ≡ true
-        → (a : SideRun sides name s1 new) (opens : IsTwinOpening (setting s1.script old.opening) (setting t.script old.opening) old.opening) (b : SideRun sides (other_of name) t old)
+    pub foreign_to : (s s1 t : body.Side W) (old new : Shared) (part : List Entry) → MayBeTwins s1.script t.script → RestsShared sides new
+        → RestsShared sides old → new.opening ≡ old.opening → new.journal.entries ≡ old.journal.entries ++ part
+        → AreOf (old.events + 1) part → mine sides name (old.events + 1) ≡ true
+        → (a : SideRun sides name s1 new) (opens : IsTwinOpening (setting s1.script old.opening) (setting t.script old.opening) old.opening)
+        (b : SideRun sides (other_of name) t old)
         → AreForeign t.script (λ a. (knows_of (over t old) (actor_of a)).drawn) (old.events + 1) old.store.scene part
     foreign_to s s1 t old new part twins rn ro opening more are turn a opens b =
         let g = setting s1.script old.opening in
@@ -125,9 +187,11 @@ module _ {W : Type 0} (wants : W → Option Request) (is_of : Setting → Actor 
         let both : both_of own theirs (es ++ part) ≡ both_of own theirs es ++ both_of own theirs part = appended own theirs es part in
         let all = actors own theirs (es ++ part) (own_on (old.events + 1) es part ro.own are) in
         let moved : Runs g k old.opening (in_eyes own (es ++ part)) a.stand =
-        subst (λ fs. Runs g k old.opening (in_eyes own fs) a.stand) more (subst (λ (c : Content). Runs (setting s1.script c) k c (in_eyes own new.journal.entries) a.stand) opening a.runs) in
+        subst (λ fs. Runs g k old.opening (in_eyes own fs) a.stand) more (subst
+        (λ (c : Content). Runs (setting s1.script c) k c (in_eyes own new.journal.entries) a.stand) opening a.runs) in
         let mine_run = subst (λ q. Runs g k old.opening q a.stand) (sym (first_eyes own theirs (es ++ part))) moved in
-        let their_run = subst (λ q. Runs h l old.opening q b.stand) (sym (second_eyes own theirs es (apart name sides old.events es ro.few ro.among))) b.runs in
+        let their_run = subst (λ q. Runs h l old.opening q b.stand) (sym
+        (second_eyes own theirs es (apart name sides old.events es ro.few ro.among))) b.runs in
         let f = joining.foreign_on g h twins k l old.opening opens (both_of own theirs es) (both_of own theirs part)
         (subst joined.AreActors both all) (by_first own theirs (old.events + 1) turn part are) a.stand b.stand
         (subst (λ q. Runs g k old.opening (eyes two.First q) a.stand) both mine_run) their_run in
@@ -136,19 +200,28 @@ module _ {W : Type 0} (wants : W → Option Request) (is_of : Setting → Actor 
         (foreign_by own theirs t.script b.stand.told.drawn (old.events + 1) b.stand.seen.scene part are f))
 
     -- so what the other keeps between its events stays
-    pub stays_beside : (s s1 t : body.Side W) (old new : Shared) (part : List Entry) → MayBeTwins s1.script t.script → RestsShared sides new → RestsShared sides old → new.opening ≡ old.opening → new.events ≡ old.events + 1 → new.journal.entries ≡ old.journal.entries ++ part → AreOf (old.events + 1) part → slice_get sides old.events ≡ Some name
-        → Quiet wants is_of running picks_of (over s old) → RestsOne wants is_of running picks_of sides name s1 new → RestsOne wants is_of running picks_of sides (other_of name) t old → Quiet wants is_of running picks_of (over t new)
+    pub stays_beside : (s s1 t : body.Side W) (old new : Shared) (part : List Entry) → MayBeTwins s1.script t.script → RestsShared sides new
+        → RestsShared sides old → new.opening ≡ old.opening → new.events ≡ old.events + 1
+        → new.journal.entries ≡ old.journal.entries ++ part → AreOf (old.events + 1) part → slice_get sides old.events ≡ Some name
+        → Quiet wants is_of running picks_of (over s old) → RestsOne wants is_of running picks_of sides name s1 new
+        → RestsOne wants is_of running picks_of sides (other_of name) t old → Quiet wants is_of running picks_of (over t new)
     stays_beside s s1 t old new part twins rn ro opening events more are turn q a b =
         let own_turn : mine sides name (old.events + 1) ≡ true = mine_at name name old.events sides turn ∙ same_self name in
         let inside = slice_get_within sides old.events name turn in
         let some : 1 ≤ old.events + 1 = omega arith in
         let few : old.events + 1 ≤ length sides = omega (arith, inside) in
-        let not_theirs : mine sides (other_of name) (old.events + 1) ≡ false = opposite name (old.events + 1) sides some few ∙ ap not own_turn in
+        let not_theirs : mine sides (other_of name) (old.events + 1) ≡ false = opposite name (old.events + 1) sides some few ∙ ap not
+        own_turn in
         let n = a.quiet.holds in
         let theirs_not = ap (λ os. is_mine os (old.events + 1)) b.others ∙ not_theirs in
-        let opens = opens_both s1.script t.script old.opening (subst (λ (c : Content). IsOpening (setting s1.script c) c) opening (opens_of sides name s1 new a)) in
-        let foreign = foreign_to s s1 t old new part twins rn ro opening more are own_turn (side_run sides name s1 new a) opens (side_run sides (other_of name) t old b) in
+        let opens = opens_both s1.script t.script old.opening (subst (λ (c : Content). IsOpening (setting s1.script c) c) opening
+        (opens_of sides name s1 new a)) in
+        let foreign = foreign_to s s1 t old new part twins rn ro opening more are own_turn (side_run sides name s1 new a) opens
+        (side_run sides (other_of name) t old b) in
         let scene =
-        plain_scene (over s1 new) a.quiet ∙ ap (λ (c : Content). after_all (store.opening c) new.journal.entries) opening ∙ ap (after_all (store.opening old.opening)) more
-        ∙ after_parts (store.opening old.opening) old.journal.entries part ∙ ap (λ c. after_all c part) (sym (plain_scene (over s old) q)) in
-        rests_beside wants is_of running picks_of (over t old) (over t new) b.quiet (search (opening, theirs_not, events, more, foreign, scene, n))
+        plain_scene (over s1 new) a.quiet ∙ ap (λ (c : Content). after_all (store.opening c) new.journal.entries) opening ∙ ap
+        (after_all (store.opening old.opening)) more
+        ∙ after_parts (store.opening old.opening) old.journal.entries part ∙ ap (λ c. after_all c part) (sym (plain_scene (over s old) q))
+        in
+        rests_beside wants is_of running picks_of (over t old) (over t new) b.quiet
+        (search (opening, theirs_not, events, more, foreign, scene, n))

@@ -1,17 +1,26 @@
 -- Two sides over what they share, of which one is in hand.
-use Rattle.std.specs.Prelude.{Bool, List, Option, length, slice_get, true, ℕ, ◌+◌, ◌<◌, ◌^◌, ◌≡◌, ◌≤◌}
-use Rattle.job_spec.specs.Prelude.{Actor, AllByRecursion, AreOwn, Entry, Known, Pick, Request, Running, Script, Setting, fate_at}
-use Rattle.job_side.specs.Holds.{Quiet}
+use Rattle.job_model.specs.JobScript.{Script}
+use Rattle.job_model.specs.Known.{Known}
+use Rattle.job_model.specs.declared.ends.Pick.{Pick}
+use Rattle.job_protocol.specs.Operations.{Running, Setting}
 use Rattle.job_side.specs.Events.{Grown, IsAsBefore, picks_in}
 use Rattle.job_side.specs.Firsts.{IsFirstSide}
+use Rattle.job_side.specs.Holds.{Quiet}
 use Rattle.job_side.specs.declared.body.Body.{Body}
 use Rattle.job_side.specs.declared.body.Shared.{Shared}
+use Rattle.job_spec.specs.Entries.{AreOwn}
+use Rattle.s3_types.specs.Fates.{fate_at}
+use Rattle.s3_types.specs.declared.journal.Entry.{Entry}
+use Rattle.s3_types.specs.declared.request.Actor.{Actor}
+use Rattle.s3_types.specs.declared.request.Request.{Request}
+use Rattle.std.specs.List.{AllByRecursion}
+use Rattle.std.specs.Prelude.{Bool, List, Option, length, slice_get, true, ℕ, ◌+◌, ◌<◌, ◌^◌, ◌≡◌, ◌≤◌}
 use Rattle.twin_facts.specs.TwinLaws.{MayBeTwins}
-use Rattle.twin_script.specs.declared.turns.Side.{Side}
-use Rattle.twin_script.specs.declared.turns.Side.TheVariants.{First, Second}
 use Rattle.twin_jobs.specs.Order.{events_of, other_of, others_in}
 use Rattle.twin_jobs.specs.Worlds.{JobRun, Run}
 use Rattle.twin_jobs.specs.declared.pair.Pair.{Pair}
+use Rattle.twin_script.specs.declared.turns.Side.{Side}
+use Rattle.twin_script.specs.declared.turns.Side.TheVariants.{First, Second}
 use Rattle.job_side.specs.declared.body.Side as body
 
 -- the side of this name, where the one in hand is that of the other name
@@ -34,7 +43,8 @@ abbrev pub IsAmong : ℕ → Entry → Type 0
 IsAmong n e = (1 ≤ e.event) × (e.event ≤ n)
 
 -- a side of this name rests between events: its own are those of the order, of which its script has enough
-pub record RestsOne {W : Type 0} (wants : W → Option Request) (is_of : Setting → Actor → W → Type 0) (running : Known → W → Running) (picks_of : W → Option (List Pick)) (sides : List Side) (name : Side) (s : body.Side W) (shared : Shared) : Type 0 where
+pub record RestsOne {W : Type 0} (wants : W → Option Request) (is_of : Setting → Actor → W → Type 0) (running : Known → W → Running)
+    (picks_of : W → Option (List Pick)) (sides : List Side) (name : Side) (s : body.Side W) (shared : Shared) : Type 0 where
   pub quiet : Quiet wants is_of running picks_of (over s shared)
   pub shares : s.shares ≡ true
   pub others : s.others.items ≡ others_in name 1 sides
@@ -48,7 +58,8 @@ pub record RestsShared (sides : List Side) (shared : Shared) : Type 0 where
   pub short : length sides + 1 < 2 ^ 32
 
 -- both rest over what they share
-pub record RestsBoth {W : Type 0} (wants : W → Option Request) (is_of : Setting → Actor → W → Type 0) (running : Known → W → Running) (picks_of : W → Option (List Pick)) (sides : List Side) (s t : body.Side W) (shared : Shared) : Type 0 where
+pub record RestsBoth {W : Type 0} (wants : W → Option Request) (is_of : Setting → Actor → W → Type 0) (running : Known → W → Running)
+    (picks_of : W → Option (List Pick)) (sides : List Side) (s t : body.Side W) (shared : Shared) : Type 0 where
   pub first : RestsOne wants is_of running picks_of sides First s shared
   pub second : RestsOne wants is_of running picks_of sides Second t shared
   pub common : RestsShared sides shared
@@ -56,8 +67,10 @@ pub record RestsBoth {W : Type 0} (wants : W → Option Request) (is_of : Settin
   pub fates : (n : ℕ) → fate_at shared.store.fates n ≡ fate_at s.script.fates n
 
 -- so a pair does
-abbrev pub Rests : {W : Type 0} → (W → Option Request) → (Setting → Actor → W → Type 0) → (Known → W → Running) → (W → Option (List Pick)) → Pair W → Type 0
-Rests wants is_of running picks_of p = RestsBoth wants is_of running picks_of p.sides.items (side_in First p) (side_in Second p) p.body.shared
+abbrev pub Rests : {W : Type 0} → (W → Option Request) → (Setting → Actor → W → Type 0) → (Known → W → Running) → (W → Option (List Pick))
+    → Pair W → Type 0
+Rests wants is_of running picks_of p = RestsBoth wants is_of running picks_of p.sides.items (side_in First p) (side_in Second p)
+    p.body.shared
 
 -- ---- nothing has happened
 
@@ -83,7 +96,15 @@ job_in picks_of s = record { script = s.script; picks = picks_in picks_of s.pick
 
 -- of two sides
 abbrev pub run_of : {W : Type 0} → (W → Option (List Pick)) → List Side → body.Side W → body.Side W → Shared → Bool → Run
-run_of picks_of sides s t shared stuck = record { first = job_in picks_of s; second = job_in picks_of t; sides = sides; opening = shared.opening; journal = shared.journal.entries; stuck = stuck }
+run_of picks_of sides s t shared stuck = record {
+  first = job_in picks_of s;
+  second = job_in picks_of t;
+  sides = sides;
+  opening =
+      shared.opening;
+  journal = shared.journal.entries;
+  stuck = stuck;
+}
 
 -- the other side is in hand, or the same, and nothing else changes
 pub record IsTurnedTo {W : Type 0} (side : Side) (p q : Pair W) : Type 0 where

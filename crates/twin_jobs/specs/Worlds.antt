@@ -1,19 +1,27 @@
 -- A world of two jobs as its callers see it.
-use Rattle.std.specs.Prelude.{Bool, List, None, Option, Some, [], false, length, map, slice_get, true, ℕ, ◌++◌, ◌+◌, ◌∷◌, ◌≡◌, ◌≤◌}
-use Rattle.job_spec.specs.Prelude.{AllByRecursion, AreOwn, Content, Entry, EventEnd, Pick, Script, Sent, Setting, Times, in_eyes, times}
-use Rattle.job_spec.specs.Eyes.{number_in}
-use Rattle.job_spec.specs.Promise.{all_picks, lacked_memory}
-use Rattle.job_spec.specs.States.{past}
+use Rattle.job_model.specs.JobScript.{Script}
+use Rattle.job_model.specs.declared.ends.EventEnd.{EventEnd}
+use Rattle.job_model.specs.declared.ends.Pick.{Pick}
+use Rattle.job_protocol.specs.Operations.{Setting}
+use Rattle.job_protocol.specs.Seen.{Times}
 use Rattle.job_safety.specs.Laws.{FactsHold, KeptAmong}
 use Rattle.job_side.specs.Holds.{is_mine}
-use Rattle.twin_facts.specs.Sides.{TwinEntry, drew}
-use Rattle.twin_facts.specs.Named.{NamesNoneOfOthers}
+use Rattle.job_spec.specs.Entries.{AreOwn}
+use Rattle.job_spec.specs.Eyes.{in_eyes, number_in}
+use Rattle.job_spec.specs.Promise.{Sent, all_picks, lacked_memory}
+use Rattle.job_spec.specs.States.{past, times}
+use Rattle.s3_types.specs.Store.{Content}
+use Rattle.s3_types.specs.declared.journal.Entry.{Entry}
+use Rattle.std.specs.List.{AllByRecursion}
+use Rattle.std.specs.Prelude.{Bool, List, None, Option, Some, false, length, map, slice_get, true, ℕ, [], ◌++◌, ◌+◌, ◌∷◌, ◌≡◌, ◌≤◌}
 use Rattle.twin_facts.specs.Events.{AtMoment}
+use Rattle.twin_facts.specs.Named.{NamesNoneOfOthers}
+use Rattle.twin_facts.specs.Sides.{TwinEntry, drew}
+use Rattle.twin_jobs.specs.Order.{other_of, others_in}
 use Rattle.twin_safety.specs.Shared.{SharedKept}
+use Rattle.twin_script.specs.TwinScripts.{Twins, sides_in}
 use Rattle.twin_script.specs.declared.turns.Side.{Side}
 use Rattle.twin_script.specs.declared.turns.Side.TheVariants.{First, Second}
-use Rattle.twin_script.specs.TwinScripts.{Twins, sides_in}
-use Rattle.twin_jobs.specs.Order.{other_of, others_in}
 use Rattle.twin_facts.specs.Sides as two
 
 -- what is a job's own: its script, the picks of its commit, and the ends of its events so far
@@ -46,7 +54,14 @@ nothing_run w = record { script = w; picks = []; ends = [] }
 
 -- nothing has happened
 abbrev pub begun : Twins → Content → Run
-begun t opening = record { first = nothing_run t.first; second = nothing_run t.second; sides = sides_in t.order; opening = opening; journal = []; stuck = false }
+begun t opening = record {
+  first = nothing_run t.first;
+  second = nothing_run t.second;
+  sides = sides_in t.order;
+  opening = opening;
+  journal = [];
+  stuck = false;
+}
 
 -- ---- each in its own eyes
 
@@ -80,8 +95,16 @@ pub record KeepsSide (r : Run) (side : Side) : Type 0 where
 
 -- an entry with its side: its event is numbered as that side counts, and as the other does
 abbrev pub entry_by : Bool → ℕ → ℕ → Entry → TwinEntry
-entry_by true n m e = record { side = two.First; entry = record { event = n; actor = e.actor; request = e.request; outcome = e.outcome }; theirs = m }
-entry_by false n m e = record { side = two.Second; entry = record { event = m; actor = e.actor; request = e.request; outcome = e.outcome }; theirs = n }
+entry_by true n m e = record {
+  side = two.First;
+  entry = record { event = n; actor = e.actor; request = e.request; outcome = e.outcome };
+  theirs = m;
+}
+entry_by false n m e = record {
+  side = two.Second;
+  entry = record { event = m; actor = e.actor; request = e.request; outcome = e.outcome };
+  theirs = n;
+}
 
 -- these events are the first's, and those the second's
 abbrev pub both_of : (ℕ → Bool) → (ℕ → Bool) → List Entry → List TwinEntry

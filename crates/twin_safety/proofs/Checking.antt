@@ -1,19 +1,37 @@
 -- How the check before a commit ends, by its entries alone.
-use Rattle.twin_safety.proofs.Common.{Answered, Bool, Check, CheckEnd, CheckIs, CheckOver, Checked, Clear, Conflict, Entry, Follows, Got, Item, List, NoMemory, None, Option, Outcome, Reply, Request, Retried, Script, ShownBy, Some, StoreFault, Who, WornFirst, WornOut, [], ap, append-nil, append_assoc, arith, check_after, check_asks, check_hears, check_over, check_start, checking, cond, counted_first, false, inl, inr, is_zero, next, none_some, refl, run, step, subst, sym, true, unanswered_by, wants_of, worn_in, ℕ, ◌++◌, ◌∙◌, ◌∷◌, ◌≡◌, ◌⊎◌}
-use Rattle.retries.specs.Prelude.{wears}
+use Rattle.basics.proofs.Members.{none_some}
+use Rattle.job_model.specs.Attempts.{Who}
+use Rattle.job_model.specs.JobScript.{Script}
+use Rattle.job_model.specs.declared.ends.CheckEnd.{CheckEnd}
+use Rattle.job_model.specs.declared.ends.CheckEnd.TheVariants.{Clear, Conflict, NoMemory, StoreFault}
+use Rattle.job_protocol.specs.Rechecks.{Check, CheckOver, check_after, check_asks, check_hears, check_over, check_start}
+use Rattle.retries.proofs.First.{counted_first}
+use Rattle.retries.specs.Operation.{Follows, run}
+use Rattle.retries.specs.Retries.{Got, Item, Retried, WornOut, is_zero, step, unanswered_by, wants_of, wears, worn_in}
+use Rattle.retries.specs.Worn.{WornFirst}
+use Rattle.s3_types.specs.declared.journal.Entry.{Entry}
+use Rattle.s3_types.specs.declared.journal.Outcome.{Outcome}
+use Rattle.s3_types.specs.declared.journal.Outcome.TheVariants.{Answered}
+use Rattle.s3_types.specs.declared.reply.Reply.{Reply}
+use Rattle.s3_types.specs.declared.request.Request.{Request}
+use Rattle.std.proofs.Common.{Bool, List, None, Option, Some, ap, append-nil, append_assoc, arith, cond, false, inl, inr, refl, subst, sym}
+use Rattle.std.proofs.Common.{true, ℕ, [], ◌++◌, ◌∙◌, ◌∷◌, ◌≡◌, ◌⊎◌}
+use Rattle.twin_safety.specs.Checks.{CheckIs, Checked, ShownBy, checking, next}
 
 -- ---- what one sending does
 
 -- what holds of where an answer leads, of an operation that stays, and of one that wore out holds after it
 step_by : {M : Type 0} (retries : ℕ) (after : M → Item → M) (t : Retried M) (o : Outcome) (P : Bool → M → Type 0)
-    → ((x : Reply) → o ≡ Answered x → P false (after t.operation (Got x t.repeated))) → P false t.operation → P true (after t.operation WornOut)
+    → ((x : Reply) → o ≡ Answered x → P false (after t.operation (Got x t.repeated))) → P false t.operation
+    → P true (after t.operation WornOut)
     → P (wears t o) (step retries after t o).operation
 step_by {M} retries after t o P heard still worn = by o heard
   where
     spare : (b : Bool) (n : ℕ) → P (is_zero n) (unanswered_by retries after t.operation b n).operation
     spare b n = grind arith
 
-    by : (o : Outcome) → ((x : Reply) → o ≡ Answered x → P false (after t.operation (Got x t.repeated))) → P (wears t o) (step retries after t o).operation
+    by : (o : Outcome) → ((x : Reply) → o ≡ Answered x → P false (after t.operation (Got x t.repeated)))
+        → P (wears t o) (step retries after t o).operation
     by o h = grind arith
 
 -- ---- ends of the check
@@ -30,14 +48,16 @@ module _ (w : Script) where
   seen_start reported = grind arith
 
   module _ (es : List Entry) (e : Entry) where
-    seen_hears : (c : Check) → check_asks w c ≡ Some e.request → (r : Reply) → e.outcome ≡ Answered r → Seen (es ++ e ∷ []) (check_hears w c r)
+    seen_hears : (c : Check) → check_asks w c ≡ Some e.request → (r : Reply) → e.outcome ≡ Answered r
+        → Seen (es ++ e ∷ []) (check_hears w c r)
     seen_hears c h r g = grind arith
 
     seen_still : (c : Check) → check_asks w c ≡ Some e.request → Seen (es ++ e ∷ []) c
     seen_still c h = grind arith
 
   -- a check that is over sends no more
-  over_stops : (t : Retried Check) (end : CheckEnd) (es : List Entry) → t.operation ≡ CheckOver end → Follows (wants_of (check_asks w)) (next w) t es → es ≡ []
+  over_stops : (t : Retried Check) (end : CheckEnd) (es : List Entry) → t.operation ≡ CheckOver end
+      → Follows (wants_of (check_asks w)) (next w) t es → es ≡ []
   over_stops t end [] is f = refl
   over_stops t end (e ∷ es) is f = absurd (none_some (ap (check_asks w) is) f.0)
 
@@ -45,14 +65,17 @@ module _ (w : Script) where
   abbrev Either : List Entry → Option Request → Check → Type 0
   Either es worn c = ((worn ≡ None) × Seen es c) ⊎ ((r : Request) × (worn ≡ Some r) × (c ≡ CheckOver StoreFault))
 
-  by_run : (past : List Entry) (t : Retried Check) (es : List Entry) → Seen past t.operation → Follows (wants_of (check_asks w)) (next w) t es
+  by_run : (past : List Entry) (t : Retried Check) (es : List Entry) → Seen past t.operation
+      → Follows (wants_of (check_asks w)) (next w) t es
       → Either (past ++ es) (worn_in w.retries (check_after w) t es) (run (next w) t es).operation
   by_run past t [] seen f = inl (refl, subst (λ l. Seen l t.operation) (sym (append-nil past)) seen)
   by_run past t (e ∷ es) seen f =
       let u = next w t e.outcome in
       let worn = worn_in w.retries (check_after w) u es in
       let end = (run (next w) u es).operation in
-      let rest : Seen (past ++ e ∷ []) u.operation → Either (past ++ e ∷ es) worn end = λ s. subst (λ l. Either l worn end) (append_assoc past (e ∷ []) es) (by_run (past ++ e ∷ []) u es s f.1) in
+      let rest : Seen (past ++ e ∷ []) u.operation
+      → Either (past ++ e ∷ es) worn end = λ s. subst (λ l. Either l worn end) (append_assoc past (e ∷ []) es)
+      (by_run (past ++ e ∷ []) u es s f.1) in
       step_by w.retries (check_after w) t e.outcome (λ b c. u.operation ≡ c → Either (past ++ e ∷ es) (cond b (Some e.request) worn) end)
       (λ x a is. rest (subst (Seen (past ++ e ∷ [])) (sym is) (seen_hears past e t.operation f.0 x a)))
       (λ is. rest (subst (Seen (past ++ e ∷ [])) (sym is) (seen_still past e t.operation f.0)))
@@ -62,7 +85,8 @@ module _ (w : Script) where
   pub over_is : (c : Check) (end : CheckEnd) → check_over c ≡ Some end → c ≡ CheckOver end
   over_is c end h = grind arith
 
-  pub checks_end : (reported : List Who) (es : List Entry) (t : Retried Check) → Checked w reported es t → (end : CheckEnd) → t.operation ≡ CheckOver end → (worn : Option Request) × WornFirst w.retries es worn × CheckIs w es worn end
+  pub checks_end : (reported : List Who) (es : List Entry) (t : Retried Check) → Checked w reported es t → (end : CheckEnd)
+      → t.operation ≡ CheckOver end → (worn : Option Request) × WornFirst w.retries es worn × CheckIs w es worn end
   checks_end reported es t (f, leads) end is =
       let first = checking w reported in
       let at : (run (next w) first es).operation ≡ CheckOver end = ap (λ (u : Retried Check). u.operation) leads ∙ is in
@@ -80,7 +104,8 @@ module _ (w : Script) where
       by _ seen = seen
 
 -- where it ended clear no request of it wore out
-pub checked_clear : (w : Script) (reported : List Who) (es : List Entry) (t : Retried Check) → Checked w reported es t → t.operation ≡ CheckOver Clear → WornFirst w.retries es None
+pub checked_clear : (w : Script) (reported : List Who) (es : List Entry) (t : Retried Check) → Checked w reported es t
+    → t.operation ≡ CheckOver Clear → WornFirst w.retries es None
 checked_clear w reported es t checked is = let x = checks_end w reported es t checked Clear is in by x.0 x.1 x.2
   where
     by : (worn : Option Request) → WornFirst w.retries es worn → CheckIs w es worn Clear → WornFirst w.retries es None

@@ -1,31 +1,65 @@
 -- How the commit at a shared destination ends in a run, and the check before it.
-use Rattle.twin_safety.proofs.Common.{Bool, CheckEnd, CheckIs, EndedBehind, Ending, Fail, List, None, OfCommit, Option, Reports, SharedChecks, SharedCommits, Some, [], ap, arith, commit_due, commit_entries, commit_runs, cond, driver_commit, end_kind, ending, false, inl, inr, is_driver, kind_run, memory_check, memory_commit, nat_le, not, number_is, over_kind, picks_then, refl, run_then, subst, sym, true, unclean_then, ℕ, ◌&&◌, ◌+◌, ◌||◌, ◌∙◌, ◌∷◌, ◌≡◌}
-use Rattle.job_steps.specs.Prelude.{Content, Actor, Driver, Request, Entry, run, Follows, WornFirst, IsLegal, Script, Known, OpEnd, CommitEnd, CommitOver, commit_start, commit_tells, Setting, Operation, TheCommit, commit_of, wants, advance, over, is_begun, same_actor, Doing, since, by_actor, known_then, CommitEnded, seen_until, IsOpening, Play, Closes, happen, Reachable, IsRun, operation_of, times, Times, has_cleaned}
-use Rattle.job_model.specs.declared.events.Op.TheVariants as ops
-use Rattle.job_model.specs.declared.ends.OpEnd.TheVariants as ends
-use Rattle.job_model.specs.declared.ends.CommitEnd.TheVariants as commits
-use Rattle.job_outcomes.specs.CommitRuns.{CommitStands}
+use Rattle.basics.proofs.Members.{in_back, in_filter, none_or_some, none_some}
+use Rattle.basics.specs.Members.{IsIn}
+use Rattle.job_facts.specs.Standing.{HasPublished}
+use Rattle.job_facts.specs.Told.{nothing_told, tell_all}
+use Rattle.job_model.specs.JobScript.{Script}
+use Rattle.job_model.specs.Known.{Known}
+use Rattle.job_model.specs.Legal.{IsLegal}
+use Rattle.job_model.specs.declared.ends.CheckEnd.{CheckEnd}
+use Rattle.job_model.specs.declared.ends.CommitEnd.{CommitEnd}
+use Rattle.job_model.specs.declared.ends.OpEnd.{OpEnd}
 use Rattle.job_outcomes.proofs.CommitMoments.{see_parts}
-use Rattle.job_outcomes.proofs.CommitRuns.{no_entry}
+use Rattle.job_outcomes.proofs.CommitRuns.{commit_runs, no_entry}
 use Rattle.job_outcomes.proofs.Served.{commit_answers}
-use Rattle.job_protocol.specs.Prelude.{Answered, IsIn, Reply, commit_asks, list_any, set_read, set_request}
+use Rattle.job_outcomes.specs.CommitRuns.{CommitStands}
+use Rattle.job_protocol.specs.JobCommits.{CommitOver, commit_asks, commit_start, commit_tells, set_read, set_request}
+use Rattle.job_protocol.specs.Operations.{Operation, Reports, Setting, TheCommit, advance, commit_of, over, wants}
+use Rattle.job_protocol.specs.Seen.{Times, is_begun, nothing_seen, see_all}
 use Rattle.job_safety.proofs.Commits.{parted_at}
+use Rattle.job_safety.proofs.Ending.{Ending, ending}
 use Rattle.job_safety.proofs.History.{Began}
+use Rattle.job_safety.proofs.Sorts.{OfCommit, driver_commit, end_kind, kind_run, memory_check, memory_commit, over_kind}
 use Rattle.job_safety.proofs.Spans.{mine, start}
-use Rattle.job_safety.proofs.Timed.{ahead_start}
-use Rattle.job_spec.proofs.Common.{in_back, in_filter, list_any-append, none_or_some, none_some, or_parts}
+use Rattle.job_safety.proofs.Timed.{ahead_start, number_is, picks_then, run_then, unclean_then}
+use Rattle.job_spec.specs.Ends.{CommitEnded, commit_due, has_cleaned, is_driver}
+use Rattle.job_spec.specs.Follows.{known_then}
 use Rattle.job_spec.specs.OperationEnds.{CommitServed}
-use Rattle.job_spec.specs.States.{clean_event, missing}
+use Rattle.job_spec.specs.Promise.{seen_until}
+use Rattle.job_spec.specs.States.{Doing, clean_event, missing, same_actor, times}
+use Rattle.job_spec.specs.Turns.{by_actor, since}
 use Rattle.job_steps.proofs.Actors.{same_is}
 use Rattle.job_steps.proofs.Reported.{all_published, last_more, reported}
-use Rattle.job_steps.specs.Prelude.{HasPublished, nothing_seen, nothing_told, see_all, tell_all}
+use Rattle.job_steps.specs.Running.{IsRun, operation_of}
+use Rattle.job_steps.specs.Transitions.{Closes, Play, Reachable, happen}
 use Rattle.job_traces.proofs.Learnt.{cleaned_is}
-use Rattle.std.proofs.Common.{append_assoc}
+use Rattle.job_traces.specs.Runs.{IsOpening}
+use Rattle.retries.specs.Operation.{Follows, run}
+use Rattle.retries.specs.Worn.{WornFirst}
+use Rattle.s3_types.specs.Store.{Content}
+use Rattle.s3_types.specs.declared.journal.Entry.{Entry}
+use Rattle.s3_types.specs.declared.journal.Outcome.TheVariants.{Answered}
+use Rattle.s3_types.specs.declared.reply.Reply.{Reply}
+use Rattle.s3_types.specs.declared.request.Actor.{Actor}
+use Rattle.s3_types.specs.declared.request.Actor.TheVariants.{Driver}
+use Rattle.s3_types.specs.declared.request.Mode.TheVariants.{Fail}
+use Rattle.s3_types.specs.declared.request.Request.{Request}
+use Rattle.std.proofs.Common.{Bool, List, None, Option, Some, ap, append_assoc, arith, cond, false, inl, inr, nat_le, not, refl, subst, sym}
+use Rattle.std.proofs.Common.{true, ℕ, [], ◌&&◌, ◌+◌, ◌||◌, ◌∙◌, ◌∷◌, ◌≡◌}
+use Rattle.std.proofs.lemmas.Bool.{or_parts}
+use Rattle.std.proofs.lemmas.List.Folds.{list_any-append}
+use Rattle.std.specs.List.{list_any}
 use Rattle.std.specs.Prelude.{IsSome, ◌++◌, ◌<◌}
+use Rattle.twin_safety.proofs.Behind.{Behind, IsAt, check_ended, commit_ended, led}
 use Rattle.twin_safety.proofs.Checking.{checks_end}
 use Rattle.twin_safety.proofs.Ending.{behind_so}
 use Rattle.twin_safety.proofs.Pages.{one_rest}
-use Rattle.twin_safety.proofs.Behind.{Behind, IsAt, led, commit_ended, check_ended}
+use Rattle.twin_safety.specs.Checks.{CheckIs}
+use Rattle.twin_safety.specs.Ends.{commit_entries}
+use Rattle.twin_safety.specs.Shared.{EndedBehind, SharedChecks, SharedCommits}
+use Rattle.job_model.specs.declared.events.Op.TheVariants as ops
+use Rattle.job_model.specs.declared.ends.OpEnd.TheVariants as ends
+use Rattle.job_model.specs.declared.ends.CommitEnd.TheVariants as commits
 
 -- ---- lists
 
@@ -40,44 +74,56 @@ same_driver : (a : Actor) → same_actor a Driver ≡ is_driver a
 same_driver a = grind arith
 
 -- before an abort or clean those of its event and of later ones are all of the driver's since it began
-pub entries_so : (k : Times) (n : ℕ) → k.commit ≡ Some n → (es : List Entry) → has_cleaned k.clean es ≡ false → commit_entries k es ≡ since n (by_actor Driver es)
+pub entries_so : (k : Times) (n : ℕ) → k.commit ≡ Some n → (es : List Entry) → has_cleaned k.clean es ≡ false
+    → commit_entries k es ≡ since n (by_actor Driver es)
 entries_so k n is [] clean = refl
 entries_so k n is (e ∷ es) clean =
-    ap (λ c. cond (is_driver e.actor && (is_begun c e.event && not (is_begun k.clean e.event))) (e ∷ commit_entries k es) (commit_entries k es)) is
-    ∙ by (is_driver e.actor) (is_begun k.clean e.event) (has_cleaned k.clean es) (nat_le n e.event) refl clean (λ still. entries_so k n is es still)
+    ap (λ c. cond (is_driver e.actor && (is_begun c e.event && not (is_begun k.clean e.event))) (e ∷ commit_entries k es)
+    (commit_entries k es)) is
+    ∙ by (is_driver e.actor) (is_begun k.clean e.event) (has_cleaned k.clean es) (nat_le n e.event) refl clean
+    (λ still. entries_so k n is es still)
     ∙ ap (λ b. since n (cond b (e ∷ by_actor Driver es) (by_actor Driver es))) (sym (same_driver e.actor))
   where
-    by : (a c more b : Bool) → nat_le n e.event ≡ b → ((a && c) || more) ≡ false → (more ≡ false → commit_entries k es ≡ since n (by_actor Driver es))
-        → cond (a && (b && not c)) (e ∷ commit_entries k es) (commit_entries k es) ≡ since n (cond a (e ∷ by_actor Driver es) (by_actor Driver es))
+    by : (a c more b : Bool) → nat_le n e.event ≡ b → ((a && c) || more) ≡ false
+        → (more ≡ false → commit_entries k es ≡ since n (by_actor Driver es))
+        → cond (a && (b && not c)) (e ∷ commit_entries k es) (commit_entries k es) ≡ since n
+        (cond a (e ∷ by_actor Driver es) (by_actor Driver es))
     by a c more b h g e = grind arith
 
-module _ (g : Setting) (shared : g.shared ≡ true) (opening : Content) (j : IsLegal g.script) (is_opening : IsOpening g opening) (x : Play) (run_x : Reachable g opening x) (idle : x.now ≡ None) where
+module _ (g : Setting) (shared : g.shared ≡ true) (opening : Content) (j : IsLegal g.script) (is_opening : IsOpening g opening) (x : Play)
+    (run_x : Reachable g opening x) (idle : x.now ≡ None) where
   abbrev w : Script
   w = g.script
 
   -- ---- what began as a commit
 
-  module _ (i : ℕ) (d : Doing) (end : OpEnd) (es : List Entry) (n : Ending g opening x i Driver d end es) (sort : end_kind end ≡ OfCommit) where
-    abbrev known : Known
-    known = known_then g Driver d (by_actor Driver n.closed.at.journal)
+  module _ (i : ℕ) (d : Doing) (end : OpEnd) (es : List Entry) (n : Ending g opening x i Driver d end es) (sort : end_kind end ≡ OfCommit)
+    where
+      abbrev known : Known
+      known = known_then g Driver d (by_actor Driver n.closed.at.journal)
 
-    abbrev At : Operation → Operation
-    At v = (run (advance g Driver) (record { operation = v; known = known }) es).operation
+      abbrev At : Operation → Operation
+      At v = (run (advance g Driver) (record { operation = v; known = known }) es).operation
 
-    begun : over (At n.op) ≡ Some end → (d.op ≡ ops.Commit) × (n.op ≡ commit_of g d.reports)
-    begun o = driver_commit g d.op d.reports known n.op n.begun_is (sym (kind_run g Driver (record { operation = n.op; known = known }) es) ∙ over_kind (At n.op) end o ∙ sort)
+      begun : over (At n.op) ≡ Some end → (d.op ≡ ops.Commit) × (n.op ≡ commit_of g d.reports)
+      begun o = driver_commit g d.op d.reports known n.op n.begun_is (sym
+          (kind_run g Driver (record { operation = n.op; known = known }) es)
+          ∙ over_kind (At n.op) end o ∙ sort)
 
-    leads_so : n.op ≡ commit_of g d.reports → (own : List Entry) × IsAt w d.reports es own (At (commit_of g d.reports))
-    leads_so is = led g shared d.reports known es (subst (λ v. Follows (wants g Driver) (advance g Driver) (record { operation = v; known = known }) es) is n.follows)
+      leads_so : n.op ≡ commit_of g d.reports → (own : List Entry) × IsAt w d.reports es own (At (commit_of g d.reports))
+      leads_so is = led g shared d.reports known es (subst (λ v. Follows (wants g Driver) (advance g Driver)
+          (record { operation = v; known = known }) es) is n.follows)
 
   -- ---- one that its check ended
 
-  check_so : (i : ℕ) (d : Doing) (e : CheckEnd) (es : List Entry) (n : Ending g opening x i Driver d (ends.Check e) es) → over (At i d (ends.Check e) es n refl n.op) ≡ Some (ends.Check e)
+  check_so : (i : ℕ) (d : Doing) (e : CheckEnd) (es : List Entry) (n : Ending g opening x i Driver d (ends.Check e) es)
+      → over (At i d (ends.Check e) es n refl n.op) ≡ Some (ends.Check e)
       → (w.mode ≡ Fail) × (d.reports.missing ≡ None) × (worn : Option Request) × WornFirst w.retries es worn × CheckIs w es worn e
   check_so i d e es n o =
       let b = begun i d (ends.Check e) es n refl o in
       let l = leads_so i d (ends.Check e) es n refl b.1 in
-      let at = check_ended w d.reports es l.0 e (At i d (ends.Check e) es n refl (commit_of g d.reports)) l.1 (subst (λ v. over (At i d (ends.Check e) es n refl v) ≡ Some (ends.Check e)) b.1 o) in
+      let at = check_ended w d.reports es l.0 e (At i d (ends.Check e) es n refl (commit_of g d.reports)) l.1
+      (subst (λ v. over (At i d (ends.Check e) es n refl v) ≡ Some (ends.Check e)) b.1 o) in
       let r = checks_end w d.reports.attempts es at.0 at.1.checked e at.2 in
       (at.1.fails, at.1.none, r.0, r.1, r.2)
 
@@ -88,7 +134,8 @@ module _ (g : Setting) (shared : g.shared ≡ true) (opening : Content) (j : IsL
 
   -- ---- one that ended behind it
 
-  module _ (i : ℕ) (d : Doing) (e : CommitEnd) (es : List Entry) (n : Ending g opening x i Driver d (ends.Commit e) es) (o : over (At i d (ends.Commit e) es n refl n.op) ≡ Some (ends.Commit e)) where
+  module _ (i : ℕ) (d : Doing) (e : CommitEnd) (es : List Entry) (n : Ending g opening x i Driver d (ends.Commit e) es)
+      (o : over (At i d (ends.Commit e) es n refl n.op) ≡ Some (ends.Commit e)) where
     abbrev k : Times
     k = times w x.ends
 
@@ -106,18 +153,21 @@ module _ (g : Setting) (shared : g.shared ≡ true) (opening : Content) (j : IsL
 
     behind : Behind w d.reports es led_so.0 (CommitOver e) × (At i d (ends.Commit e) es n refl first ≡ TheCommit (CommitOver e))
     behind =
-        commit_ended w d.reports es led_so.0 e (At i d (ends.Commit e) es n refl first) led_so.1 (subst (λ v. over (At i d (ends.Commit e) es n refl v) ≡ Some (ends.Commit e)) commit_begun.1 o)
+        commit_ended w d.reports es led_so.0 e (At i d (ends.Commit e) es n refl first) led_so.1
+        (subst (λ v. over (At i d (ends.Commit e) es n refl v) ≡ Some (ends.Commit e)) commit_begun.1 o)
 
     -- the run at the end of the event
     abbrev then : IsRun g opening (happen g z (Closes n.event_end)) (times w x.ends)
     then = run_then g opening j is_opening x run_x idle i d (ends.Commit e) es n
 
     at_end : then.stand.driver ≡ Some (TheCommit (CommitOver e))
-    at_end = then.driver ∙ ap operation_of n.running ∙ ap (λ v. Some (At i d (ends.Commit e) es n refl v)) commit_begun.1 ∙ ap (λ v. Some v) behind.1
+    at_end = then.driver ∙ ap operation_of n.running ∙ ap (λ v. Some (At i d (ends.Commit e) es n refl v)) commit_begun.1 ∙ ap (λ v. Some v)
+        behind.1
 
     all_entries : commit_entries k z.journal ≡ es
     all_entries =
-        entries_so k d.since (number_is g opening j is_opening x run_x idle i d (ends.Commit e) es n commit_begun.0) z.journal (unclean_then g opening j is_opening x run_x idle i d (ends.Commit e) es n (CommitOver e) at_end)
+        entries_so k d.since (number_is g opening j is_opening x run_x idle i d (ends.Commit e) es n commit_begun.0) z.journal
+        (unclean_then g opening j is_opening x run_x idle i d (ends.Commit e) es n (CommitOver e) at_end)
         ∙ sym n.entries_are
 
     stood : (r : Reports) × Behind w r (commit_entries k z.journal) then.stand.commit (CommitOver e)
@@ -128,14 +178,16 @@ module _ (g : Setting) (shared : g.shared ≡ true) (opening : Content) (j : IsL
 
     own_is : then.stand.commit ≡ led_so.0
     own_is =
-        one_rest w es stood.1.checks then.stand.commit behind.0.checks led_so.0 stood.0.missing d.reports.missing stood.0.attempts d.reports.attempts
+        one_rest w es stood.1.checks then.stand.commit behind.0.checks led_so.0 stood.0.missing d.reports.missing stood.0.attempts
+        d.reports.attempts
         (sym all_entries ∙ stood.1.entries) behind.0.entries stood.1.cleared behind.0.cleared
         stands.missing d.reports.missing stands.follows behind.0.follows
 
     due_then : CommitEnded w then.stand.seen d.reports.missing led_so.0 e
     due_then =
         subst (λ l. CommitEnded w then.stand.seen d.reports.missing l e) own_is
-        (commit_runs.ended g j k opening is_opening z.journal then.stand then.runs e at_end d.reports.missing (ap (run (commit_tells w) (commit_start w d.reports.missing)) own_is ∙ behind.0.leads))
+        (commit_runs.ended g j k opening is_opening z.journal then.stand then.runs e at_end d.reports.missing
+        (ap (run (commit_tells w) (commit_start w d.reports.missing)) own_is ∙ behind.0.leads))
 
     -- ---- what it was answered
 
@@ -221,7 +273,10 @@ module _ (g : Setting) (shared : g.shared ≡ true) (opening : Content) (j : IsL
           ended = record {
             worn = due_then.worn;
             first = due_then.first;
-            due = elim due_then.due [ inl memory ↦ inl memory | inr is ↦ inr (is ∙ ap (λ p. commit_due w p d.reports.missing due_then.worn) picks) ];
+            due = elim due_then.due [
+              | inl memory ↦ inl memory
+              | inr is ↦ inr (is ∙ ap (λ p. commit_due w p d.reports.missing due_then.worn) picks)
+            ];
             answered = due_then.answered;
           };
           served = served;

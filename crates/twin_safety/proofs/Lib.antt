@@ -7,4 +7,3 @@ pub mod Cleans
 pub mod Kept
 pub mod Checking
 pub mod Ending
-mod Common

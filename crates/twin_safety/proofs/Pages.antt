@@ -1,5 +1,20 @@
--- The requests of a check all ask for a page, and the first of the commit behind it in the mode fail does not: so two partings of their entries are one.
-use Rattle.twin_safety.proofs.Common.{Bool, Check, Committer, Entry, Fail, Follows, IsCleared, List, ListPage, Mode, None, Option, Request, Retried, Script, Some, Who, [], ap, arith, check_asks, checking, commit_asks, commit_start, commit_tells, cond, false, next, picks_of, refl, replaced, subst, sym, true, wants_of, ℕ, ◌++◌, ◌∙◌, ◌∷◌, ◌≡◌}
+-- The requests of a check all ask for a page, and the first of the commit behind it in the mode fail does not: so two partings of their
+-- entries are one.
+use Rattle.job_model.specs.Attempts.{Who}
+use Rattle.job_model.specs.JobScript.{Script}
+use Rattle.job_protocol.specs.JobCommits.{commit_asks, commit_start, commit_tells, picks_of, replaced}
+use Rattle.job_protocol.specs.Rechecks.{Check, check_asks}
+use Rattle.retries.specs.Operation.{Follows}
+use Rattle.retries.specs.Retries.{Retried, wants_of}
+use Rattle.s3_types.specs.declared.journal.Entry.{Entry}
+use Rattle.s3_types.specs.declared.request.Committer.{Committer}
+use Rattle.s3_types.specs.declared.request.Mode.{Mode}
+use Rattle.s3_types.specs.declared.request.Mode.TheVariants.{Fail}
+use Rattle.s3_types.specs.declared.request.Request.{Request}
+use Rattle.s3_types.specs.declared.request.Request.TheVariants.{ListPage}
+use Rattle.std.proofs.Common.{Bool, List, None, Option, Some, ap, arith, cond, false, refl, subst, sym, true, ℕ, [], ◌++◌, ◌∙◌, ◌∷◌, ◌≡◌}
+use Rattle.twin_safety.specs.Checks.{checking, next}
+use Rattle.twin_safety.specs.Ends.{IsCleared}
 
 -- it asks for a page
 abbrev pub is_page : Request → Bool
@@ -34,7 +49,8 @@ module _ (w : Script) where
   none_replaced : (c : Committer) → replaced c Fail w (picks_of []) ≡ []
   none_replaced c = grind arith
 
-  no_page : w.mode ≡ Fail → (missing : Option ℕ) (es : List Entry) → Follows (commit_asks w) (commit_tells w) (commit_start w missing) es → NoPage es
+  no_page : w.mode ≡ Fail → (missing : Option ℕ) (es : List Entry) → Follows (commit_asks w) (commit_tells w) (commit_start w missing) es
+      → NoPage es
   no_page h missing es g = grind arith
 
 -- ---- one parting
@@ -50,8 +66,10 @@ one_parting [] (u ∷ x) p n = ap (λ b. cond b (behind_pages x) (u ∷ x)) n
 one_parting (u ∷ a) x p n = ap (λ b. cond b (behind_pages (a ++ x)) (u ∷ (a ++ x))) p.0 ∙ one_parting a x p.1 n
 
 -- behind two checks of these entries the commit's own are the same
-pub one_rest : (w : Script) (es a x b y : List Entry) (missing other : Option ℕ) (reported others : List Who) → es ≡ a ++ x → es ≡ b ++ y → IsCleared w.mode missing w reported a → IsCleared w.mode other w others b
-    → (m n : Option ℕ) → Follows (commit_asks w) (commit_tells w) (commit_start w m) x → Follows (commit_asks w) (commit_tells w) (commit_start w n) y → x ≡ y
+pub one_rest : (w : Script) (es a x b y : List Entry) (missing other : Option ℕ) (reported others : List Who) → es ≡ a ++ x → es ≡ b ++ y
+    → IsCleared w.mode missing w reported a → IsCleared w.mode other w others b
+    → (m n : Option ℕ) → Follows (commit_asks w) (commit_tells w) (commit_start w m) x
+    → Follows (commit_asks w) (commit_tells w) (commit_start w n) y → x ≡ y
 one_rest w es a x b y missing other reported others e f c d m n first second = by w.mode refl c d
   where
     parts : a ++ x ≡ b ++ y
@@ -59,5 +77,6 @@ one_rest w es a x b y missing other reported others e f c d m n first second = b
 
     by : (v : Mode) → w.mode ≡ v → IsCleared v missing w reported a → IsCleared v other w others b → x ≡ y
     by Fail is c d =
-        sym (one_parting a x (cleared_pages w missing reported a c) (no_page w is m x first)) ∙ ap behind_pages parts ∙ one_parting b y (cleared_pages w other others b d) (no_page w is n y second)
+        sym (one_parting a x (cleared_pages w missing reported a c) (no_page w is m x first)) ∙ ap behind_pages parts ∙ one_parting b y
+        (cleared_pages w other others b d) (no_page w is n y second)
     by _ is c d = sym (ap (λ l. l ++ x) c) ∙ parts ∙ ap (λ l. l ++ y) d

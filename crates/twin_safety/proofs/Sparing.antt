@@ -1,8 +1,29 @@
 -- How an abort or clean at a shared destination ends, by its own entries.
-use Rattle.twin_safety.proofs.Common.{Actor, CleanEnd, CleanIs, Committer, Entry, Follows, Known, List, Option, Reply, Request, Retried, Running, Script, Setting, Some, Sparing, SparingOver, TheSparing, UploadRef, Walked, WornFirst, [], aborting, advance, ap, arith, deleting, false, faults, first_spent, fresh, inl, is_fault, is_some, naming, option_map, over, reading_on, refl, run, spare_of, sparing_after, sparing_hears, sparing_over, sparing_start, spent_in, step, sym, true, walking, wants, ℕ, ◌∙◌, ◌∷◌, ◌≡◌, ◌⊎◌}
+use Rattle.job_facts.proofs.Going.{step_so}
+use Rattle.job_model.specs.JobScript.{Script}
+use Rattle.job_model.specs.Known.{Known}
+use Rattle.job_model.specs.declared.ends.CleanEnd.{CleanEnd}
+use Rattle.job_protocol.proofs.Faults.{faults}
+use Rattle.job_protocol.proofs.Wearing.{first_spent}
+use Rattle.job_protocol.specs.Laws.{is_fault, spare_of}
+use Rattle.job_protocol.specs.Operations.{Running, Setting, TheSparing, advance, over, wants}
+use Rattle.job_protocol.specs.Sparing.{Sparing, SparingOver, aborting, deleting, naming, reading_on, sparing_after, sparing_hears}
+use Rattle.job_protocol.specs.Sparing.{sparing_over, sparing_start, walking}
+use Rattle.job_spec.specs.OperationEnds.{CleanIs}
+use Rattle.list_walk.specs.Walks.{Walked}
+use Rattle.retries.specs.Operation.{Follows, run}
+use Rattle.retries.specs.Retries.{Retried, fresh, spent_in, step}
+use Rattle.retries.specs.Worn.{WornFirst}
+use Rattle.s3_types.specs.declared.journal.Entry.{Entry}
+use Rattle.s3_types.specs.declared.reply.Reply.{Reply}
+use Rattle.s3_types.specs.declared.request.Actor.{Actor}
+use Rattle.s3_types.specs.declared.request.Committer.{Committer}
+use Rattle.s3_types.specs.declared.request.Request.{Request}
+use Rattle.s3_types.specs.declared.request.UploadRef.{UploadRef}
+use Rattle.std.proofs.Common.{List, Option, Some, ap, arith, false, inl, refl, sym, true, ℕ, [], ◌∙◌, ◌∷◌, ◌≡◌, ◌⊎◌}
+use Rattle.std.specs.Option.{is_some, option_map}
 use Rattle.job_model.specs.declared.ends.CleanEnd.TheVariants as cleans
 use Rattle.job_model.specs.declared.ends.OpEnd.TheVariants as ends
-use Rattle.job_facts.proofs.Going.{step_so}
 
 -- ---- it ends Done, or a request wore out
 
@@ -34,10 +55,12 @@ start_so c = grind arith
 heard_so : (w : Script) (c : Sparing) (r : Reply) → Over c → Over (sparing_hears w c r)
 heard_so w c r h = grind (arith, walking_so, naming_so, reading_so, aborting_so, deleting_so)
 
-run_over : (w : Script) (t : Retried Sparing) (es : List Entry) → Over t.operation → Over (run (step w.retries (sparing_after w)) t es).operation
+run_over : (w : Script) (t : Retried Sparing) (es : List Entry) → Over t.operation
+    → Over (run (step w.retries (sparing_after w)) t es).operation
 run_over w t [] h = h
 run_over w t (e ∷ es) h =
-    run_over w (step w.retries (sparing_after w) t e.outcome) es (step_so w.retries (sparing_after w) t e.outcome Over (λ x a. heard_so w t.operation x h) (λ n. h) (λ n. inl refl))
+    run_over w (step w.retries (sparing_after w) t e.outcome) es (step_so w.retries (sparing_after w) t e.outcome Over
+    (λ x a. heard_so w t.operation x h) (λ n. h) (λ n. inl refl))
 
 over_so : (c : Sparing) → Over c → (e : CleanEnd) → option_map ends.Clean (sparing_over c) ≡ Some (ends.Clean e) → Ends e
 over_so c h e g = grind arith
@@ -51,9 +74,12 @@ fault_is e h = grind arith
 -- ---- by its entries
 
 module _ (g : Setting) (a : Actor) where
-  sparing_run : (k : Known) (t : Retried Sparing) (es : List Entry) → (run (advance g a) (record { operation = TheSparing t; known = k }) es).operation ≡ TheSparing (run (step g.script.retries (sparing_after g.script)) t es)
+  sparing_run : (k : Known) (t : Retried Sparing) (es : List Entry)
+      → (run (advance g a) (record { operation = TheSparing t; known = k }) es).operation ≡ TheSparing
+      (run (step g.script.retries (sparing_after g.script)) t es)
   sparing_run k t [] = refl
-  sparing_run k t (e ∷ es) = sparing_run (advance g a (record { operation = TheSparing t; known = k }) e.outcome).known (step g.script.retries (sparing_after g.script) t e.outcome) es
+  sparing_run k t (e ∷ es) = sparing_run (advance g a (record { operation = TheSparing t; known = k }) e.outcome).known
+      (step g.script.retries (sparing_after g.script) t e.outcome) es
 
   -- as it begins
   abbrev first : Retried Sparing
@@ -63,17 +89,24 @@ module _ (g : Setting) (a : Actor) where
   sparing k = record { operation = TheSparing (fresh g.script.retries (sparing_start g.script.committer)); known = k }
 
   -- whatever was answered, and whoever sent between them
-  pub sparing_ends : (k : Known) (es : List Entry) → Follows (wants g a) (advance g a) (sparing k) es → (e : CleanEnd) → over (run (advance g a) (sparing k) es).operation ≡ Some (ends.Clean e) → (worn : Option Request) × WornFirst g.script.retries es worn × CleanIs worn e
+  pub sparing_ends : (k : Known) (es : List Entry) → Follows (wants g a) (advance g a) (sparing k) es → (e : CleanEnd)
+      → over (run (advance g a) (sparing k) es).operation ≡ Some (ends.Clean e) → (worn : Option Request)
+      × WornFirst g.script.retries es worn × CleanIs worn e
   sparing_ends k es f e is =
-      let worn = spent_in (advance g a) (λ y. spare_of y.operation) (sparing k) es in
-      (worn, first_spent g a (sparing k) refl refl es f, by worn (sym (ap is_fault is) ∙ faults g a (sparing k) refl (fine g.script.committer) es f) ends_so)
+      let worn = spent_in (advance g a) (λ y. spare_of y.operation) (sparing k) es in (
+        worn,
+        first_spent g a (sparing k) refl refl es f,
+        by worn (sym (ap is_fault is) ∙ faults g a (sparing k) refl
+            (fine g.script.committer) es f) ends_so,
+      )
     where
       -- nothing has worn out as it begins
       fine : (c : Committer) → is_fault (option_map ends.Clean (sparing_over (sparing_start c))) ≡ false
       fine c = grind arith
 
       ends_so : Ends e
-      ends_so = over_so (run (step g.script.retries (sparing_after g.script)) first es).operation (run_over g.script first es (start_so g.script.committer)) e (sym (ap over (sparing_run k first es)) ∙ is)
+      ends_so = over_so (run (step g.script.retries (sparing_after g.script)) first es).operation
+          (run_over g.script first es (start_so g.script.committer)) e (sym (ap over (sparing_run k first es)) ∙ is)
 
       by : (worn : Option Request) → is_fault (Some (ends.Clean e)) ≡ is_some worn → Ends e → CleanIs worn e
       by worn h g = grind arith

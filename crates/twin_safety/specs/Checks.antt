@@ -1,9 +1,23 @@
 -- How the check before the commit of a job at a shared destination ends, by its entries alone.
-use Rattle.std.specs.Prelude.{◌≡◌, ℕ, false, Bool, List, [], ◌∷◌, ◌++◌, ◌⊎◌, Option, Some, None}
-use Rattle.job_facts.specs.Prelude.{Request, ListPage, Page, PageEntry, Outcome, Answered, Entry, Follows, run, Retried, wants_of, fresh, step, WornFirst, keys_on, page_after, Who, Script, dest_prefix, first_shown, partition_prefix}
+use Rattle.job_model.specs.Attempts.{Who}
+use Rattle.job_model.specs.JobScript.{Script}
 use Rattle.job_model.specs.declared.ends.CheckEnd.{CheckEnd}
 use Rattle.job_model.specs.declared.ends.CheckEnd.TheVariants.{Clear, Conflict, StoreFault}
-use Rattle.job_protocol.specs.Rechecks.{Check, CheckOver, check_start, check_asks, check_after}
+use Rattle.job_protocol.specs.Rechecks.{Check, CheckOver, check_after, check_asks, check_start}
+use Rattle.job_protocol.specs.Setup.{dest_prefix, first_shown}
+use Rattle.job_protocol.specs.TaskCommits.{partition_prefix}
+use Rattle.list_walk.specs.Walks.{keys_on, page_after}
+use Rattle.retries.specs.Operation.{Follows, run}
+use Rattle.retries.specs.Retries.{Retried, fresh, step, wants_of}
+use Rattle.retries.specs.Worn.{WornFirst}
+use Rattle.s3_types.specs.declared.journal.Entry.{Entry}
+use Rattle.s3_types.specs.declared.journal.Outcome.{Outcome}
+use Rattle.s3_types.specs.declared.journal.Outcome.TheVariants.{Answered}
+use Rattle.s3_types.specs.declared.reply.PageEntry.{PageEntry}
+use Rattle.s3_types.specs.declared.reply.Reply.TheVariants.{Page}
+use Rattle.s3_types.specs.declared.request.Request.{Request}
+use Rattle.s3_types.specs.declared.request.Request.TheVariants.{ListPage}
+use Rattle.std.specs.Prelude.{Bool, List, None, Option, Some, false, ℕ, [], ◌++◌, ◌∷◌, ◌≡◌, ◌⊎◌}
 
 -- the check of the files of these attempts, as it begins
 abbrev pub checking : Script → List Who → Retried Check
@@ -30,4 +44,5 @@ CheckIs w es None (Conflict p) = (before : List Entry) × (e : Entry) × (es ≡
 CheckIs w es None _ = ⊥
 
 abbrev pub ChecksEnd : Type 0
-ChecksEnd = (w : Script) (reported : List Who) (es : List Entry) (t : Retried Check) → Checked w reported es t → (end : CheckEnd) → t.operation ≡ CheckOver end → (worn : Option Request) × WornFirst w.retries es worn × CheckIs w es worn end
+ChecksEnd = (w : Script) (reported : List Who) (es : List Entry) (t : Retried Check) → Checked w reported es t → (end : CheckEnd)
+    → t.operation ≡ CheckOver end → (worn : Option Request) × WornFirst w.retries es worn × CheckIs w es worn end

@@ -1,10 +1,24 @@
--- How the commit of a job whose destination others share ends, whatever they send: by a missing task, by its check, or as that of a job alone.
-use Rattle.std.specs.Prelude.{Bool, List, None, Option, Some, [], not, ℕ, ◌&&◌, ◌++◌, ◌≡◌}
-use Rattle.job_steps.specs.Prelude.{CommitEnd, CommitEnded, CommitOver, Entry, Request, Retried, Script, Stand, TheCheck, TheCommit, Times, Who, WornFirst, filter, is_begun}
-use Rattle.job_spec.specs.Prelude.{Fail, Mode, is_driver}
+-- How the commit of a job whose destination others share ends, whatever they send: by a missing task, by its check, or as that of a job
+-- alone.
+use Rattle.job_model.specs.Attempts.{Who}
+use Rattle.job_model.specs.JobScript.{Script}
 use Rattle.job_model.specs.declared.ends.CheckEnd.{CheckEnd}
 use Rattle.job_model.specs.declared.ends.CheckEnd.TheVariants.{Clear}
+use Rattle.job_model.specs.declared.ends.CommitEnd.{CommitEnd}
+use Rattle.job_protocol.specs.JobCommits.{CommitOver}
+use Rattle.job_protocol.specs.Operations.{TheCheck, TheCommit}
 use Rattle.job_protocol.specs.Rechecks.{Check, CheckOver}
+use Rattle.job_protocol.specs.Seen.{Times, is_begun}
+use Rattle.job_spec.specs.Ends.{CommitEnded, is_driver}
+use Rattle.job_traces.specs.Runs.{Stand}
+use Rattle.retries.specs.Retries.{Retried}
+use Rattle.retries.specs.Worn.{WornFirst}
+use Rattle.s3_types.specs.declared.journal.Entry.{Entry}
+use Rattle.s3_types.specs.declared.request.Mode.{Mode}
+use Rattle.s3_types.specs.declared.request.Mode.TheVariants.{Fail}
+use Rattle.s3_types.specs.declared.request.Request.{Request}
+use Rattle.std.specs.List.{filter}
+use Rattle.std.specs.Prelude.{Bool, List, None, Option, Some, not, ℕ, [], ◌&&◌, ◌++◌, ◌≡◌}
 use Rattle.twin_facts.specs.Spared.{InEachShared}
 use Rattle.twin_safety.specs.Checks.{CheckIs, Checked}
 
@@ -17,7 +31,8 @@ commit_entries k = filter (is_commits k)
 
 -- In the mode fail, where no task was missing, the check came first and found nothing by these entries; else there was none.
 abbrev pub IsCleared : Mode → Option ℕ → Script → List Who → List Entry → Type 0
-IsCleared Fail None w reported checks = (t : Retried Check) × Checked w reported checks t × (t.operation ≡ CheckOver Clear) × WornFirst w.retries checks None
+IsCleared Fail None w reported checks = (t : Retried Check) × Checked w reported checks t × (t.operation ≡ CheckOver Clear)
+    × WornFirst w.retries checks None
 IsCleared _ missing w reported checks = checks ≡ []
 
 -- the check ended it: no task was missing, and its entries are all those of the commit
@@ -27,7 +42,8 @@ pub record ByCheck (w : Script) (k : Times) (es : List Entry) (end : CheckEnd) :
   pub first : WornFirst w.retries (commit_entries k es) worn
   pub is : CheckIs w (commit_entries k es) worn end
 
--- the commit ended behind its check, as is due of a job alone by the task that was missing, the first of its requests that wore out, and the picks
+-- the commit ended behind its check, as is due of a job alone by the task that was missing, the first of its requests that wore out, and
+-- the picks
 pub record BehindCheck (w : Script) (k : Times) (es : List Entry) (x : Stand) (end : CommitEnd) : Type 0 where
   pub missing : Option ℕ
   pub reported : List Who
@@ -37,5 +53,7 @@ pub record BehindCheck (w : Script) (k : Times) (es : List Entry) (x : Stand) (e
   pub ended : CommitEnded w x.seen missing x.commit end
 
 pub record SharedCommitsEnd : Type 0 where
-  pub checks : InEachShared (λ g k opening es x. (t : Retried Check) (end : CheckEnd) → x.driver ≡ Some (TheCheck t) → t.operation ≡ CheckOver end → ByCheck g.script k es end)
-  pub commits : InEachShared (λ g k opening es x. (end : CommitEnd) → x.driver ≡ Some (TheCommit (CommitOver end)) → BehindCheck g.script k es x end)
+  pub checks : InEachShared (λ g k opening es x. (t : Retried Check) (end : CheckEnd) → x.driver ≡ Some (TheCheck t)
+      → t.operation ≡ CheckOver end → ByCheck g.script k es end)
+  pub commits : InEachShared (λ g k opening es x. (end : CommitEnd) → x.driver ≡ Some (TheCommit (CommitOver end))
+      → BehindCheck g.script k es x end)

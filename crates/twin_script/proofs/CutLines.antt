@@ -1,26 +1,40 @@
 -- Going over lines to the first parting line.
-use Rattle.twin_script.proofs.Common.{List, [], and_parts, ap, append-nil, append_assoc, arith, drop, drop-append_seam, drop_of_length-le, false, is_inside, length, length-append, list_all, not_so, parts_of, sym, take, take-append-drop, take-append_seam, true, without_return, ℕ, ◌++◌, ◌+◌, ◌==◌, ◌∙◌, ◌∷◌, ◌≡◌, ◌≤◌}
-use Rattle.std.specs.Prelude.{Some, None, if◌then◌else◌}
-use Rattle.std.proofs.lemmas.List.{length-take-le}
-use Rattle.twin_script.specs.Cutting.{is_parting, cut_from, cut}
+use Rattle.basics.proofs.Bools.{not_so}
+use Rattle.basics.specs.Lines.{is_inside, without_return}
+use Rattle.basics.specs.Parts.{parts_of}
+use Rattle.std.proofs.Common.{List, ap, append_assoc, arith, drop, false, length, length-append, sym, take, true, ℕ, [], ◌++◌, ◌+◌, ◌==◌}
+use Rattle.std.proofs.Common.{◌∙◌, ◌∷◌, ◌≡◌, ◌≤◌}
+use Rattle.std.proofs.Math.ListN.{drop_of_length-le}
+use Rattle.std.proofs.Math.Seq.{drop-append_seam, take-append_seam}
+use Rattle.std.proofs.lemmas.Bool.{and_parts}
+use Rattle.std.proofs.lemmas.List.{append-nil, length-take-le, take-append-drop}
+use Rattle.std.specs.List.{list_all}
+use Rattle.std.specs.Prelude.{None, Some, if◌then◌else◌}
 use Rattle.twin_script.proofs.Lines.{cut_at, lone_at}
+use Rattle.twin_script.specs.Cutting.{cut, cut_from, is_parting}
 
 -- a whole line: it parts, or it stands before the first parting line
-pub passed_line : (lines line front rest : List ℕ) → list_all is_inside front ≡ true → cut_from lines line (front ++ 10 ∷ rest) ≡ (if is_parting (without_return (line ++ front)) then Some (lines, rest) else cut_from (lines ++ ((line ++ front) ++ 10 ∷ [])) [] rest)
+pub passed_line : (lines line front rest : List ℕ) → list_all is_inside front ≡ true
+    → cut_from lines line (front ++ 10 ∷ rest) ≡ (if is_parting (without_return (line ++ front)) then Some (lines, rest) else cut_from
+    (lines ++ ((line ++ front) ++ 10 ∷ [])) [] rest)
 unfolding cut_from
-passed_line lines line [] rest h = ap (λ (l : List ℕ). if is_parting (without_return l) then Some (lines, rest) else cut_from (lines ++ (l ++ 10 ∷ [])) [] rest) (sym (append-nil line))
+passed_line lines line [] rest h = ap (λ (l : List ℕ). if is_parting (without_return l) then Some (lines, rest) else cut_from
+    (lines ++ (l ++ 10 ∷ [])) [] rest) (sym (append-nil line))
 passed_line lines line (x ∷ front) rest h =
     let p = and_parts (is_inside x) _ h in
     rw (not_so (x == 10) p.0)
-    (passed_line lines (line ++ x ∷ []) front rest p.1 ∙ ap (λ (l : List ℕ). if is_parting (without_return l) then Some (lines, rest) else cut_from (lines ++ (l ++ 10 ∷ [])) [] rest) (append_assoc line (x ∷ []) front))
+    (passed_line lines (line ++ x ∷ []) front rest p.1 ∙ ap (λ (l : List ℕ). if is_parting (without_return l) then Some (lines, rest) else
+    cut_from (lines ++ (l ++ 10 ∷ [])) [] rest) (append_assoc line (x ∷ []) front))
 
 -- the last line, without an LF
-pub last_line : (lines line front : List ℕ) → list_all is_inside front ≡ true → cut_from lines line front ≡ (if is_parting (line ++ front) then Some (lines, []) else None)
+pub last_line : (lines line front : List ℕ) → list_all is_inside front ≡ true
+    → cut_from lines line front ≡ (if is_parting (line ++ front) then Some (lines, []) else None)
 unfolding cut_from
 last_line lines line [] h = ap (λ (l : List ℕ). if is_parting l then Some (lines, []) else None) (sym (append-nil line))
 last_line lines line (x ∷ front) h =
     let p = and_parts (is_inside x) _ h in
-    rw (not_so (x == 10) p.0) (last_line lines (line ++ x ∷ []) front p.1 ∙ ap (λ (l : List ℕ). if is_parting l then Some (lines, []) else None) (append_assoc line (x ∷ []) front))
+    rw (not_so (x == 10) p.0) (last_line lines (line ++ x ∷ []) front p.1 ∙ ap
+    (λ (l : List ℕ). if is_parting l then Some (lines, []) else None) (append_assoc line (x ∷ []) front))
 
 -- past a line and its LF
 pub record Moved (bytes line rest : List ℕ) (at next : ℕ) : Type 0 where
@@ -28,13 +42,20 @@ pub record Moved (bytes line rest : List ℕ) (at next : ℕ) : Type 0 where
   pub behind : drop next bytes ≡ rest
   pub within : next ≤ length bytes
 
-pub moved : (bytes line rest : List ℕ) (at next : ℕ) → at ≤ length bytes → drop at bytes ≡ line ++ 10 ∷ rest → next ≡ at + (length line + 1) → Moved bytes line rest at next
+pub moved : (bytes line rest : List ℕ) (at next : ℕ) → at ≤ length bytes → drop at bytes ≡ line ++ 10 ∷ rest → next ≡ at + (length line + 1)
+    → Moved bytes line rest at next
 moved bytes line rest at next fits e is =
     let seen : List ℕ = take at bytes ++ (line ++ 10 ∷ []) in
     let whole : bytes ≡ seen ++ rest =
     sym (take-append-drop at bytes) ∙ ap (λ (l : List ℕ). take at bytes ++ l) (e ∙ sym (append_assoc line (10 ∷ []) rest))
     ∙ sym (append_assoc (take at bytes) (line ++ 10 ∷ []) rest) in
-    let long : next ≡ length seen = omega (arith, is, length-take-le at bytes fits, length-append (take at bytes) (line ++ 10 ∷ []), length-append line (10 ∷ [])) in
+    let long : next ≡ length seen = omega (
+      arith,
+      is,
+      length-take-le at bytes fits,
+      length-append (take at bytes) (line ++ 10 ∷ []),
+      length-append line (10 ∷ []),
+    ) in
     record {
       before = ap (λ (n : ℕ). take n bytes) long ∙ ap (λ (l : List ℕ). take (length seen) l) whole ∙ take-append_seam seen rest;
       behind = ap (λ (n : ℕ). drop n bytes) long ∙ ap (λ (l : List ℕ). drop (length seen) l) whole ∙ drop-append_seam seen rest;
@@ -42,7 +63,8 @@ moved bytes line rest at next fits e is =
     }
 
 -- what the search for a parting line answers at a line that begins behind `front`, which is the bytes before `at`
-module _ (bytes front behind line : List ℕ) (at : ℕ) (f : front ≡ take at bytes) (b : behind ≡ drop at bytes) (so_far : cut_from (take at bytes) [] (drop at bytes) ≡ cut bytes) where
+module _ (bytes front behind line : List ℕ) (at : ℕ) (f : front ≡ take at bytes) (b : behind ≡ drop at bytes)
+    (so_far : cut_from (take at bytes) [] (drop at bytes) ≡ cut bytes) where
   from_here : cut_from front [] behind ≡ cut bytes
   from_here = ap (λ (l : List ℕ). cut_from l [] behind) f ∙ ap (cut_from (take at bytes) []) b ∙ so_far
 
@@ -59,13 +81,18 @@ module _ (bytes front behind line : List ℕ) (at : ℕ) (f : front ≡ take at 
 
   -- a whole line parts, or the search goes on behind it
   line_is : (rest : List ℕ) → parts_of 10 behind ≡ line ∷ parts_of 10 rest
-      → (if is_parting (without_return line) then Some (take at bytes, rest) else cut_from (take at bytes ++ (line ++ 10 ∷ [])) [] rest) ≡ cut bytes
-  line_is rest e = let c = cut_at 10 behind line rest e in sym (ap (cut_from (take at bytes) []) (sym b ∙ c.whole) ∙ passed_line (take at bytes) [] line rest c.inside) ∙ so_far
+      → (if is_parting (without_return line) then Some (take at bytes, rest) else cut_from (take at bytes ++ (line ++ 10 ∷ [])) [] rest) ≡
+      cut bytes
+  line_is rest e = let c = cut_at 10 behind line rest e in sym (ap (cut_from (take at bytes) []) (sym b ∙ c.whole) ∙ passed_line
+      (take at bytes) [] line rest c.inside) ∙ so_far
 
-  pub parts_here : (rest : List ℕ) → parts_of 10 behind ≡ line ∷ parts_of 10 rest → is_parting (without_return line) ≡ true → Some (front, rest) ≡ cut bytes
+  pub parts_here : (rest : List ℕ) → parts_of 10 behind ≡ line ∷ parts_of 10 rest → is_parting (without_return line) ≡ true
+      → Some (front, rest) ≡ cut bytes
   parts_here rest e is = ap (λ (l : List ℕ). Some (l, rest)) f ∙ (rw is at (line_is rest e))
 
-  pub goes_on : (rest : List ℕ) (next : ℕ) → at ≤ length bytes → next ≡ at + (length line + 1) → parts_of 10 behind ≡ line ∷ parts_of 10 rest → is_parting (without_return line) ≡ false → (next ≤ length bytes) × (cut_from (take next bytes) [] (drop next bytes) ≡ cut bytes)
+  pub goes_on : (rest : List ℕ) (next : ℕ) → at ≤ length bytes → next ≡ at + (length line + 1)
+      → parts_of 10 behind ≡ line ∷ parts_of 10 rest → is_parting (without_return line) ≡ false → (next ≤ length bytes)
+      × (cut_from (take next bytes) [] (drop next bytes) ≡ cut bytes)
   goes_on rest next fits is_next e is =
       let m = moved bytes line rest at next fits (sym b ∙ (cut_at 10 behind line rest e).whole) is_next in
       (m.within, rw (m.before, m.behind) (rw is at (line_is rest e)))

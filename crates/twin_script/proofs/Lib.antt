@@ -4,4 +4,3 @@ pub mod OrderLines
 pub mod Pair
 pub mod Printed
 pub mod Again
-mod Common

@@ -1,26 +1,41 @@
 -- The first line of bytes that are cut at an LF, and bytes that write no number.
-use Rattle.twin_script.proofs.Common.{Bool, List, [], and_parts, ap, arith, drop, drop_of_length-le, false, first_from, is_digit, is_inside, join_parts, last_line, length, lines_of, list_all-append, number_in, refl, some_part, subst, sym, take, true, weaker, without_return, ℕ, ◌++◌, ◌<◌, ◌==◌, ◌∙◌, ◌∷◌, ◌≡◌}
-use Rattle.s3_types.specs.Prelude.{IsUtf8, is_hex, is_other, join_with_byte, list_all}
-use Rattle.std.specs.Prelude.{None, nat_le, ◌&&◌}
-use Rattle.std.proofs.Math.Seq.{take-length}
+use Rattle.basics.proofs.Counts.{some_part}
+use Rattle.basics.proofs.Lists.{weaker}
+use Rattle.basics.proofs.Pieces.{join_parts}
+use Rattle.basics.proofs.Split.{first_from, last_line}
+use Rattle.basics.specs.Lines.{is_inside, lines_of, without_return}
+use Rattle.basics.specs.Numbers.{is_digit, number_in}
+use Rattle.basics.specs.Parts.{is_other, parts_from, parts_of}
 use Rattle.s3_types.proofs.Utf8.{hex_utf8}
-use Rattle.basics.specs.Parts.{parts_from, parts_of}
+use Rattle.s3_types.specs.Tags.{is_hex}
+use Rattle.std.proofs.Common.{Bool, List, ap, arith, drop, false, length, refl, subst, sym, take, true, ℕ, [], ◌++◌, ◌<◌, ◌==◌, ◌∙◌, ◌∷◌}
+use Rattle.std.proofs.Common.{◌≡◌}
+use Rattle.std.proofs.Math.ListN.{drop_of_length-le}
+use Rattle.std.proofs.Math.Seq.{take-length}
+use Rattle.std.proofs.lemmas.Bool.{and_parts}
+use Rattle.std.proofs.lemmas.List.Folds.{list_all-append}
+use Rattle.std.specs.List.{join_with_byte, list_all}
+use Rattle.std.specs.Prelude.{None, nat_le, ◌&&◌}
+use Rattle.std.specs.Str.{IsUtf8}
 
 other : (s x : ℕ) → (x == s) ≡ false → is_other s x ≡ true
 other s x e = rw e refl
 
 -- the first part has no separator
-head_from : (s : ℕ) (front text part : List ℕ) (parts : List (List ℕ)) → list_all (is_other s) front ≡ true → parts_from s front text ≡ part ∷ parts → list_all (is_other s) part ≡ true
+head_from : (s : ℕ) (front text part : List ℕ) (parts : List (List ℕ)) → list_all (is_other s) front ≡ true
+    → parts_from s front text ≡ part ∷ parts → list_all (is_other s) part ≡ true
 unfolding parts_from
 head_from s front [] part parts h e = let same : front ≡ part = cc in subst (λ (l : List ℕ). list_all (is_other s) l ≡ true) same h
 head_from s front (x ∷ xs) part parts h e = by (x == s) refl (head_from s (front ++ x ∷ []) xs part parts)
   where
-    by : (b : Bool) → (x == s) ≡ b → (list_all (is_other s) (front ++ x ∷ []) ≡ true → parts_from s (front ++ x ∷ []) xs ≡ part ∷ parts → list_all (is_other s) part ≡ true) → list_all (is_other s) part ≡ true
+    by : (b : Bool) → (x == s) ≡ b → (list_all (is_other s) (front ++ x ∷ []) ≡ true → parts_from s (front ++ x ∷ []) xs ≡ part ∷ parts
+        → list_all (is_other s) part ≡ true) → list_all (is_other s) part ≡ true
     by true q more = let k = rw q at e in let same : front ≡ part = cc in subst (λ (l : List ℕ). list_all (is_other s) l ≡ true) same h
     by false q more = more (list_all-append (is_other s) front (x ∷ []) ∙ rw (h, q) refl) (rw q at e)
 
 -- a text by its first part and those behind it
-joined_parts : (s : ℕ) (part : List ℕ) (w : List ℕ) (ws : List (List ℕ)) (parts : List (List ℕ)) → parts ≡ w ∷ ws → join_with_byte s (part ∷ parts) ≡ part ++ s ∷ join_with_byte s parts
+joined_parts : (s : ℕ) (part : List ℕ) (w : List ℕ) (ws : List (List ℕ)) (parts : List (List ℕ)) → parts ≡ w ∷ ws
+    → join_with_byte s (part ∷ parts) ≡ part ++ s ∷ join_with_byte s parts
 joined_parts s part w ws parts e = rw e refl
 
 -- a text that was cut at its first separator
@@ -32,7 +47,8 @@ pub cut_at : (s : ℕ) (text part rest : List ℕ) → parts_of s text ≡ part 
 cut_at s text part rest e =
     let p = some_part s [] rest in
     record {
-      whole = sym (join_parts s text) ∙ ap (join_with_byte s) e ∙ joined_parts s part p.0 p.1 (parts_of s rest) p.2 ∙ ap (λ (l : List ℕ). part ++ s ∷ l) (join_parts s rest);
+      whole = sym (join_parts s text) ∙ ap (join_with_byte s) e ∙ joined_parts s part p.0 p.1 (parts_of s rest) p.2 ∙ ap
+          (λ (l : List ℕ). part ++ s ∷ l) (join_parts s rest);
       inside = head_from s [] text part (parts_of s rest) refl e;
     }
 
@@ -44,10 +60,14 @@ pub record Lone (s : ℕ) (text part : List ℕ) : Type 0 where
 pub lone_at : (s : ℕ) (text part : List ℕ) → parts_of s text ≡ part ∷ [] → Lone s text part
 lone_at s text part e =
     let whole : text ≡ part = sym (join_parts s text) ∙ ap (join_with_byte s) e in
-    record { whole = whole; inside = subst (λ (l : List ℕ). list_all (is_other s) l ≡ true) (sym whole) (head_from s [] text part [] refl e) }
+    record {
+      whole = whole;
+      inside = subst (λ (l : List ℕ). list_all (is_other s) l ≡ true) (sym whole) (head_from s [] text part [] refl e);
+    }
 
 -- the first line
-pub line_at_lf : (text part rest : List ℕ) → parts_of 10 text ≡ part ∷ parts_of 10 rest → lines_of text ≡ without_return part ∷ lines_of rest
+pub line_at_lf : (text part rest : List ℕ) → parts_of 10 text ≡ part ∷ parts_of 10 rest
+    → lines_of text ≡ without_return part ∷ lines_of rest
 line_at_lf text part rest e = let c = cut_at 10 text part rest e in ap lines_of c.whole ∙ first_from [] part rest c.inside
 
 -- the last line, without an LF

@@ -1,10 +1,25 @@
 -- What an order that was read keeps: each turn's count, and that no side is asked for more events than it has.
-use Rattle.twin_script.proofs.Common.{AllByRecursion, Bool, Draft, IsTurn, List, Ok, Option, Side, Some, TwinTurn, [], arith, check, checked, false, first_count, leb-true, length, lines_of, named, need, needed, none_left, number_bounds, number_in, parted, refl, same_ok, second_count, subst, sum_by-append, true, two, words_of, ℕ, ◌++◌, ◌+◌, ◌==◌, ◌∷◌, ◌≡◌, ◌≤◌}
-use Rattle.std.specs.Prelude.{sum_by, nat_le, option_map, if◌then◌else◌}
+use Rattle.basics.proofs.Reading.{checked, needed, parted, same_ok}
+use Rattle.basics.proofs.Split.{none_left}
+use Rattle.basics.specs.Lines.{lines_from, lines_of}
+use Rattle.basics.specs.Numbers.{number_in}
+use Rattle.basics.specs.Reading.{check, need}
+use Rattle.basics.specs.Shapes.{two}
+use Rattle.basics.specs.Words.{words_of}
+use Rattle.job_script.proofs.Words.{number_bounds}
+use Rattle.job_script.specs.Kinds.{named}
+use Rattle.std.proofs.Common.{Bool, List, Ok, Option, Some, arith, false, length, refl, subst, true, ℕ, [], ◌++◌, ◌+◌, ◌==◌, ◌∷◌, ◌≡◌, ◌≤◌}
+use Rattle.std.proofs.lemmas.Bool.{leb-true}
+use Rattle.std.proofs.lemmas.List.Sums.{sum_by-append}
 use Rattle.std.proofs.lemmas.Option.{option_and_then_some}
-use Rattle.basics.specs.Lines.{lines_from}
+use Rattle.std.specs.List.{AllByRecursion}
+use Rattle.std.specs.Prelude.{if◌then◌else◌, nat_le, option_map, sum_by}
+use Rattle.twin_script.specs.Order.{left, line_at, lines_at, nothing, order_of, sides, turn_at, turn_by, turn_in, turn_of, with_turn}
+use Rattle.twin_script.specs.TwinScripts.{IsTurn, first_count, second_count}
 use Rattle.twin_script.specs.declared.fault.TwinFault.TheVariants.{BadOrder}
-use Rattle.twin_script.specs.Order.{sides, turn_by, turn_in, turn_of, left, with_turn, turn_at, line_at, lines_at, nothing, order_of}
+use Rattle.twin_script.specs.declared.order.Draft.{Draft}
+use Rattle.twin_script.specs.declared.turns.Side.{Side}
+use Rattle.twin_script.specs.declared.turns.TwinTurn.{TwinTurn}
 
 mapped : (side : Side) (o : Option ℕ) (turn : TwinTurn) → option_map (turn_by side) o ≡ Some turn → o ≡ Some turn.count
 mapped side o turn h = grind arith
@@ -13,7 +28,8 @@ mapped side o turn h = grind arith
 turn_bounds : (line : List ℕ) (turn : TwinTurn) → turn_of line ≡ Some turn → IsTurn turn
 turn_bounds line turn h =
     option_and_then_some turn_in (two (words_of line)) turn h (λ words _ in_words.
-    option_and_then_some (λ side. option_map (turn_by side) (number_in 1 100000 words.1)) (named sides words.0) turn in_words (λ side _ by_side.
+    option_and_then_some (λ side. option_map (turn_by side) (number_in 1 100000 words.1)) (named sides words.0) turn in_words
+    (λ side _ by_side.
     number_bounds 1 100000 words.1 turn.count (mapped side (number_in 1 100000 words.1) turn by_side)))
 
 -- the bounds of what the lines so far said, of scripts of so many events
@@ -22,14 +38,17 @@ pub record IsSound (first second : ℕ) (d : Draft) : Type 0 where
   pub first_sum : sum_by first_count d.turns + d.first ≡ first
   pub second_sum : sum_by second_count d.turns + d.second ≡ second
 
-all_and_one : (turns : List TwinTurn) (turn : TwinTurn) → AllByRecursion IsTurn turns → IsTurn turn → AllByRecursion IsTurn (turns ++ turn ∷ [])
+all_and_one : (turns : List TwinTurn) (turn : TwinTurn) → AllByRecursion IsTurn turns → IsTurn turn
+    → AllByRecursion IsTurn (turns ++ turn ∷ [])
 all_and_one [] turn h is = (is, tt)
 all_and_one (t ∷ turns) turn h is = (h.0, all_and_one turns turn h.1 is)
 
 one_sum : (f : TwinTurn → ℕ) (turns : List TwinTurn) (turn : TwinTurn) → sum_by f (turns ++ turn ∷ []) ≡ sum_by f turns + f turn
-one_sum f turns turn = let e = sum_by-append f turns (turn ∷ []) in let one : sum_by f (turn ∷ []) ≡ 0 + f turn = refl in omega (arith, e, one)
+one_sum f turns turn = let e = sum_by-append f turns (turn ∷ []) in let one : sum_by f (turn ∷ []) ≡ 0 + f turn = refl in omega
+    (arith, e, one)
 
-taken : (first second : ℕ) (d : Draft) (side : Side) (count : ℕ) → IsTurn (turn_by side count) → count ≤ left d side → IsSound first second d → IsSound first second (with_turn d (turn_by side count))
+taken : (first second : ℕ) (d : Draft) (side : Side) (count : ℕ) → IsTurn (turn_by side count) → count ≤ left d side
+    → IsSound first second d → IsSound first second (with_turn d (turn_by side count))
 taken first second d side count h g e = grind (arith, one_sum, all_and_one)
 
 turn_sound : (first second n : ℕ) (d e : Draft) (line : List ℕ) → turn_at n d line ≡ Ok e → IsSound first second d → IsSound first second e
@@ -42,11 +61,13 @@ turn_sound first second n d e line h s =
     let enough = leb-true turn.count (left d turn.side) (checked _ (BadOrder n) b.value b.first) in
     subst (IsSound first second) (same_ok (with_turn d turn) e b.next) (taken first second d turn.side turn.count is enough s)
 
-line_sound : (first second : ℕ) (b : Bool) (n : ℕ) (d e : Draft) (line : List ℕ) → (if b then Ok d else turn_at n d line) ≡ Ok e → IsSound first second d → IsSound first second e
+line_sound : (first second : ℕ) (b : Bool) (n : ℕ) (d e : Draft) (line : List ℕ) → (if b then Ok d else turn_at n d line) ≡ Ok e
+    → IsSound first second d → IsSound first second e
 line_sound first second true n d e line h s = subst (IsSound first second) (same_ok d e h) s
 line_sound first second false n d e line h s = turn_sound first second n d e line h s
 
-lines_sound : (first second n : ℕ) (d e : Draft) (lines : List (List ℕ)) → lines_at n d lines ≡ Ok e → IsSound first second d → IsSound first second e
+lines_sound : (first second n : ℕ) (d e : Draft) (lines : List (List ℕ)) → lines_at n d lines ≡ Ok e → IsSound first second d
+    → IsSound first second e
 unfolding lines_at
 lines_sound first second n d e [] h s = subst (IsSound first second) (same_ok d e h) s
 lines_sound first second n d e (line ∷ lines) h s =
@@ -60,10 +81,12 @@ pub record IsOrder (first second : ℕ) (order : List TwinTurn) : Type 0 where
   pub second_events : sum_by second_count order ≤ second
 
 -- an order that was read
-pub order_sound : (first second : ℕ) (bytes : List ℕ) (turns : List TwinTurn) → order_of first second bytes ≡ Ok turns → IsOrder first second turns
+pub order_sound : (first second : ℕ) (bytes : List ℕ) (turns : List TwinTurn) → order_of first second bytes ≡ Ok turns
+    → IsOrder first second turns
 order_sound first second bytes turns h =
     let a = parted (lines_at 1 (nothing first second) (lines_of bytes)) _ _ h in
-    let s = lines_sound first second 1 (nothing first second) a.value (lines_of bytes) a.first (record { turns = tt; first_sum = omega arith; second_sum = omega arith }) in
+    let s = lines_sound first second 1 (nothing first second) a.value (lines_of bytes) a.first
+    (record { turns = tt; first_sum = omega arith; second_sum = omega arith }) in
     subst (IsOrder first second) (same_ok a.value.turns turns a.next)
     (record { turns = s.turns; first_events = omega (arith, s.first_sum); second_events = omega (arith, s.second_sum) })
 

@@ -1,24 +1,41 @@
 -- Two scripts that may run as twins, and the faults of their parts and of their order.
-use Rattle.twin_script.proofs.Common.{AreTwins, Bool, Fate, FateMap, List, None, Ok, Option, Result, Script, Some, TwinTurn, and_parts, ap, arith, bytes_eq, bytes_eq-Decides, check, checked, empty_of_len, eqb-true, false, first_fault, get-empty, is_replace, is_some, is_told, len-empty, length, nat_cmp, nat_cmp-IsAntisymmetric, nat_cmp_total, not, not_so, order_of, parted, refl, same_map, second_fault, sym, true, unless_more, wanting, ℕ, ⊤, ◌==◌, ◌>>=◌, ◌||◌, ◌∙◌, ◌≡◌, ◌≢◌}
-use Rattle.std.specs.FinMap as map
-use Rattle.std.proofs.lemmas.Bool.{not-false, or_parts}
-use Rattle.std.proofs.lemmas.Bool.Decides.{not_from_Decides}
-use Rattle.s3_types.specs.Fates.{IsFirstFrom}
-use Rattle.basics.specs.Reading as reading
-use Rattle.job_script.specs.declared.fault.ScriptFault.{ScriptFault}
-use Rattle.job_script.specs.declared.fault.ScriptFault.TheVariants as script_fault
-use Rattle.twin_script.specs.declared.fault.TwinFault.{TwinFault}
-use Rattle.twin_script.specs.declared.fault.TwinFault.TheVariants as fault
-use Rattle.twin_script.specs.Twins.{within, is_same_dest, names_fate, told, fit, turns_of, paired}
-use Rattle.twin_script.proofs.OrderLines.{order_sound}
+use Rattle.basics.proofs.Bools.{not_so}
+use Rattle.basics.proofs.Reading.{checked, parted, unless_more}
+use Rattle.basics.specs.Reading.{check, ◌>>=◌}
+use Rattle.job_model.specs.JobScript.{Script}
 use Rattle.job_script.specs.Fault.{wanting as script_wanting}
+use Rattle.job_script.specs.declared.fault.ScriptFault.{ScriptFault}
+use Rattle.s3_types.specs.Fates.{FateMap, IsFirstFrom}
+use Rattle.s3_types.specs.declared.fates.Fate.{Fate}
+use Rattle.std.proofs.Common.{Bool, List, None, Ok, Option, Some, ap, arith, false, length, not, refl, sym, true, ℕ, ◌==◌, ◌∙◌, ◌≡◌, ◌≢◌}
+use Rattle.std.proofs.lemmas.Bool.{and_parts, eqb-true, not-false, or_parts}
+use Rattle.std.proofs.lemmas.Bool.Decides.{not_from_Decides}
+use Rattle.std.proofs.lemmas.Slice.Eq.{bytes_eq-Decides}
+use Rattle.std.specs.Cmp.{nat_cmp_total}
+use Rattle.std.specs.FinMap.{empty_of_len, get-empty, len-empty, nat_cmp-IsAntisymmetric, same_map}
+use Rattle.std.specs.Ordering.{nat_cmp}
+use Rattle.std.specs.Prelude.{Result, bytes_eq, is_some, ⊤, ◌||◌}
+use Rattle.twin_script.proofs.OrderLines.{order_sound}
+use Rattle.twin_script.specs.Fault.{first_fault, is_told, second_fault, wanting}
+use Rattle.twin_script.specs.Order.{order_of}
+use Rattle.twin_script.specs.TwinScripts.{AreTwins, is_replace}
+use Rattle.twin_script.specs.Twins.{fit, is_same_dest, names_fate, paired, told, turns_of, within}
+use Rattle.twin_script.specs.declared.fault.TwinFault.{TwinFault}
+use Rattle.twin_script.specs.declared.turns.TwinTurn.{TwinTurn}
+use Rattle.std.specs.FinMap as map
+use Rattle.basics.specs.Reading as reading
+use Rattle.job_script.specs.declared.fault.ScriptFault.TheVariants as script_fault
+use Rattle.twin_script.specs.declared.fault.TwinFault.TheVariants as fault
 
 -- no sending has a fate
 pub no_fates : (m : FateMap) → IsFirstFrom m 0 None → map.len m ≡ 0
-no_fates m none = ap map.len (same_map nat_cmp_total nat_cmp-IsAntisymmetric m map.empty (λ k. none k (omega arith) ∙ sym (get-empty nat_cmp k))) ∙ len-empty nat_cmp Fate
+no_fates m none = ap map.len (same_map nat_cmp_total nat_cmp-IsAntisymmetric m map.empty
+    (λ k. none k (omega arith) ∙ sym (get-empty nat_cmp k))) ∙ len-empty nat_cmp Fate
 
 -- the answer of `fit`, by its tests of what the scripts hold
-pub fit_by : (first second p q : Script) (a b r l : Bool) → p ≡ first → q ≡ second → a ≡ bytes_eq p.job q.job → b ≡ is_same_dest p.dest q.dest → r ≡ (is_replace p.mode || is_replace q.mode) → l ≡ names_fate q.fates → told a b r l ≡ fit first second
+pub fit_by : (first second p q : Script) (a b r l : Bool) → p ≡ first → q ≡ second → a ≡ bytes_eq p.job q.job
+    → b ≡ is_same_dest p.dest q.dest → r ≡ (is_replace p.mode || is_replace q.mode) → l ≡ names_fate q.fates
+    → told a b r l ≡ fit first second
 unfolding fit
 fit_by first second p q a b r l ep eq ea eb er el = (λ i. told (ea i) (eb i) (er i) (el i)) ∙ (λ i. fit (ep i) (eq i))
 
@@ -26,7 +43,8 @@ fit_by first second p q a b r l ep eq ea eb er el = (λ i. told (ea i) (eb i) (e
 pub fate_named : (m : FateMap) (o : Option (ℕ × Fate)) → IsFirstFrom m 0 o → is_some o ≡ names_fate m
 fate_named m None h = sym (ap (λ (n : ℕ). not (n == 0)) (no_fates m h))
 fate_named m (Some s) h = (elim (map.len m == 0) as (λ b. (map.len m == 0) ≡ b → true ≡ not b) [
-  | true ↦ λ e. let none = ap (λ (x : FateMap). map.get x s.0) (empty_of_len m (eqb-true (map.len m) 0 e)) ∙ get-empty nat_cmp s.0 in let some = h.1 in cc
+  | true ↦ λ e. let none = ap (λ (x : FateMap). map.get x s.0) (empty_of_len m (eqb-true (map.len m) 0 e)) ∙ get-empty nat_cmp s.0 in let
+      some = h.1 in cc
   | false ↦ λ e. refl
 ]) refl
 
@@ -51,18 +69,24 @@ fit_sound first second u h =
     let b = parted (check (is_same_dest first.dest second.dest) fault.OtherDest) _ _ a.next in
     let c = parted (check (not (is_replace first.mode || is_replace second.mode)) fault.ReplaceMode) _ _ b.next in
     let d = checked (not (names_fate second.fates)) fault.SecondLoss u c.next in
-    let dest = and_parts (bytes_eq first.dest.bucket second.dest.bucket) (bytes_eq first.dest.key second.dest.key) (checked _ fault.OtherDest b.value b.first) in
+    let dest = and_parts (bytes_eq first.dest.bucket second.dest.bucket) (bytes_eq first.dest.key second.dest.key)
+    (checked _ fault.OtherDest b.value b.first) in
     let keep = or_parts (is_replace first.mode) (is_replace second.mode) (not_so _ (checked _ fault.ReplaceMode c.value c.first)) in
     record {
       ids = not_from_Decides _ (bytes_eq-Decides first.job second.job) (not_so _ (checked _ fault.SameJob a.value a.first));
-      dest = λ i. record { bucket = (bytes_eq-Decides first.dest.bucket second.dest.bucket).0 dest.0 i; key = (bytes_eq-Decides first.dest.key second.dest.key).0 dest.1 i };
+      dest = λ i. record {
+        bucket = (bytes_eq-Decides first.dest.bucket second.dest.bucket).0 dest.0 i;
+        key =
+            (bytes_eq-Decides first.dest.key second.dest.key).0 dest.1 i;
+      };
       first_keeps = keep.0;
       second_keeps = keep.1;
       lossless = empty_of_len second.fates (eqb-true (map.len second.fates) 0 (not-false (map.len second.fates == 0) (not_so _ d)));
     }
 
 -- what was read runs as twins
-pub turns_sound : (first second : Script) (bytes : List ℕ) (order : List TwinTurn) → turns_of first second bytes ≡ Ok order → AreTwins (record { first = first; second = second; order = order })
+pub turns_sound : (first second : Script) (bytes : List ℕ) (order : List TwinTurn) → turns_of first second bytes ≡ Ok order
+    → AreTwins (record { first = first; second = second; order = order })
 unfolding turns_of
 turns_sound first second bytes order h =
     let a = parted (fit first second) (λ u. order_of (length first.events) (length second.events) bytes) order h in
@@ -71,18 +95,22 @@ turns_sound first second bytes order h =
     assumption (fits, orders)
 
 -- turns that are none
-pub turns_end : (first second : Script) (order : List ℕ) (e : TwinFault) → reading.Fails wanting e (turns_of first second order) → reading.Fails wanting e (paired first second order)
+pub turns_end : (first second : Script) (order : List ℕ) (e : TwinFault) → reading.Fails wanting e (turns_of first second order)
+    → reading.Fails wanting e (paired first second order)
 unfolding paired
-turns_end first second order e h = unless_more (wanting e) (λ is. ap (λ r. r >>= λ turns. Ok (record { first = first; second = second; order = turns })) is) h
+turns_end first second order e h = unless_more (wanting e) (λ is. ap
+    (λ r. r >>= λ turns. Ok (record { first = first; second = second; order = turns })) is) h
 
 -- a fault of the first part; want of memory is told as that of the whole
-pub first_fails : (e : ScriptFault) (f : TwinFault) (read : Result Script ScriptFault) → f ≡ first_fault e → reading.Fails script_wanting e read
+pub first_fails : (e : ScriptFault) (f : TwinFault) (read : Result Script ScriptFault) → f ≡ first_fault e
+    → reading.Fails script_wanting e read
     → record { exact : reading.Fails wanting f (within fault.First read); told : is_told f ≡ true }
 first_fails script_fault.NoMemory f read is h = rw is (record { exact = tt; told = refl })
 first_fails e f read is h = rw is (record { exact = ap (within fault.First) h; told = refl })
 
 -- a fault of the second part
-pub second_fails : (e : ScriptFault) (f : TwinFault) (read : Result Script ScriptFault) → f ≡ second_fault e → reading.Fails script_wanting e read
+pub second_fails : (e : ScriptFault) (f : TwinFault) (read : Result Script ScriptFault) → f ≡ second_fault e
+    → reading.Fails script_wanting e read
     → record { exact : reading.Fails wanting f (within fault.Second read); told : is_told f ≡ true }
 second_fails script_fault.NoMemory f read is h = rw is (record { exact = tt; told = refl })
 second_fails e f read is h = rw is (record { exact = ap (within fault.Second) h; told = refl })

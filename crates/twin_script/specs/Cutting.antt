@@ -1,12 +1,14 @@
 -- The parts of some bytes between two parting lines.
-use Rattle.std.specs.Prelude.{ℕ, ◌==◌, Bool, List, [], ◌∷◌, ◌++◌, codes, bytes_eq, Option, Some, None, is_some, option_and_then, if◌then◌else◌}
 use Rattle.basics.specs.Lines.{without_return}
+use Rattle.std.specs.Prelude.{Bool, List, None, Option, Some, bytes_eq, codes, if◌then◌else◌, is_some, option_and_then, ℕ, [], ◌++◌, ◌==◌}
+use Rattle.std.specs.Prelude.{◌∷◌}
 
 -- the line =====
 abbrev pub is_parting : List ℕ → Bool
 is_parting line = bytes_eq line (codes "=====")
 
--- What stands before the first parting line and what behind it, after the lines and the front of a line that were seen; each LF ends a line, with one CR before it dropped.
+-- What stands before the first parting line and what behind it, after the lines and the front of a line that were seen; each LF ends a
+-- line, with one CR before it dropped.
 unfoldable pub cut_from : List ℕ → List ℕ → List ℕ → Option (List ℕ × List ℕ)
 cut_from lines line [] = if is_parting line then Some (lines, []) else None
 cut_from lines line (x ∷ xs) =

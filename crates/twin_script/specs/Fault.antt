@@ -1,11 +1,12 @@
 -- Faults by their numbers and lines, and what a call returned of what reading gives.
-use Rattle.std.specs.Prelude.{ℕ, ⊤, Bool, true, false, Result}
+use Rattle.job_script.specs.declared.fault.ScriptFault.{ScriptFault}
+use Rattle.std.specs.Prelude.{Bool, Result, false, true, ℕ, ⊤}
+use Rattle.twin_script.specs.declared.fault.TwinFault.{TwinFault}
+use Rattle.twin_script.specs.declared.fault.TwinFault.TheVariants.{BadOrder, First, NoMemory, NotThree, OtherDest, ReplaceMode, SameJob}
+use Rattle.twin_script.specs.declared.fault.TwinFault.TheVariants.{Second, SecondLoss, TooLarge}
 use Rattle.basics.specs.Reading as reading
 use Rattle.job_script.specs.Fault as script
-use Rattle.job_script.specs.declared.fault.ScriptFault.{ScriptFault}
 use Rattle.job_script.specs.declared.fault.ScriptFault.TheVariants as script_fault
-use Rattle.twin_script.specs.declared.fault.TwinFault.{TwinFault}
-use Rattle.twin_script.specs.declared.fault.TwinFault.TheVariants.{NotThree, First, Second, SameJob, OtherDest, ReplaceMode, SecondLoss, BadOrder, TooLarge, NoMemory}
 
 -- a fault's number
 abbrev pub number_of : TwinFault → ℕ

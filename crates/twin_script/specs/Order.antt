@@ -1,14 +1,18 @@
 -- What the lines of an order say.
-use Rattle.std.specs.Prelude.{List, Ok, Option, Result, [], codes, length, nat_le, option_and_then, option_map, ℕ, ◌++◌, ◌+◌, ◌-◌, ◌==◌, ◌∷◌, if◌then◌else◌}
-use Rattle.job_model.specs.Prelude.{check, lines_of, need, two, words_of, ◌>>=◌}
+use Rattle.basics.specs.Lines.{lines_of}
 use Rattle.basics.specs.Numbers.{number_in}
+use Rattle.basics.specs.Reading.{check, need, ◌>>=◌}
+use Rattle.basics.specs.Shapes.{two}
+use Rattle.basics.specs.Words.{words_of}
 use Rattle.job_script.specs.Kinds.{Names, named}
-use Rattle.twin_script.specs.declared.turns.Side.{Side}
-use Rattle.twin_script.specs.declared.turns.Side.TheVariants.{First, Second}
-use Rattle.twin_script.specs.declared.turns.TwinTurn.{TwinTurn}
+use Rattle.std.specs.Prelude.{List, Ok, Option, Result, codes, if◌then◌else◌, length, nat_le, option_and_then, option_map, ℕ, [], ◌++◌, ◌+◌}
+use Rattle.std.specs.Prelude.{◌-◌, ◌==◌, ◌∷◌}
 use Rattle.twin_script.specs.declared.fault.TwinFault.{TwinFault}
 use Rattle.twin_script.specs.declared.fault.TwinFault.TheVariants.{BadOrder}
 use Rattle.twin_script.specs.declared.order.Draft.{Draft}
+use Rattle.twin_script.specs.declared.turns.Side.{Side}
+use Rattle.twin_script.specs.declared.turns.Side.TheVariants.{First, Second}
+use Rattle.twin_script.specs.declared.turns.TwinTurn.{TwinTurn}
 
 -- the words of the sides
 abbrev pub sides : Names Side

@@ -1,12 +1,13 @@
 -- The text that two scripts and an order are printed as.
-use Rattle.std.specs.Prelude.{ℕ, List, [], ◌∷◌, ◌++◌, map, codes}
-use Rattle.job_model.specs.Prelude.{decimal, ended, text_of}
+use Rattle.basics.specs.Words.{ended, text_of}
 use Rattle.job_script.specs.Kinds.{Line}
 use Rattle.job_script.specs.Print.{script_text}
+use Rattle.std.specs.Fmt.{decimal}
+use Rattle.std.specs.Prelude.{List, codes, map, ℕ, [], ◌++◌, ◌∷◌}
+use Rattle.twin_script.specs.TwinScripts.{Twins}
 use Rattle.twin_script.specs.declared.turns.Side.{Side}
 use Rattle.twin_script.specs.declared.turns.Side.TheVariants.{First, Second}
 use Rattle.twin_script.specs.declared.turns.TwinTurn.{TwinTurn}
-use Rattle.twin_script.specs.TwinScripts.{Twins}
 
 -- the word of a side
 abbrev pub side_word : Side → List ℕ

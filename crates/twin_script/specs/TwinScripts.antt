@@ -1,8 +1,12 @@
 -- Two scripts and the order of their turns.
-use Rattle.std.specs.Prelude.{Bool, List, false, flat_map, length, refl, replicate, suc, sum_by, true, zero, ℕ, ◌≡◌, ◌≢◌, ◌≤◌, if◌then◌else◌}
-use Rattle.job_model.specs.Prelude.{AllByRecursion, Mode, Replace, Script}
-use Rattle.s3_types.specs.Prelude.{Coded, code_by, coded_list, coded_ℕ, coded×}
 use Rattle.job_model.specs.Codes.{coded_script}
+use Rattle.job_model.specs.JobScript.{Script}
+use Rattle.s3_types.specs.declared.request.Mode.{Mode}
+use Rattle.s3_types.specs.declared.request.Mode.TheVariants.{Replace}
+use Rattle.std.specs.Coded.{Coded, code_by, coded_list, coded_ℕ, coded×}
+use Rattle.std.specs.List.{AllByRecursion}
+use Rattle.std.specs.Prelude.{Bool, List, false, flat_map, if◌then◌else◌, length, refl, replicate, suc, sum_by, true, zero, ℕ, ◌≡◌, ◌≢◌}
+use Rattle.std.specs.Prelude.{◌≤◌}
 use Rattle.twin_script.specs.declared.turns.Side.{Side}
 use Rattle.twin_script.specs.declared.turns.Side.TheVariants.{First, Second}
 use Rattle.twin_script.specs.declared.turns.TwinTurn.{TwinTurn}
@@ -68,11 +72,13 @@ side_again Second = refl
 
 -- the code of a turn
 abbrev pub coded_turn : Coded TwinTurn
-coded_turn = code_by (ℕ × ℕ) (coded× coded_ℕ coded_ℕ) (λ t. (side_number t.side, t.count)) (λ p. record { side = numbered_side p.0; count = p.1 }) turn_again
+coded_turn = code_by (ℕ × ℕ) (coded× coded_ℕ coded_ℕ) (λ t. (side_number t.side, t.count))
+    (λ p. record { side = numbered_side p.0; count = p.1 }) turn_again
   where
     turn_again : (t : TwinTurn) → record { side = numbered_side (side_number t.side); count = t.count } ≡ t
     turn_again t = λ i. record { side = side_again t.side i; count = t.count }
 
 -- the code of two scripts and an order
 abbrev pub coded_twins : Coded Twins
-coded_twins = code_by (Script × (Script × List TwinTurn)) (coded× coded_script (coded× coded_script (coded_list coded_turn))) (λ t. (t.first, (t.second, t.order))) (λ p. record { first = p.0; second = p.1.0; order = p.1.1 }) (λ _. refl)
+coded_twins = code_by (Script × (Script × List TwinTurn)) (coded× coded_script (coded× coded_script (coded_list coded_turn)))
+    (λ t. (t.first, (t.second, t.order))) (λ p. record { first = p.0; second = p.1.0; order = p.1.1 }) (λ _. refl)

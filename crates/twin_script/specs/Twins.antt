@@ -1,13 +1,17 @@
 -- What the bytes of two scripts and an order mean.
-use Rattle.std.specs.Prelude.{Bool, Err, List, Ok, Result, bytes_eq, length, nat_le, not, ℕ, ⊤, ◌&&◌, ◌==◌, ◌||◌}
-use Rattle.job_model.specs.Prelude.{FateMap, MOST_SCRIPT_BYTES, Path, Script, check, need, ◌>>=◌}
+use Rattle.basics.specs.Reading.{check, need, ◌>>=◌}
+use Rattle.job_model.specs.JobScript.{Script}
 use Rattle.job_script.specs.Script.{script_of}
 use Rattle.job_script.specs.declared.fault.ScriptFault.{ScriptFault}
-use Rattle.twin_script.specs.declared.turns.TwinTurn.{TwinTurn}
-use Rattle.twin_script.specs.declared.fault.TwinFault.{TwinFault}
-use Rattle.twin_script.specs.TwinScripts.{Twins, is_replace}
+use Rattle.path_keys.specs.Paths.{Path}
+use Rattle.s3_types.specs.Fates.{FateMap}
+use Rattle.s3_types.specs.declared.limits.TheConstants.{MOST_SCRIPT_BYTES}
+use Rattle.std.specs.Prelude.{Bool, Err, List, Ok, Result, bytes_eq, length, nat_le, not, ℕ, ⊤, ◌&&◌, ◌==◌, ◌||◌}
 use Rattle.twin_script.specs.Cutting.{three_parts}
 use Rattle.twin_script.specs.Order.{order_of}
+use Rattle.twin_script.specs.TwinScripts.{Twins, is_replace}
+use Rattle.twin_script.specs.declared.fault.TwinFault.{TwinFault}
+use Rattle.twin_script.specs.declared.turns.TwinTurn.{TwinTurn}
 use Rattle.std.specs.FinMap as map
 use Rattle.twin_script.specs.declared.fault.TwinFault.TheVariants as fault
 
@@ -34,7 +38,8 @@ told same_job same_dest replaces loses = do
 
 -- two scripts may run as twins
 unfoldable pub fit : Script → Script → Result ⊤ TwinFault
-fit first second = told (bytes_eq first.job second.job) (is_same_dest first.dest second.dest) (is_replace first.mode || is_replace second.mode) (names_fate second.fates)
+fit first second = told (bytes_eq first.job second.job) (is_same_dest first.dest second.dest)
+    (is_replace first.mode || is_replace second.mode) (names_fate second.fates)
 
 -- the turns of an order over two scripts that may run as twins
 unfoldable pub turns_of : Script → Script → List ℕ → Result (List TwinTurn) TwinFault

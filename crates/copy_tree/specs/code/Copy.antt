@@ -1,18 +1,37 @@
 -- Copying all that is below a directory, by its stages.
-use Rattle.std.specs.Prelude.{ℕ, ◌+◌, ◌||◌, ◌&&◌, nat_lt, nat_eq, Bool, true, false, cond, List, [], ◌∷◌, ◌++◌, length, drop, Option, Some, None, Result, Ok, Err}
-use Rattle.fs_ops.specs.Prelude.{text_eq, begins, PageEntry, Reply, Step, Next, End, Look, There, look_of, Ask, Head, Get, bucket_asks, marker_of, keys_above, keys_on, Walked, More, Whole, walked_entries, CopyRefusal, Overlap, SourceIsFile, Differs, CopyCount, key_if, prefix_of, look_asks, unless, climbing, climbed, walk_asks, fits}
-use Rattle.fs_tree.specs.declared.copy.CopyRefusal.TheVariants.{NoSuchBucket, SourceMissing, TargetFile, TooLong}
-use Rattle.fs_ops.specs.declared.climb.Climbed.{Climbed}
-use Rattle.fs_ops.specs.declared.climb.Climbed.TheVariants.{File, On as Goes_on, Free}
-use Rattle.fs_rename.specs.declared.copying.CopyStep.{CopyStep}
-use Rattle.fs_rename.specs.declared.copying.CopyStep.TheVariants.{Next as NextCopy, All}
-use Rattle.fs_rename.specs.Keys.{place_of, new_keys}
-use Rattle.fs_rename.specs.Copies.{copy_asks, has_more, copied_next}
-use Rattle.copy_tree.specs.declared.stages.Parts.{Parts}
-use Rattle.copy_tree.specs.declared.stages.CopyStage.{CopyStage}
-use Rattle.copy_tree.specs.declared.stages.CopyStage.TheVariants.{Here, Walk, Up, WalkTarget, Source, Target, Copy}
+use Rattle.basics.specs.Order.{text_eq}
+use Rattle.bucket_ops.specs.Asks.{Ask, Get, Head}
+use Rattle.bucket_ops.specs.Looks.{look_of}
+use Rattle.bucket_ops.specs.Walking.{fits, walk_asks}
+use Rattle.bucket_ops.specs.declared.look.Look.{Look}
+use Rattle.bucket_ops.specs.declared.look.Look.TheVariants.{There}
 use Rattle.copy_tree.specs.Parts.{chosen}
+use Rattle.copy_tree.specs.declared.stages.CopyStage.{CopyStage}
+use Rattle.copy_tree.specs.declared.stages.CopyStage.TheVariants.{Copy, Here, Source, Target, Up, Walk, WalkTarget}
+use Rattle.copy_tree.specs.declared.stages.Parts.{Parts}
+use Rattle.dir_markers.specs.Markers.{keys_above, marker_of}
+use Rattle.fs_ops.specs.Places.{bucket_asks, key_if, look_asks, prefix_of}
+use Rattle.fs_ops.specs.code.Climbs.{climbed, climbing}
+use Rattle.fs_ops.specs.code.Steps.{unless}
+use Rattle.fs_ops.specs.declared.climb.Climbed.{Climbed}
+use Rattle.fs_ops.specs.declared.climb.Climbed.TheVariants.{File, Free, On as Goes_on}
+use Rattle.fs_rename.specs.Copies.{copied_next, copy_asks, has_more}
+use Rattle.fs_rename.specs.Keys.{new_keys, place_of}
+use Rattle.fs_rename.specs.declared.copying.CopyStep.{CopyStep}
+use Rattle.fs_rename.specs.declared.copying.CopyStep.TheVariants.{All, Next as NextCopy}
+use Rattle.fs_tree.specs.declared.copy.CopyCount.{CopyCount}
+use Rattle.fs_tree.specs.declared.copy.CopyRefusal.{CopyRefusal}
+use Rattle.fs_tree.specs.declared.copy.CopyRefusal.TheVariants.{Differs, NoSuchBucket, Overlap, SourceIsFile, SourceMissing, TargetFile}
+use Rattle.fs_tree.specs.declared.copy.CopyRefusal.TheVariants.{TooLong}
+use Rattle.list_walk.specs.Walks.{More, Walked, Whole, keys_on, walked_entries}
+use Rattle.operations.specs.declared.plan.Step.{Step}
+use Rattle.operations.specs.declared.plan.Step.TheVariants.{End, Next}
+use Rattle.s3_types.specs.Pages.{begins}
+use Rattle.s3_types.specs.declared.reply.PageEntry.{PageEntry}
+use Rattle.s3_types.specs.declared.reply.Reply.{Reply}
 use Rattle.s3_types.specs.declared.reply.Reply.TheVariants.{Object as Found}
+use Rattle.std.specs.Prelude.{Bool, Err, List, None, Ok, Option, Result, Some, cond, drop, false, length, nat_eq, nat_lt, true, ℕ, [], ◌&&◌}
+use Rattle.std.specs.Prelude.{◌++◌, ◌+◌, ◌||◌, ◌∷◌}
 
 -- the paths of a source and a target
 pub record CopyPaths : Type 0 where
@@ -84,7 +103,13 @@ pairs c (k ∷ ks) = Next (Source c 0)
 
 -- the keys whose new key stands, and those whose new key is absent
 abbrev pub parts_of : List (List ℕ) → List (List ℕ) → List PageEntry → Parts
-parts_of ks ls es = record { stood = chosen true ks ls es; stood_at = chosen true ls ls es; keys = chosen false ks ls es; places = chosen false ls ls es }
+parts_of ks ls es = record {
+  stood = chosen true ks ls es;
+  stood_at = chosen true ls ls es;
+  keys = chosen false ks ls es;
+  places = chosen
+      false ls ls es;
+}
 
 -- what is compared and copied, once both sides were listed
 abbrev pub parted : Parts → Step CopyStage Answer

@@ -1,14 +1,20 @@
 -- What holds at each stage of a copy, and what is sent.
-use Rattle.std.specs.Prelude.{◌≡◌, ◌⊎◌, ℕ, ◌+◌, ◌*◌, ◌<◌, true, false, List, [], ◌∷◌, length, drop, Option, None, Some}
-use Rattle.fs_ops.specs.Prelude.{Objects, Ask, is_look, NoFile, IsMove, AllFit, IsOverlap, HasSource, HasPlace, MayCopy, Copies, MayStandCopied, prefix_of, IsClimb, all_below, keys_below, IsWalking, walk_left}
-use Rattle.std.specs.FinMap as fin
-use Rattle.fs_rename.specs.Copies.{Move, IsOneOf, sources, targets, IsCopying, copies_left, moves_of}
-use Rattle.copy_tree.specs.declared.stages.Parts.{Parts}
-use Rattle.copy_tree.specs.declared.stages.CopyStage.{CopyStage}
-use Rattle.copy_tree.specs.declared.stages.CopyStage.TheVariants.{Here, Walk, Up, WalkTarget, Source, Target, Copy}
+use Rattle.bucket_ops.specs.Asks.{Ask, Copy as CopyKey, is_look}
+use Rattle.bucket_ops.specs.Walking.{IsWalking, all_below, keys_below, walk_left}
 use Rattle.copy_tree.specs.Parts.{kept}
-use Rattle.copy_tree.specs.code.Copy.{CopyPaths, Answer, count_of, climb}
-use Rattle.bucket_ops.specs.Asks.{Copy as CopyKey}
+use Rattle.copy_tree.specs.code.Copy.{Answer, CopyPaths, climb, count_of}
+use Rattle.copy_tree.specs.declared.stages.CopyStage.{CopyStage}
+use Rattle.copy_tree.specs.declared.stages.CopyStage.TheVariants.{Copy, Here, Source, Target, Up, Walk, WalkTarget}
+use Rattle.copy_tree.specs.declared.stages.Parts.{Parts}
+use Rattle.fs_ops.specs.Places.{prefix_of}
+use Rattle.fs_ops.specs.code.Climbs.{IsClimb}
+use Rattle.fs_rename.specs.Copies.{IsCopying, IsOneOf, Move, copies_left, moves_of, sources, targets}
+use Rattle.fs_tree.specs.Copies.{Copies, HasPlace, HasSource, IsOverlap, MayCopy, MayStandCopied}
+use Rattle.fs_tree.specs.Moves.{AllFit, IsMove}
+use Rattle.fs_tree.specs.Tree.{NoFile}
+use Rattle.s3_types.specs.Store.{Objects}
+use Rattle.std.specs.Prelude.{List, None, Option, Some, drop, false, length, true, ℕ, [], ◌*◌, ◌+◌, ◌<◌, ◌∷◌, ◌≡◌, ◌⊎◌}
+use Rattle.std.specs.FinMap as fin
 
 -- each key of the source with its new key
 abbrev pub moves : CopyPaths → Objects → List Move
@@ -24,7 +30,13 @@ absent o z = kept false (moves o z) (all_below (prefix_of o.target) z)
 
 -- their keys and new keys
 abbrev pub all_parts : CopyPaths → Objects → Parts
-all_parts o z = record { stood = sources (standing o z); stood_at = targets (standing o z); keys = sources (absent o z); places = targets (absent o z) }
+all_parts o z = record {
+  stood = sources (standing o z);
+  stood_at = targets (standing o z);
+  keys = sources (absent o z);
+  places = targets
+      (absent o z);
+}
 
 -- the source has a place, and all its new keys fit
 pub record IsPlaced (o : CopyPaths) (z : Objects) : Type 0 where
@@ -48,14 +60,16 @@ abbrev pub holds : CopyPaths → Objects → CopyStage → Objects → Type 0
 holds o z Here m = m ≡ z
 holds o z (Walk w) m = (m ≡ z) × (IsOverlap o.source o.target → ⊥) × NoFile z o.source × IsWalking (prefix_of o.source) z w
 holds o z (Up ks c) m = (m ≡ z) × HasSource z o.source o.target × (ks ≡ keys_below (prefix_of o.source) z) × IsClimb z (climb o.target) c
-holds o z (WalkTarget ks ls w) m = (m ≡ z) × IsPlaced o z × (ks ≡ sources (moves o z)) × (ls ≡ targets (moves o z)) × IsWalking (prefix_of o.target) z w
+holds o z (WalkTarget ks ls w) m = (m ≡ z) × IsPlaced o z × (ks ≡ sources (moves o z)) × (ls ≡ targets (moves o z))
+    × IsWalking (prefix_of o.target) z w
 holds o z (Source c n) m = (m ≡ z) × IsComparing o z c n
 holds o z (Target c n b h) m = (m ≡ z) × IsComparing o z c n × StandsFirst z (drop n c.stood) b h
 holds o z (Copy c count) m = MayCopy z o.source o.target × (count ≡ count_of (all_parts o z)) × IsCopying z (absent o z) c m
 
 -- it looks or reads, or copies a key that may be copied to its new key, which is absent
 abbrev pub sends : CopyPaths → Objects → Ask → Type 0
-sends o z a = (is_look a ≡ true) ⊎ ((k : List ℕ) × (l : List ℕ) × (a ≡ CopyKey k l) × MayCopy z o.source o.target × IsMove z o.source o.target k l × (fin.get z l ≡ None))
+sends o z a = (is_look a ≡ true) ⊎ ((k : List ℕ) × (l : List ℕ) × (a ≡ CopyKey k l) × MayCopy z o.source o.target
+    × IsMove z o.source o.target k l × (fin.get z l ≡ None))
 
 -- a page for each thousand keys, a look at each path above the target, and two reads or a copy for each key, at most
 abbrev pub left : CopyPaths → CopyStage → Objects → ℕ

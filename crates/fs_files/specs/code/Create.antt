@@ -1,27 +1,41 @@
 -- Making a file, by its stages: look-ups, then its bytes, then the markers above it.
-use Rattle.std.specs.Prelude.{◌≡◌, ◌⊎◌, ℕ, ◌+◌, ◌*◌, ◌≤◌, Bool, true, false, cond, List, [], ◌∷◌, Result, Ok, Err, Option, Some, None}
-use Rattle.std.specs.Prelude.{length, map, take, drop}
-use Rattle.fs_ops.specs.Prelude.{Objects, BucketContent, Scene, without, only_reads, Request, Reply, Step, Next, End, Look, There, look_of}
-use Rattle.fs_ops.specs.Prelude.{request_of, Head, DropAll, keys_above, created, FsRefusal, NotFound, AlreadyExists, NotDirectory}
-use Rattle.fs_ops.specs.Prelude.{NoSuchBucket, HasFile, IsAbsent, NoFiles, Creates, look_asks, below_asks, NoFileAt, unless, climbing}
-use Rattle.fs_ops.specs.Prelude.{climbed, IsClimb}
-use Rattle.std.specs.FinMap as fin
-use Rattle.fs_tree.specs.declared.answers.FsRefusal.TheVariants.{IsDirectory}
-use Rattle.fs_ops.specs.declared.climb.Climbed.{Climbed}
-use Rattle.fs_ops.specs.declared.climb.Climbed.TheVariants.{File, On as Goes_on, Free}
-use Rattle.fs_files.specs.declared.create.CreateStage.{CreateStage}
-use Rattle.fs_files.specs.declared.create.CreateStage.TheVariants.{Here, Below, Up, Write, DropMarkers}
-use Rattle.fs_files.specs.declared.create.CreateFile.{CreateFile}
-use Rattle.fs_files.specs.Placed.{InFile, IsBeside, IsFileOrNot, NoneBut, NoneLeft, object_of}
-use Rattle.fs_files.specs.code.Writing.{Writing, filled, stream_of}
+use Rattle.block_stream.specs.Holds.{HasRoom, Holds}
+use Rattle.block_stream.specs.Stream.{Stream, answers, end_of, stage, told, wanted}
 use Rattle.block_stream.specs.declared.mode.StreamEnd.{StreamEnd}
 use Rattle.block_stream.specs.declared.mode.StreamEnd.TheVariants.{Done}
-use Rattle.block_stream.specs.Stream as streams
-use Rattle.block_stream.specs.Stream.{Stream, wanted, stage, answers, told, end_of}
+use Rattle.bucket_ops.specs.Asks.{DropAll, Head, request_of}
+use Rattle.bucket_ops.specs.Looks.{look_of}
+use Rattle.bucket_ops.specs.declared.look.Look.{Look}
+use Rattle.bucket_ops.specs.declared.look.Look.TheVariants.{There}
+use Rattle.dir_markers.specs.Markers.{created, keys_above}
 use Rattle.fs_files.specs.Creation.{Creation, IsCreation}
+use Rattle.fs_files.specs.Placed.{InFile, IsBeside, IsFileOrNot, NoneBut, NoneLeft, object_of}
 use Rattle.fs_files.specs.Requests.{IsWriteOf, parts_in}
-use Rattle.block_stream.specs.Holds.{HasRoom, Holds}
+use Rattle.fs_files.specs.code.Writing.{Writing, filled, stream_of}
+use Rattle.fs_files.specs.declared.create.CreateFile.{CreateFile}
+use Rattle.fs_files.specs.declared.create.CreateStage.{CreateStage}
+use Rattle.fs_files.specs.declared.create.CreateStage.TheVariants.{Below, DropMarkers, Here, Up, Write}
+use Rattle.fs_ops.specs.Places.{NoFileAt, below_asks, look_asks}
+use Rattle.fs_ops.specs.code.Climbs.{IsClimb, climbed, climbing}
+use Rattle.fs_ops.specs.code.Steps.{unless}
+use Rattle.fs_ops.specs.declared.climb.Climbed.{Climbed}
+use Rattle.fs_ops.specs.declared.climb.Climbed.TheVariants.{File, Free, On as Goes_on}
+use Rattle.fs_tree.specs.Answers.{Creates}
+use Rattle.fs_tree.specs.Tree.{HasFile, IsAbsent, NoFiles}
+use Rattle.fs_tree.specs.declared.answers.FsRefusal.{FsRefusal}
+use Rattle.fs_tree.specs.declared.answers.FsRefusal.TheVariants.{AlreadyExists, IsDirectory, NoSuchBucket, NotDirectory, NotFound}
+use Rattle.operations.specs.declared.plan.Step.{Step}
+use Rattle.operations.specs.declared.plan.Step.TheVariants.{End, Next}
+use Rattle.s3_types.specs.Answer.{without}
+use Rattle.s3_types.specs.Requests.{only_reads}
+use Rattle.s3_types.specs.Store.{BucketContent, Objects, Scene}
 use Rattle.s3_types.specs.Tags.{plain_tag}
+use Rattle.s3_types.specs.declared.reply.Reply.{Reply}
+use Rattle.s3_types.specs.declared.request.Request.{Request}
+use Rattle.std.specs.Prelude.{Bool, Err, List, None, Ok, Option, Result, Some, cond, drop, false, length, map, take, true, ℕ, [], ◌*◌, ◌+◌}
+use Rattle.std.specs.Prelude.{◌∷◌, ◌≡◌, ◌≤◌, ◌⊎◌}
+use Rattle.std.specs.FinMap as fin
+use Rattle.block_stream.specs.Stream as streams
 
 -- what the making of a file answers
 abbrev pub Answer : Type 0
@@ -199,7 +213,8 @@ IsUndone (Err r) z s = s ≡ z
 
 -- where no part is shorter than the store's least one, this is what is made, or what is refused, and that changes nothing
 abbrev pub GivesFile : Creation → Scene → Answer → Scene → Type 0
-GivesFile o z a s = least o z → InFile (bucket_at z o.path.bucket) (λ m n. Creates o.path o.bytes o.overwrite o.policy m a n) (a ≡ Err NoSuchBucket) z o.path.bucket s × IsUndone a z s
+GivesFile o z a s = least o z → InFile (bucket_at z o.path.bucket) (λ m n. Creates o.path o.bytes o.overwrite o.policy m a n)
+    (a ≡ Err NoSuchBucket) z o.path.bucket s × IsUndone a z s
 
 -- at any moment the objects are as they were, or the file was made where it is due
 abbrev pub always_in : Creation → Objects → Objects → Type 0

@@ -1,8 +1,8 @@
 -- A file's bytes as they are written: a direct block stream that got all of them and was closed (Hadoop, S3A: block output).
-use Rattle.std.specs.Prelude.{ℕ, true, List, Option, None}
-use Rattle.fs_ops.specs.Prelude.{Spelled}
+use Rattle.block_stream.specs.Stream.{Stream, close, fresh, wrote}
 use Rattle.block_stream.specs.declared.mode.StreamMode.TheVariants.{Direct}
-use Rattle.block_stream.specs.Stream.{Stream, fresh, wrote, close}
+use Rattle.s3_types.specs.Tags.{Spelled}
+use Rattle.std.specs.Prelude.{List, None, Option, true, ℕ}
 
 -- the block stream that got these bytes in one piece and was closed; nothing was sent yet
 abbrev pub filled : List ℕ → List ℕ → ℕ → List ℕ → Stream

@@ -1,13 +1,18 @@
 -- What stands at a path, asked in two stages: first of a file there, and where there is none, of what is below it.
-use Rattle.std.specs.Prelude.{◌≡◌, ℕ, List, [], ◌∷◌, Result, Ok, Err, Option, Some, None}
-use Rattle.bucket_ops.specs.Prelude.{Objects, Reply, Step, Next, End, look_of, Ask}
+use Rattle.bucket_ops.specs.Asks.{Ask}
+use Rattle.bucket_ops.specs.Looks.{look_of}
 use Rattle.bucket_ops.specs.declared.look.Look.{Look}
 use Rattle.bucket_ops.specs.declared.look.Look.TheVariants.{There}
+use Rattle.fs_ops.specs.Places.{NoFileAt, below_asks}
+use Rattle.fs_ops.specs.declared.at_path.PathStage.{PathStage}
+use Rattle.fs_ops.specs.declared.at_path.PathStage.TheVariants.{Below, Here}
 use Rattle.fs_tree.specs.declared.answers.FsRefusal.{FsRefusal}
 use Rattle.fs_tree.specs.declared.answers.FsRefusal.TheVariants.{NotFound}
-use Rattle.fs_ops.specs.declared.at_path.PathStage.{PathStage}
-use Rattle.fs_ops.specs.declared.at_path.PathStage.TheVariants.{Here, Below}
-use Rattle.fs_ops.specs.Places.{below_asks, NoFileAt}
+use Rattle.operations.specs.declared.plan.Step.{Step}
+use Rattle.operations.specs.declared.plan.Step.TheVariants.{End, Next}
+use Rattle.s3_types.specs.Store.{Objects}
+use Rattle.s3_types.specs.declared.reply.Reply.{Reply}
+use Rattle.std.specs.Prelude.{Err, List, None, Ok, Option, Result, Some, ℕ, [], ◌∷◌, ◌≡◌}
 
 -- it begins with a look for a file
 abbrev pub first : List ℕ → PathStage

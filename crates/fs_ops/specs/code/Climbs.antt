@@ -1,11 +1,12 @@
 -- The directories above a path are looked at for a file one by one, from the root on.
-use Rattle.std.specs.Prelude.{List, [], ℕ, ◌∷◌}
-use Rattle.fs_tree.specs.Prelude.{IsFirstFile, NoFiles, Objects}
 use Rattle.bucket_ops.specs.declared.look.Look.{Look}
 use Rattle.bucket_ops.specs.declared.look.Look.TheVariants.{There}
 use Rattle.fs_ops.specs.declared.climb.Climb.{Climb}
 use Rattle.fs_ops.specs.declared.climb.Climbed.{Climbed}
 use Rattle.fs_ops.specs.declared.climb.Climbed.TheVariants.{File, Free, On}
+use Rattle.fs_tree.specs.Tree.{IsFirstFile, NoFiles}
+use Rattle.s3_types.specs.Store.{Objects}
+use Rattle.std.specs.Prelude.{List, ℕ, [], ◌∷◌}
 
 -- the first of these directories is looked at, until none is left
 abbrev pub climbing : List (List ℕ) → Climbed

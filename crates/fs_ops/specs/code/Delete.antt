@@ -1,22 +1,36 @@
 -- Deleting a path, by its stages.
-use Rattle.std.specs.Prelude.{◌≡◌, ◌⊎◌, ℕ, ◌+◌, ◌≤◌, ◌==◌, ◌&&◌, Bool, true, false, List, [], ◌∷◌, Result, Ok, Err, Option, Some, None}
-use Rattle.std.specs.Prelude.{length, if◌then◌else◌}
-use Rattle.bucket_ops.specs.Prelude.{text_eq, Objects, begins, text_in, PageEntry, Reply, Step, Next, End, look_of, Ask, Page, Put, Drop}
-use Rattle.bucket_ops.specs.Prelude.{DropAll, IsIn, is_look, sweep_start, sweep_hears, all_go, sweep_asks, IsSweeping, sweep_left, fits}
+use Rattle.basics.specs.Members.{IsIn}
+use Rattle.basics.specs.Order.{text_eq}
+use Rattle.bucket_ops.specs.Asks.{Ask, Drop, DropAll, Page, Put, is_look}
+use Rattle.bucket_ops.specs.Looks.{look_of}
+use Rattle.bucket_ops.specs.Sweeping.{IsSweeping, sweep_asks, sweep_left}
+use Rattle.bucket_ops.specs.Walking.{fits}
 use Rattle.bucket_ops.specs.declared.look.Look.{Look}
 use Rattle.bucket_ops.specs.declared.look.Look.TheVariants.{There}
-use Rattle.fs_tree.specs.Prelude.{is_key, Stands, SomeBelow, NoneBelow, marker, marker_of, HasFile, IsAbsent, IsEmpty, HasChildren}
-use Rattle.fs_tree.specs.Prelude.{Deletes, parent, marker_if, IsMarked, IsWithoutBelow}
+use Rattle.dir_markers.specs.Markers.{marker_of}
+use Rattle.fs_ops.specs.Places.{NoFileAt, below_asks, drop_asks, drop_marker_asks, look_asks, prefix_of}
+use Rattle.fs_ops.specs.declared.delete.DeleteStage.{DeleteStage}
+use Rattle.fs_ops.specs.declared.delete.DeleteStage.TheVariants.{Below, DropFile, DropMarker, Here, Parent, PutMarker, Sweep}
+use Rattle.fs_ops.specs.declared.delete.Inside.{Inside}
+use Rattle.fs_ops.specs.declared.delete.Inside.TheVariants.{Children, Empty, MarkerAlone}
+use Rattle.fs_tree.specs.Answers.{Deletes}
+use Rattle.fs_tree.specs.Changes.{IsMarked, IsWithoutBelow, marker_if, parent}
+use Rattle.fs_tree.specs.Tree.{HasChildren, HasFile, IsAbsent, IsEmpty, NoneBelow, SomeBelow, Stands, marker}
+use Rattle.fs_tree.specs.declared.answers.FsRefusal.{FsRefusal}
+use Rattle.fs_tree.specs.declared.answers.FsRefusal.TheVariants.{IsRoot, NotEmpty, NotFound}
+use Rattle.list_walk.specs.Walks.{all_go, sweep_hears, sweep_start}
+use Rattle.operations.specs.declared.plan.Step.{Step}
+use Rattle.operations.specs.declared.plan.Step.TheVariants.{End, Next}
+use Rattle.path_keys.specs.Paths.{is_key}
+use Rattle.s3_types.specs.Pages.{begins, text_in}
+use Rattle.s3_types.specs.Store.{Objects}
+use Rattle.s3_types.specs.declared.reply.PageEntry.{PageEntry}
+use Rattle.s3_types.specs.declared.reply.Reply.{Reply}
+use Rattle.s3_types.specs.declared.reply.Reply.TheVariants.{Page as APage}
+use Rattle.std.specs.Prelude.{Bool, Err, List, None, Ok, Option, Result, Some, false, if◌then◌else◌, length, true, ℕ, [], ◌&&◌, ◌+◌, ◌==◌}
+use Rattle.std.specs.Prelude.{◌∷◌, ◌≡◌, ◌≤◌, ◌⊎◌}
 use Rattle.std.specs.FinMap as fin
 use Rattle.list_walk.specs.Walks as walks
-use Rattle.fs_tree.specs.declared.answers.FsRefusal.{FsRefusal}
-use Rattle.fs_tree.specs.declared.answers.FsRefusal.TheVariants.{NotFound, NotEmpty, IsRoot}
-use Rattle.fs_ops.specs.declared.delete.Inside.{Inside}
-use Rattle.fs_ops.specs.declared.delete.Inside.TheVariants.{Empty, MarkerAlone, Children}
-use Rattle.fs_ops.specs.declared.delete.DeleteStage.{DeleteStage}
-use Rattle.fs_ops.specs.declared.delete.DeleteStage.TheVariants.{Here, DropFile, Below, DropMarker, Sweep, Parent, PutMarker}
-use Rattle.fs_ops.specs.Places.{look_asks, below_asks, drop_asks, drop_marker_asks, prefix_of, NoFileAt}
-use Rattle.s3_types.specs.declared.reply.Reply.TheVariants.{Page as APage}
 
 -- a path, and whether what is below it goes with it
 pub record Deletion : Type 0 where
@@ -113,7 +127,9 @@ on o _ r = up o
 
 -- n is z without the file, or without the directory's marker and all that was below it
 abbrev pub Removed : Deletion → Objects → Objects → Type 0
-Removed o z n = (HasFile z o.path × (n ≡ fin.remove z o.path)) ⊎ (NoFileAt z o.path × SomeBelow z (prefix_of o.path) × (o.recursive ≡ false → IsEmpty z o.path) × IsWithoutBelow (prefix_of o.path) z n)
+Removed o z n = (HasFile z o.path × (n ≡ fin.remove z o.path))
+    ⊎ (NoFileAt z o.path × SomeBelow z (prefix_of o.path) × (o.recursive ≡ false → IsEmpty z o.path)
+    × IsWithoutBelow (prefix_of o.path) z n)
 
 -- what holds at each stage
 abbrev pub holds : Deletion → Objects → DeleteStage → Objects → Type 0

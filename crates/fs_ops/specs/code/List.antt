@@ -1,18 +1,30 @@
 -- What a directory holds, by its stages.
-use Rattle.std.specs.Prelude.{◌≡◌, ◌⊎◌, ℕ, ◌+◌, ◌&&◌, nat_eq, Bool, true, false, List, [], ◌∷◌, ◌++◌, take_while, reverse, drop, length, Result, Ok, Err, Option, Some, None, if◌then◌else◌}
-use Rattle.bucket_ops.specs.Prelude.{starts_with, list_any, text_eq, Objects, begins, listed, text_in, PageEntry, Prefix, Reply, Step, Next, End, Ask, Page}
-use Rattle.fs_tree.specs.Prelude.{Status, Directory, File, NoFile, HasDir, own_name}
+use Rattle.basics.specs.Order.{text_eq}
 use Rattle.basics.specs.Parts.{parts_of}
+use Rattle.bucket_ops.specs.Asks.{Ask, Page}
+use Rattle.dir_markers.specs.declared.status.Status.{Status}
+use Rattle.dir_markers.specs.declared.status.Status.TheVariants.{Directory, File}
+use Rattle.fs_ops.specs.Places.{look_asks, prefix_of}
+use Rattle.fs_ops.specs.code.Delete.{entries_in}
+use Rattle.fs_ops.specs.code.Stat.{length_in}
+use Rattle.fs_ops.specs.declared.list.ListStage.{ListStage}
+use Rattle.fs_ops.specs.declared.list.ListStage.TheVariants.{Here, Pages}
+use Rattle.fs_tree.specs.Changes.{own_name}
+use Rattle.fs_tree.specs.Tree.{HasDir, NoFile}
 use Rattle.fs_tree.specs.declared.answers.DirEntry.{DirEntry}
 use Rattle.fs_tree.specs.declared.answers.FsRefusal.{FsRefusal}
 use Rattle.fs_tree.specs.declared.answers.FsRefusal.TheVariants.{NotFound}
-use Rattle.fs_ops.specs.declared.list.ListStage.{ListStage}
-use Rattle.fs_ops.specs.declared.list.ListStage.TheVariants.{Here, Pages}
-use Rattle.fs_ops.specs.Places.{look_asks, prefix_of}
-use Rattle.fs_ops.specs.code.Stat.{length_in}
-use Rattle.fs_ops.specs.code.Delete.{entries_in}
-use Rattle.s3_types.specs.declared.reply.PageEntry.TheVariants.{Object as Single}
+use Rattle.operations.specs.declared.plan.Step.{Step}
+use Rattle.operations.specs.declared.plan.Step.TheVariants.{End, Next}
+use Rattle.s3_types.specs.Pages.{begins, listed, text_in}
+use Rattle.s3_types.specs.Store.{Objects}
+use Rattle.s3_types.specs.declared.reply.PageEntry.{PageEntry}
+use Rattle.s3_types.specs.declared.reply.PageEntry.TheVariants.{Object as Single, Prefix}
+use Rattle.s3_types.specs.declared.reply.Reply.{Reply}
 use Rattle.s3_types.specs.declared.reply.Reply.TheVariants.{Page as APage}
+use Rattle.std.specs.List.{list_any, starts_with}
+use Rattle.std.specs.Prelude.{Bool, Err, List, None, Ok, Option, Result, Some, drop, false, if◌then◌else◌, length, nat_eq, reverse}
+use Rattle.std.specs.Prelude.{take_while, true, ℕ, [], ◌&&◌, ◌++◌, ◌+◌, ◌∷◌, ◌≡◌, ◌⊎◌}
 
 -- what a listing answers
 abbrev pub Answer : Type 0
@@ -124,7 +136,8 @@ children q z = all_added q [] (listed q true [] z)
 -- no file stands at the path; what was found and what is left are all, and something was listed before a mark
 abbrev pub holds : List ℕ → Objects → ListStage → Objects → Type 0
 holds o z Here m = m ≡ z
-holds o z (Pages found mark) m = (m ≡ z) × NoFile z o × ((mark ≡ []) ⊎ HasDir z o) × (all_added (prefix_of o) found (listed (prefix_of o) true mark z) ≡ children (prefix_of o) z)
+holds o z (Pages found mark) m = (m ≡ z) × NoFile z o × ((mark ≡ []) ⊎ HasDir z o)
+    × (all_added (prefix_of o) found (listed (prefix_of o) true mark z) ≡ children (prefix_of o) z)
 
 -- the requests that are to come
 abbrev pub left : List ℕ → ListStage → Objects → ℕ

@@ -1,18 +1,24 @@
 -- Making a directory, by its stages.
-use Rattle.std.specs.Prelude.{◌≡◌, ◌⊎◌, ℕ, ◌+◌, true, List, [], ◌∷◌, Result, Ok, Err, length}
-use Rattle.bucket_ops.specs.Prelude.{Objects, Reply, Step, Next, End, look_of, Ask, Head, is_look}
+use Rattle.bucket_ops.specs.Asks.{Ask, Head, is_look}
+use Rattle.bucket_ops.specs.Looks.{look_of}
 use Rattle.bucket_ops.specs.declared.look.Look.{Look}
 use Rattle.bucket_ops.specs.declared.look.Look.TheVariants.{There}
-use Rattle.fs_tree.specs.Prelude.{marker_of, keys_above, marker, IsAbsent, NoFiles}
-use Rattle.std.specs.FinMap as fin
+use Rattle.dir_markers.specs.Markers.{keys_above, marker_of}
+use Rattle.fs_ops.specs.Places.{NoFileAt, below_asks, look_asks, put_marker_asks}
+use Rattle.fs_ops.specs.code.Climbs.{IsClimb, climbed, climbing}
+use Rattle.fs_ops.specs.declared.climb.Climbed.{Climbed}
+use Rattle.fs_ops.specs.declared.climb.Climbed.TheVariants.{File, Free, On}
+use Rattle.fs_ops.specs.declared.make_dirs.MakeStage.{MakeStage}
+use Rattle.fs_ops.specs.declared.make_dirs.MakeStage.TheVariants.{Below, Here, PutMarker, Up}
+use Rattle.fs_tree.specs.Tree.{IsAbsent, NoFiles, marker}
 use Rattle.fs_tree.specs.declared.answers.FsRefusal.{FsRefusal}
 use Rattle.fs_tree.specs.declared.answers.FsRefusal.TheVariants.{AlreadyExists, NotDirectory}
-use Rattle.fs_ops.specs.declared.climb.Climbed.{Climbed}
-use Rattle.fs_ops.specs.declared.climb.Climbed.TheVariants.{File, On, Free}
-use Rattle.fs_ops.specs.code.Climbs.{climbing, climbed, IsClimb}
-use Rattle.fs_ops.specs.declared.make_dirs.MakeStage.{MakeStage}
-use Rattle.fs_ops.specs.declared.make_dirs.MakeStage.TheVariants.{Here, Below, Up, PutMarker}
-use Rattle.fs_ops.specs.Places.{look_asks, below_asks, put_marker_asks, NoFileAt}
+use Rattle.operations.specs.declared.plan.Step.{Step}
+use Rattle.operations.specs.declared.plan.Step.TheVariants.{End, Next}
+use Rattle.s3_types.specs.Store.{Objects}
+use Rattle.s3_types.specs.declared.reply.Reply.{Reply}
+use Rattle.std.specs.Prelude.{Err, List, Ok, Result, length, true, ℕ, [], ◌+◌, ◌∷◌, ◌≡◌, ◌⊎◌}
+use Rattle.std.specs.FinMap as fin
 
 -- what the making of a directory answers
 abbrev pub Answer : Type 0

@@ -1,12 +1,14 @@
 -- The bytes of a file.
-use Rattle.std.specs.Prelude.{ℕ, List, Result, Err, Option, Some, None}
-use Rattle.bucket_ops.specs.Prelude.{Reply, Step, Ask}
+use Rattle.bucket_ops.specs.Asks.{Ask}
+use Rattle.fs_ops.specs.Places.{get_asks}
+use Rattle.fs_ops.specs.declared.at_path.PathStage.{PathStage}
 use Rattle.fs_tree.specs.declared.answers.FsRefusal.{FsRefusal}
 use Rattle.fs_tree.specs.declared.answers.FsRefusal.TheVariants.{IsDirectory}
-use Rattle.fs_ops.specs.declared.at_path.PathStage.{PathStage}
-use Rattle.fs_ops.specs.Places.{get_asks}
-use Rattle.fs_ops.specs.code.AtPath as path
+use Rattle.operations.specs.declared.plan.Step.{Step}
+use Rattle.s3_types.specs.declared.reply.Reply.{Reply}
 use Rattle.s3_types.specs.declared.reply.Reply.TheVariants.{Object as Found}
+use Rattle.std.specs.Prelude.{Err, List, None, Option, Result, Some, ℕ}
+use Rattle.fs_ops.specs.code.AtPath as path
 
 -- what a read answers
 abbrev pub Answer : Type 0

@@ -1,11 +1,14 @@
 -- The status of a path.
-use Rattle.std.specs.Prelude.{ℕ, List, Result, Ok, Option, Some, None}
-use Rattle.bucket_ops.specs.Prelude.{Reply, Step, Ask}
-use Rattle.store_frame.specs.Prelude.{Head}
-use Rattle.fs_tree.specs.Prelude.{Status, Directory, File}
-use Rattle.fs_tree.specs.declared.answers.FsRefusal.{FsRefusal}
-use Rattle.fs_ops.specs.declared.at_path.PathStage.{PathStage}
+use Rattle.bucket_ops.specs.Asks.{Ask}
+use Rattle.dir_markers.specs.declared.status.Status.{Status}
+use Rattle.dir_markers.specs.declared.status.Status.TheVariants.{Directory, File}
 use Rattle.fs_ops.specs.Places.{look_asks}
+use Rattle.fs_ops.specs.declared.at_path.PathStage.{PathStage}
+use Rattle.fs_tree.specs.declared.answers.FsRefusal.{FsRefusal}
+use Rattle.operations.specs.declared.plan.Step.{Step}
+use Rattle.s3_types.specs.declared.reply.Reply.{Reply}
+use Rattle.s3_types.specs.declared.reply.Reply.TheVariants.{Head}
+use Rattle.std.specs.Prelude.{List, None, Ok, Option, Result, Some, ℕ}
 use Rattle.fs_ops.specs.code.AtPath as path
 
 -- what a look at a path answers

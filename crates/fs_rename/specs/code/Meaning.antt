@@ -1,17 +1,25 @@
 -- What holds at each stage of a renaming, what it gives, and what stands at any moment.
-use Rattle.std.specs.Prelude.{◌≡◌, ◌⊎◌, ℕ, ◌+◌, ◌*◌, ◌≤◌, Bool, true, false, List, ◌∷◌, length, Ok, Err, Some, take}
-use Rattle.fs_ops.specs.Prelude.{Objects, without, Ask, DropAll, is_look, is_key, IsIn, IsMove, NoneBelow, HasDir, HasFile, IsDirectory}
-use Rattle.fs_ops.specs.Prelude.{IsAbsent, parent, marker_if, IsMarked, IsAtOrBelow, inside, IsPlace, AllFit, Renames, prefix_of}
-use Rattle.fs_ops.specs.Prelude.{NoFileAt, IsWalking, walk_left, sweep_start, IsDeleting, IsDeleted, sweep_left}
-use Rattle.bucket_ops.specs.Asks.{Copy as CopyKey}
-use Rattle.fs_tree.specs.Moves.{IsFreePlace}
+use Rattle.basics.specs.Members.{IsIn}
+use Rattle.bucket_ops.specs.Asks.{Ask, Copy as CopyKey, DropAll, is_look}
+use Rattle.bucket_ops.specs.Sweeping.{IsDeleted, IsDeleting, sweep_left}
+use Rattle.bucket_ops.specs.Walking.{IsWalking, walk_left}
+use Rattle.fs_ops.specs.Places.{NoFileAt, prefix_of}
 use Rattle.fs_ops.specs.code.Delete.{PutsAbove}
-use Rattle.fs_rename.specs.Copies.{sources, copied_all, IsCopying, moves_of, copies_left}
-use Rattle.fs_rename.specs.declared.stages.Spot.{Spot}
-use Rattle.fs_rename.specs.declared.stages.Spot.TheVariants.{Source, Target, Inside, Above}
+use Rattle.fs_rename.specs.Copies.{IsCopying, copied_all, copies_left, moves_of, sources}
+use Rattle.fs_rename.specs.code.Rename.{Answer, Renaming, place_at}
 use Rattle.fs_rename.specs.declared.stages.RenameStage.{RenameStage}
-use Rattle.fs_rename.specs.declared.stages.RenameStage.TheVariants.{Look as Looking, Walk, Copy, Batch, Parent, PutMarker}
-use Rattle.fs_rename.specs.code.Rename.{Renaming, Answer, place_at}
+use Rattle.fs_rename.specs.declared.stages.RenameStage.TheVariants.{Batch, Copy, Look as Looking, Parent, PutMarker, Walk}
+use Rattle.fs_rename.specs.declared.stages.Spot.{Spot}
+use Rattle.fs_rename.specs.declared.stages.Spot.TheVariants.{Above, Inside, Source, Target}
+use Rattle.fs_tree.specs.Changes.{IsMarked, marker_if, parent}
+use Rattle.fs_tree.specs.Moves.{AllFit, IsAtOrBelow, IsFreePlace, IsMove, IsPlace, inside}
+use Rattle.fs_tree.specs.Renames.{Renames}
+use Rattle.fs_tree.specs.Tree.{HasDir, HasFile, IsAbsent, IsDirectory, NoneBelow}
+use Rattle.list_walk.specs.Walks.{sweep_start}
+use Rattle.path_keys.specs.Paths.{is_key}
+use Rattle.s3_types.specs.Answer.{without}
+use Rattle.s3_types.specs.Store.{Objects}
+use Rattle.std.specs.Prelude.{Bool, Err, List, Ok, Some, false, length, take, true, ℕ, ◌*◌, ◌+◌, ◌∷◌, ◌≡◌, ◌≤◌, ◌⊎◌}
 
 -- a directory or a file stands at the source
 abbrev pub IsSource : Bool → Objects → List ℕ → Type 0
@@ -67,7 +75,8 @@ abbrev pub holds : Renaming → Objects → RenameStage → Objects → Type 0
 holds o z (Looking s b d) m = (m ≡ z) × Before o z s d × NoFileIf b z (path_at o s)
 holds o z (Walk i found) m = (m ≡ z) × ((q : List ℕ) × IsReady o z true i q) × IsWalking (prefix_of o.source) z found
 holds o z (Copy c) m = (d : Bool) × (i : Bool) × (q : List ℕ) × MayGo o z d i q × IsCopying z (moves_of d o.source q z) c m
-holds o z (Batch w) m = (d : Bool) × (i : Bool) × (q : List ℕ) × MayGo o z d i q × IsDeleted (copied_all z (moves_of d o.source q z)) (sources (moves_of d o.source q z)) (Some w) m
+holds o z (Batch w) m = (d : Bool) × (i : Bool) × (q : List ℕ) × MayGo o z d i q
+    × IsDeleted (copied_all z (moves_of d o.source q z)) (sources (moves_of d o.source q z)) (Some w) m
 holds o z (Parent k) m = (marker_if (parent o.source) ≡ Some k) × IsMoved o z m
 holds o z (PutMarker k) m = (marker_if (parent o.source) ≡ Some k) × IsMoved o z m × NoneBelow m k
 
@@ -76,7 +85,8 @@ abbrev pub gives : Renaming → Objects → Answer → Objects → Type 0
 gives o z (Ok x) m = (n : Objects) × IsMoved o z n × IsMarked (marker_if (parent o.source)) n m
 gives o z (Err r) m = Renames o.source o.target z (Err r) m
 
--- some keys are copied; or all are, and of the old ones some are deleted; or all are, and the marker above the source is put where it is due
+-- some keys are copied; or all are, and of the old ones some are deleted; or all are, and the marker above the source is put where it is
+-- due
 abbrev pub IsOnWay : Renaming → Objects → Bool → List ℕ → Objects → Type 0
 IsOnWay o z d q m =
     ((n : ℕ) × (m ≡ copied_all z (take n (moves_of d o.source q z))))

@@ -1,19 +1,38 @@
 -- Renaming a file or a directory, by its stages.
-use Rattle.std.specs.Prelude.{ℕ, Bool, true, false, List, [], ◌∷◌, Result, Ok, Err, Option, Some, None, if◌then◌else◌}
-use Rattle.fs_ops.specs.Prelude.{text_eq, begins, text_in, PageEntry, Reply, Step, Next, End, Look, There, look_of, Ask, Page, Put, marker_of, keys_on, Walked, More, Whole, walked_entries, sweep_hears, deleting, all_go, RenameRefusal, SourceMissing, UnderSource, TargetFile, TargetExists, ParentMissing, ParentIsFile, TooLong, parent, marker_if, inside, key_if, prefix_of, look_asks, below_asks, entries_in, unless, sweep_asks, walk_asks, fits}
-use Rattle.list_walk.specs.Walks as walks
-use Rattle.fs_tree.specs.declared.rename.RenameRefusal.TheVariants.{SourceRoot, NoSuchBucket}
+use Rattle.basics.specs.Order.{text_eq}
+use Rattle.bucket_ops.specs.Asks.{Ask, Page, Put}
+use Rattle.bucket_ops.specs.Looks.{look_of}
+use Rattle.bucket_ops.specs.Sweeping.{sweep_asks}
+use Rattle.bucket_ops.specs.Walking.{fits, walk_asks}
+use Rattle.bucket_ops.specs.declared.look.Look.{Look}
+use Rattle.bucket_ops.specs.declared.look.Look.TheVariants.{Nothing as NothingThere, There}
+use Rattle.dir_markers.specs.Markers.{marker_of}
+use Rattle.fs_ops.specs.Places.{below_asks, key_if, look_asks, prefix_of}
+use Rattle.fs_ops.specs.code.Delete.{entries_in}
+use Rattle.fs_ops.specs.code.Steps.{unless}
+use Rattle.fs_rename.specs.Copies.{copied_next, copy_asks, has_more}
+use Rattle.fs_rename.specs.Keys.{fitting, new_keys, place_of}
 use Rattle.fs_rename.specs.declared.copying.CopyStep.{CopyStep}
-use Rattle.fs_rename.specs.declared.copying.CopyStep.TheVariants.{Next as NextCopy, All}
-use Rattle.fs_rename.specs.Keys.{place_of, fitting, new_keys}
-use Rattle.fs_rename.specs.Copies.{copy_asks, has_more, copied_next}
-use Rattle.fs_rename.specs.declared.stages.Spot.{Spot}
-use Rattle.fs_rename.specs.declared.stages.Spot.TheVariants.{Source, Target, Inside, Above}
+use Rattle.fs_rename.specs.declared.copying.CopyStep.TheVariants.{All, Next as NextCopy}
 use Rattle.fs_rename.specs.declared.stages.Kind.{Kind}
-use Rattle.fs_rename.specs.declared.stages.Kind.TheVariants.{File, Directory, Nothing}
+use Rattle.fs_rename.specs.declared.stages.Kind.TheVariants.{Directory, File, Nothing}
 use Rattle.fs_rename.specs.declared.stages.RenameStage.{RenameStage}
-use Rattle.fs_rename.specs.declared.stages.RenameStage.TheVariants.{Look as Looking, Walk, Copy, Batch, Parent, PutMarker}
-use Rattle.bucket_ops.specs.declared.look.Look.TheVariants.{Nothing as NothingThere}
+use Rattle.fs_rename.specs.declared.stages.RenameStage.TheVariants.{Batch, Copy, Look as Looking, Parent, PutMarker, Walk}
+use Rattle.fs_rename.specs.declared.stages.Spot.{Spot}
+use Rattle.fs_rename.specs.declared.stages.Spot.TheVariants.{Above, Inside, Source, Target}
+use Rattle.fs_tree.specs.Changes.{marker_if, parent}
+use Rattle.fs_tree.specs.Moves.{inside}
+use Rattle.fs_tree.specs.declared.rename.RenameRefusal.{RenameRefusal}
+use Rattle.fs_tree.specs.declared.rename.RenameRefusal.TheVariants.{NoSuchBucket, ParentIsFile, ParentMissing, SourceMissing, SourceRoot}
+use Rattle.fs_tree.specs.declared.rename.RenameRefusal.TheVariants.{TargetExists, TargetFile, TooLong, UnderSource}
+use Rattle.list_walk.specs.Walks.{More, Walked, Whole, all_go, deleting, keys_on, sweep_hears, walked_entries}
+use Rattle.operations.specs.declared.plan.Step.{Step}
+use Rattle.operations.specs.declared.plan.Step.TheVariants.{End, Next}
+use Rattle.s3_types.specs.Pages.{begins, text_in}
+use Rattle.s3_types.specs.declared.reply.PageEntry.{PageEntry}
+use Rattle.s3_types.specs.declared.reply.Reply.{Reply}
+use Rattle.std.specs.Prelude.{Bool, Err, List, None, Ok, Option, Result, Some, false, if◌then◌else◌, true, ℕ, [], ◌∷◌}
+use Rattle.list_walk.specs.Walks as walks
 
 -- the paths of a source and a target
 pub record Renaming : Type 0 where

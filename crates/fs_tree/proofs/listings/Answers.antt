@@ -1,5 +1,10 @@
-use Rattle.fs_tree.proofs.Common.{HasOddKey, IsName, IsStatus, List, Objects, Stands, Status, arith, below, true, ℕ, ◌≡◌, ◌⊎◌}
-use Rattle.s3_types.specs.Prelude.{is_key}
+use Rattle.dir_markers.specs.declared.status.Status.{Status}
+use Rattle.fs_tree.specs.Changes.{HasOddKey, IsName}
+use Rattle.fs_tree.specs.Tree.{IsStatus, Stands}
+use Rattle.path_keys.specs.Paths.{below}
+use Rattle.s3_types.specs.Names.{is_key}
+use Rattle.s3_types.specs.Store.{Objects}
+use Rattle.std.proofs.Common.{List, arith, true, ℕ, ◌≡◌, ◌⊎◌}
 use Rattle.fs_tree.proofs.listings.Goals as goal
 
 module _ (z : Objects) (keys : (k : List ℕ) → Stands z k → is_key k ≡ true) where

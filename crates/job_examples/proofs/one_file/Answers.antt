@@ -1,6 +1,7 @@
-use Rattle.job_examples.proofs.Common.{decimal_digit, lit<}
-use Rattle.job_examples.proofs.OnePlays.{goes}
 use Rattle.job_examples.proofs.OneEnds.{one_finished}
+use Rattle.job_examples.proofs.OnePlays.{goes}
+use Rattle.std.proofs.Common.{lit<}
+use Rattle.std.proofs.lemmas.Fmt.{decimal_digit}
 use Rattle.job_examples.proofs.one_file.Goals as goal
 
 pub returns-clause-runs : goal.returns-clause-runs

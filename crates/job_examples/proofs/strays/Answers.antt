@@ -1,6 +1,9 @@
-use Rattle.job_examples.proofs.Common.{Attempt, Do, Driver, [], arith, refl, worker, ◌≡◌, ◌≤◌}
-use Rattle.job_model.specs.declared.events.Op.TheVariants.{Setup}
+use Rattle.job_examples.specs.Jobs.{worker}
 use Rattle.job_examples.specs.Strays.{stray}
+use Rattle.job_model.specs.declared.events.Event.TheVariants.{Do}
+use Rattle.job_model.specs.declared.events.Op.TheVariants.{Setup}
+use Rattle.s3_types.specs.declared.request.Actor.TheVariants.{Attempt, Driver}
+use Rattle.std.proofs.Common.{arith, refl, [], ◌≡◌, ◌≤◌}
 use Rattle.job_examples.proofs.strays.Goals as goal
 
 pub returns : goal.returns

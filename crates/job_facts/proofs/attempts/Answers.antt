@@ -10,6 +10,11 @@ pub returns : goal.returns
 returns c = record {
   begins = record { write = begins_write; commit = begins_commit; abort = abort_fits };
   goes = operation_goes;
-  names = record { own = operation_own; adds = operation_adds; shows = λ w j s there m a r own o. hidden_shows j s r o there (λ b k i. own.keys k i) };
+  names = record {
+    own = operation_own;
+    adds = operation_adds;
+    shows = λ w j s there m a r own o. hidden_shows j s r o there
+        (λ b k i. own.keys k i);
+  };
   markers = markers_lead;
 }

@@ -1,7 +1,9 @@
-use Rattle.job_facts.proofs.Common.{HasPublished, false≢true}
-use Rattle.job_facts.proofs.Closing.{reverts_start, commit_closes, clean_closes, attempt_closes, attempt_reverts}
+use Rattle.job_facts.proofs.Closing.{attempt_closes, attempt_reverts, clean_closes, commit_closes, reverts_start}
 use Rattle.job_facts.proofs.JobCommitting.{commit_drives}
-use Rattle.job_facts.proofs.Remaining.{stands_kept, other_stood, driver_stood, strange_stood, write_begins, commit_begins, own_stands, write_never, commit_never, commit_done}
+use Rattle.job_facts.proofs.Remaining.{commit_begins, commit_done, commit_never, driver_stood, other_stood, own_stands, stands_kept}
+use Rattle.job_facts.proofs.Remaining.{strange_stood, write_begins, write_never}
+use Rattle.job_facts.specs.Standing.{HasPublished}
+use Rattle.std.proofs.lemmas.Bool.{false≢true}
 use Rattle.job_facts.proofs.standing.Goals as goal
 
 pub returns : goal.returns
@@ -18,7 +20,8 @@ returns c = record {
     commit = λ w j s a. commit_begins (HasPublished s a.task) w j s a;
     goes = own_stands;
     others = λ g j k s m a b n h d e ne op fits r x o. stands_kept (other_stood g j k s m a b n h.there d e ne op fits r x o);
-    driver = λ g j k s m a n h c fits r e o. stands_kept (driver_stood g.script j k s a n h.there r (commit_drives g.script g.minimum k s m n j h c fits r e) o);
+    driver = λ g j k s m a n h c fits r e o. stands_kept (driver_stood g.script j k s a n h.there r
+        (commit_drives g.script g.minimum k s m n j h c fits r e) o);
     strangers = λ w minimum j k s m a n h r f o. stands_kept (strange_stood w j k s a n h.there r m.drawn f o);
     never_write = write_never;
     never_commit = commit_never;

@@ -22,5 +22,12 @@ returns c = record {
     stands = set_stands;
     published = last_still;
   };
-  commits = record { begins = commits_begin; goes = commits_go; unclean = still_unclean; attempts = commits_beside; strangers = commits_foreign };
+  commits = record {
+    begins = commits_begin;
+    goes = commits_go;
+    unclean = still_unclean;
+    attempts = commits_beside;
+    strangers =
+        commits_foreign;
+  };
 }

@@ -1,6 +1,12 @@
-use Rattle.job_facts.specs.Prelude.{nothing_told}
-use Rattle.job_traces.proofs.Learnt.{known_is, cleaned_is}
+use Rattle.job_facts.specs.Told.{nothing_told}
+use Rattle.job_traces.proofs.Learnt.{cleaned_is, known_is}
 use Rattle.job_traces.proofs.journals.Goals as goal
 
 pub returns : goal.returns
-returns c = record { told = record { known = λ w c a es. known_is w a es (nothing_told c); cleaned = λ w c es. cleaned_is w es (nothing_told c) } }
+returns c = record {
+  told = record {
+    known = λ w c a es. known_is w a es (nothing_told c);
+    cleaned = λ w c es. cleaned_is w es
+        (nothing_told c);
+  };
+}

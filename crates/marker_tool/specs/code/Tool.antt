@@ -1,8 +1,23 @@
 -- The marker tool at a path, by its stages.
-use Rattle.std.specs.Prelude.{◌≡◌, ℕ, ◌+◌, ◌<◌, nat_lt, Bool, true, false, cond, List, [], ◌∷◌, length, take, drop, Result, Ok, Err, Option, Some, None}
-use Rattle.fs_ops.specs.Prelude.{Objects, PageEntry, Reply, Step, Next, End, Look, There, look_of, Ask, Walked, More, Whole, walked_entries, all_below, walk_asks, fits, IsWalking, walk_left, NoFile, IsDirectory, FsRefusal, NotFound, NotDirectory, key_if, look_asks, prefix_of}
+use Rattle.bucket_ops.specs.Asks.{Ask}
+use Rattle.bucket_ops.specs.Looks.{look_of}
+use Rattle.bucket_ops.specs.Walking.{IsWalking, all_below, fits, walk_asks, walk_left}
+use Rattle.bucket_ops.specs.declared.look.Look.{Look}
+use Rattle.bucket_ops.specs.declared.look.Look.TheVariants.{There}
+use Rattle.fs_ops.specs.Places.{key_if, look_asks, prefix_of}
+use Rattle.fs_tree.specs.Tree.{IsDirectory, NoFile}
+use Rattle.fs_tree.specs.declared.answers.FsRefusal.{FsRefusal}
+use Rattle.fs_tree.specs.declared.answers.FsRefusal.TheVariants.{NotDirectory, NotFound}
+use Rattle.list_walk.specs.Walks.{More, Walked, Whole, walked_entries}
 use Rattle.marker_tool.specs.declared.tool.ToolStage.{ToolStage}
-use Rattle.marker_tool.specs.declared.tool.ToolStage.TheVariants.{Here, Walk, Change}
+use Rattle.marker_tool.specs.declared.tool.ToolStage.TheVariants.{Change, Here, Walk}
+use Rattle.operations.specs.declared.plan.Step.{Step}
+use Rattle.operations.specs.declared.plan.Step.TheVariants.{End, Next}
+use Rattle.s3_types.specs.Store.{Objects}
+use Rattle.s3_types.specs.declared.reply.PageEntry.{PageEntry}
+use Rattle.s3_types.specs.declared.reply.Reply.{Reply}
+use Rattle.std.specs.Prelude.{Bool, Err, List, None, Ok, Option, Result, Some, cond, drop, false, length, nat_lt, take, true, ℕ, [], ◌+◌}
+use Rattle.std.specs.Prelude.{◌<◌, ◌∷◌, ◌≡◌}
 
 -- a path that is not the root stands only where a key is below it
 abbrev pub is_absent : List ℕ → List PageEntry → Bool

@@ -1,10 +1,20 @@
 -- What is done below a directory once all keys there are listed.
-use Rattle.std.specs.Prelude.{◌≡◌, ℕ, ◌<◌, true, List, [], ◌∷◌, ◌++◌, take, Result, Ok, Err}
-use Rattle.fs_ops.specs.Prelude.{Objects, PageEntry, IsIn, Ask, edited, is_look, all_below, IsDirectory, FsRefusal, prefix_of}
+use Rattle.basics.specs.Members.{IsIn}
+use Rattle.bucket_ops.specs.Asks.{Ask, edited, is_look}
+use Rattle.bucket_ops.specs.Walking.{all_below}
+use Rattle.fs_ops.specs.Places.{prefix_of}
 use Rattle.fs_tree.specs.MarkerTool.{IsNoDirectory}
+use Rattle.fs_tree.specs.Tree.{IsDirectory}
+use Rattle.fs_tree.specs.declared.answers.FsRefusal.{FsRefusal}
+use Rattle.s3_types.specs.Store.{Objects}
+use Rattle.s3_types.specs.declared.reply.PageEntry.{PageEntry}
+use Rattle.std.specs.Prelude.{Err, List, Ok, Result, take, true, ℕ, [], ◌++◌, ◌<◌, ◌∷◌, ◌≡◌}
 
 -- what a work owes that changes these keys, so many by a request, and then answers so
-pub record IsWork {A : Type 0} (keys : List ℕ → List PageEntry → List (List ℕ)) (answer : List ℕ → List PageEntry → A) (batch : ℕ) (changes : List (List ℕ) → Ask) (changed : Objects → List (List ℕ) → Objects) (gives : List ℕ → Objects → Result A FsRefusal → Objects → Type 0) (always : List ℕ → Objects → Objects → Type 0) (sends : List ℕ → Objects → Ask → Type 0) : Type 0 where
+pub record IsWork {A : Type 0} (keys : List ℕ → List PageEntry → List (List ℕ)) (answer : List ℕ → List PageEntry → A) (batch : ℕ)
+    (changes : List (List ℕ) → Ask) (changed : Objects → List (List ℕ) → Objects)
+    (gives : List ℕ → Objects → Result A FsRefusal → Objects → Type 0) (always : List ℕ → Objects → Objects → Type 0)
+    (sends : List ℕ → Objects → Ask → Type 0) : Type 0 where
   pub some : 0 < batch
   -- keys are changed one behind another
   pub nothing : (z : Objects) → changed z [] ≡ z
@@ -15,7 +25,10 @@ pub record IsWork {A : Type 0} (keys : List ℕ → List PageEntry → List (Lis
   pub looks : (p : List ℕ) (z : Objects) (a : Ask) → is_look a ≡ true → sends p z a
   pub refused : (p : List ℕ) (z : Objects) (r : FsRefusal) → IsNoDirectory p z r → gives p z (Err r) z
   -- in a directory, with some of the keys changed, and with all of them
-  pub during : (p : List ℕ) (z : Objects) (ks : List (List ℕ)) → IsDirectory z p → ((k : List ℕ) → IsIn k ks → IsIn k (keys (prefix_of p) (all_below (prefix_of p) z))) → always p z (changed z ks)
-  pub sent : (p : List ℕ) (z : Objects) (k : List ℕ) (ks : List (List ℕ)) → IsDirectory z p → ((j : List ℕ) → IsIn j (k ∷ ks) → IsIn j (keys (prefix_of p) (all_below (prefix_of p) z))) → sends p z (changes (k ∷ ks))
-  pub given : (p : List ℕ) (z : Objects) → IsDirectory z p → gives p z (Ok (answer (prefix_of p) (all_below (prefix_of p) z))) (changed z (keys (prefix_of p) (all_below (prefix_of p) z)))
+  pub during : (p : List ℕ) (z : Objects) (ks : List (List ℕ)) → IsDirectory z p
+      → ((k : List ℕ) → IsIn k ks → IsIn k (keys (prefix_of p) (all_below (prefix_of p) z))) → always p z (changed z ks)
+  pub sent : (p : List ℕ) (z : Objects) (k : List ℕ) (ks : List (List ℕ)) → IsDirectory z p
+      → ((j : List ℕ) → IsIn j (k ∷ ks) → IsIn j (keys (prefix_of p) (all_below (prefix_of p) z))) → sends p z (changes (k ∷ ks))
+  pub given : (p : List ℕ) (z : Objects) → IsDirectory z p
+      → gives p z (Ok (answer (prefix_of p) (all_below (prefix_of p) z))) (changed z (keys (prefix_of p) (all_below (prefix_of p) z)))
   pub at_end : (p : List ℕ) (z : Objects) (a : Result A FsRefusal) (m : Objects) → gives p z a m → always p z m

@@ -1,5 +1,6 @@
-use Rattle.basics.proofs.Common.{ap, arith, digits_from, drop, get_or, sym, ℕ, ◌*◌, ◌+◌, ◌-◌, ◌<◌, ◌∙◌, ◌≡◌, ◌≤◌}
-use Rattle.basics.proofs.Digits.{power_fits, power_more, next_digit, one_more_digit, all_digits}
+use Rattle.basics.proofs.Digits.{all_digits, next_digit, one_more_digit, power_fits, power_more}
+use Rattle.basics.specs.Numbers.{digits_from}
+use Rattle.std.proofs.Common.{ap, arith, drop, get_or, sym, ℕ, ◌*◌, ◌+◌, ◌-◌, ◌<◌, ◌∙◌, ◌≡◌, ◌≤◌}
 use Rattle.basics.proofs.numbers.value.Goals as goal
 
 pub overflow_mul-n : goal.overflow_mul-n
@@ -20,7 +21,8 @@ loop-b-preserved c =
     let e : c.from.result ≡ get_or c.args.text.now c.loop-b.b-index 0 - 48 = c.from.ensures in
     let small : c.from.result ≤ 9 = omega (arith, d.0, d.1, e) in
     record {
-      so_far = ap (λ (x : ℕ). digits_from (c.loop-b.n * 10 + x) (drop (c.loop-b.b-index + 1) c.args.text.now)) e ∙ sym (one_more_digit c.loop-b.n c.args.text.now c.loop-b.b-index c.loop-b-test.true) ∙ c.loop-b.invariant.so_far;
+      so_far = ap (λ (x : ℕ). digits_from (c.loop-b.n * 10 + x) (drop (c.loop-b.b-index + 1) c.args.text.now)) e ∙ sym
+          (one_more_digit c.loop-b.n c.args.text.now c.loop-b.b-index c.loop-b-test.true) ∙ c.loop-b.invariant.so_far;
       digits = d.2;
       small = power_more c.loop-b.n c.loop-b.b-index c.from.result c.loop-b.invariant.small small;
     }

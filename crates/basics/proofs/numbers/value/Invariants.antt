@@ -1,4 +1,6 @@
-use Rattle.basics.proofs.Common.{digits_from, drop, is_digit, list_all, true, ◌<◌, ◌^◌, ◌≡◌}
+use Rattle.basics.specs.Numbers.{digits_from, is_digit}
+use Rattle.std.proofs.Common.{drop, true, ◌<◌, ◌^◌, ◌≡◌}
+use Rattle.std.specs.List.{list_all}
 use Rattle.basics.proofs.numbers.value.Given as goal
 
 abbrev pub invariant-loop-b : goal.invariant-loop-b

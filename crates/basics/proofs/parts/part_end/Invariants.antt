@@ -1,4 +1,6 @@
-use Rattle.basics.proofs.Common.{is_other, list_all, take, true, ◌≡◌}
+use Rattle.basics.specs.Parts.{is_other}
+use Rattle.std.proofs.Common.{take, true, ◌≡◌}
+use Rattle.std.specs.List.{list_all}
 use Rattle.basics.proofs.parts.part_end.Given as goal
 
 abbrev pub invariant-loop-i : goal.invariant-loop-i

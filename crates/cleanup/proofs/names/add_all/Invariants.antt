@@ -1,4 +1,5 @@
-use Rattle.cleanup.proofs.Common.{drop, map, ref_of, ◌++◌, ◌≡◌}
+use Rattle.job_protocol.specs.Sparing.{ref_of}
+use Rattle.std.proofs.Common.{drop, map, ◌++◌, ◌≡◌}
 use Rattle.cleanup.proofs.names.add_all.Given as goal
 
 -- the uploads so far and those that are left are all

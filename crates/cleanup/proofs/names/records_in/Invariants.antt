@@ -1,4 +1,6 @@
-use Rattle.cleanup.proofs.Common.{drop, filter, is_record, ◌++◌, ◌≡◌}
+use Rattle.magic_paths.specs.Places.{is_record}
+use Rattle.std.proofs.Common.{drop, ◌++◌, ◌≡◌}
+use Rattle.std.specs.List.{filter}
 use Rattle.cleanup.proofs.names.records_in.Given as goal
 
 -- the records so far and those that are left are all

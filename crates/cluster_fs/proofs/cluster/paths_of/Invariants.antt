@@ -1,4 +1,8 @@
-use Rattle.cluster_fs.proofs.Common.{Follows, begins, filter, keys_of, length, ◌++◌, ◌≡◌}
+use Rattle.cluster_fs.specs.Cluster.{Follows}
+use Rattle.s3_types.specs.Pages.{begins}
+use Rattle.std.proofs.Common.{length, ◌++◌, ◌≡◌}
+use Rattle.std.specs.List.{filter}
+use Rattle.std.specs.Map.{keys_of}
 use Rattle.cluster_fs.proofs.cluster.paths_of.Given as goal
 
 -- the paths so far and those that are left are all

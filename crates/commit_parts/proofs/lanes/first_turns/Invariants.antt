@@ -1,4 +1,5 @@
-use Rattle.commit_parts.proofs.Common.{first_turns, ◌≡◌}
+use Rattle.job_protocol.specs.Lanes.{first_turns}
+use Rattle.std.proofs.Common.{◌≡◌}
 use Rattle.commit_parts.proofs.lanes.first_turns.Given as goal
 
 abbrev pub invariant-loop-n : goal.invariant-loop-n

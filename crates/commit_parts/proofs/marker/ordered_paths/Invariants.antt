@@ -1,4 +1,7 @@
-use Rattle.commit_parts.proofs.Common.{all_commits, drop, length, ordered, paths_below, ◌≡◌, ◌≤◌}
+use Rattle.commit_parts.specs.Relatives.{paths_below}
+use Rattle.job_protocol.specs.JobCommits.{all_commits}
+use Rattle.job_protocol.specs.Outputs.{ordered}
+use Rattle.std.proofs.Common.{drop, length, ◌≡◌, ◌≤◌}
 use Rattle.commit_parts.proofs.marker.ordered_paths.Given as goal
 
 abbrev pub invariant-loop-n : goal.invariant-loop-n

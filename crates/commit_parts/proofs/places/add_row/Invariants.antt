@@ -1,4 +1,5 @@
-use Rattle.commit_parts.proofs.Common.{row, ◌++◌, ◌≡◌}
+use Rattle.commit_parts.specs.Places.{row}
+use Rattle.std.proofs.Common.{◌++◌, ◌≡◌}
 use Rattle.commit_parts.proofs.places.add_row.Given as goal
 
 abbrev pub invariant-loop-index : goal.invariant-loop-index

@@ -1,4 +1,5 @@
-use Rattle.commit_parts.proofs.Common.{drop, places_from, ◌++◌, ◌≡◌}
+use Rattle.commit_parts.specs.Places.{places_from}
+use Rattle.std.proofs.Common.{drop, ◌++◌, ◌≡◌}
 use Rattle.commit_parts.proofs.places.placed.Given as goal
 
 abbrev pub invariant-loop-n : goal.invariant-loop-n

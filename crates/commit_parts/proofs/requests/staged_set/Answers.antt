@@ -1,5 +1,8 @@
-use Rattle.commit_parts.proofs.Common.{ClusterGet, IfOk, Job, staged_set_path, subst, ◌≡◌}
 use Rattle.commit_parts.proofs.ReadFiles.{cluster_asked}
+use Rattle.job_model.specs.Jobs.{Job}
+use Rattle.magic_paths.specs.Layout.{staged_set_path}
+use Rattle.s3_types.specs.declared.request.Request.TheVariants.{ClusterGet}
+use Rattle.std.proofs.Common.{IfOk, subst, ◌≡◌}
 use Rattle.commit_parts.proofs.requests.staged_set.Goals as goal
 
 pub returns : goal.returns

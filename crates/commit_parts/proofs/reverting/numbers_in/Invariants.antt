@@ -1,5 +1,7 @@
-use Rattle.commit_parts.proofs.Common.{is_in, nat_cmp, reverse, take, ℕ, ◌≡◌}
+use Rattle.job_protocol.specs.Lanes.{is_in}
+use Rattle.std.proofs.Common.{reverse, take, ℕ, ◌≡◌}
 use Rattle.std.specs.BTreeSet.{contains}
+use Rattle.std.specs.Ordering.{nat_cmp}
 use Rattle.commit_parts.proofs.reverting.numbers_in.Given as goal
 
 abbrev pub invariant-loop-number : goal.invariant-loop-number

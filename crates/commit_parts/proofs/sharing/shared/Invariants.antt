@@ -1,4 +1,7 @@
-use Rattle.commit_parts.proofs.Common.{Finds, get, items_from, take, text_eq}
+use Rattle.basics.specs.Order.{text_eq}
+use Rattle.commit_parts.specs.Clashes.{Finds, items_from}
+use Rattle.std.proofs.Common.{take}
+use Rattle.std.specs.HashMap.{get}
 use Rattle.commit_parts.proofs.sharing.shared.Given as goal
 
 abbrev pub invariant-loop-n : goal.invariant-loop-n

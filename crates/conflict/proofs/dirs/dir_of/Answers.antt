@@ -1,6 +1,7 @@
-use Rattle.conflict.proofs.Common.{ap, dir_of, sym, ◌∙◌}
-use Rattle.path_keys.proofs.Last.{cut_last, no_slash}
 use Rattle.conflict.proofs.CutPaths.{dir_front, dir_none}
+use Rattle.job_protocol.specs.Conflicts.{dir_of}
+use Rattle.path_keys.proofs.Last.{cut_last, no_slash}
+use Rattle.std.proofs.Common.{ap, sym, ◌∙◌}
 use Rattle.conflict.proofs.dirs.dir_of.Goals as goal
 
 pub returns-in-Some : goal.returns-in-Some

@@ -1,4 +1,5 @@
-use Rattle.conflict.proofs.Common.{drop, length, partitions, ◌≡◌, ◌≤◌}
+use Rattle.job_protocol.specs.Conflicts.{partitions}
+use Rattle.std.proofs.Common.{drop, length, ◌≡◌, ◌≤◌}
 use Rattle.conflict.proofs.dirs.ordered_dirs.Given as goal
 
 abbrev pub invariant-loop-n : goal.invariant-loop-n

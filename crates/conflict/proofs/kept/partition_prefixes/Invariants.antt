@@ -1,4 +1,5 @@
-use Rattle.conflict.proofs.Common.{map, prefix_below, take, ◌≡◌}
+use Rattle.job_protocol.specs.Conflicts.{prefix_below}
+use Rattle.std.proofs.Common.{map, take, ◌≡◌}
 use Rattle.conflict.proofs.kept.partition_prefixes.Given as goal
 
 abbrev pub invariant-loop-partition : goal.invariant-loop-partition

@@ -1,4 +1,5 @@
-use Rattle.copy_tree.proofs.Common.{chosen, length, ◌++◌, ◌≡◌}
+use Rattle.copy_tree.specs.Parts.{chosen}
+use Rattle.std.proofs.Common.{length, ◌++◌, ◌≡◌}
 use Rattle.copy_tree.proofs.parts.chosen.Given as goal
 
 -- those so far and those of the keys that are left are all

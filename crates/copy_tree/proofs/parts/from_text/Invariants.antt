@@ -1,4 +1,5 @@
-use Rattle.copy_tree.proofs.Common.{from_text, length, ◌≡◌}
+use Rattle.copy_tree.specs.Parts.{from_text}
+use Rattle.std.proofs.Common.{length, ◌≡◌}
 use Rattle.copy_tree.proofs.parts.from_text.Given as goal
 
 abbrev pub invariant-loop-entry : goal.invariant-loop-entry

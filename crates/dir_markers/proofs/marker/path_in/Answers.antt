@@ -1,5 +1,7 @@
-use Rattle.path_keys.proofs.Common.{None, ap, arith, strip_suffix_char, trimmed, ◌∙◌}
 use Rattle.path_keys.proofs.Ends.{no_end}
+use Rattle.s3_types.specs.Names.{trimmed}
+use Rattle.std.proofs.Common.{None, ap, arith, ◌∙◌}
+use Rattle.std.proofs.lemmas.Str.Pattern.{strip_suffix_char}
 use Rattle.dir_markers.proofs.marker.path_in.Goals as goal
 
 pub returns-in-None-clause-path : goal.returns-in-None-clause-path

@@ -1,4 +1,5 @@
-use Rattle.durable_job.proofs.Common.{InPace, ◌≡◌}
+use Rattle.durable_job.specs.Pace.{InPace}
+use Rattle.std.proofs.Common.{◌≡◌}
 use Rattle.durable_job.proofs.events.play_over.Given as goal
 
 abbrev pub invariant-steps : goal.invariant-steps

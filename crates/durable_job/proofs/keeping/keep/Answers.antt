@@ -1,19 +1,23 @@
-use Rattle.durable_job.proofs.Common.{Err, NoMemory, Option, ShelfStop, Some, ap, ◌≡◌}
-use Rattle.durable_job.proofs.Held.{opening_is, replaced_as, not_replaced_as, held_whole, held_partly, survives_since, lacks_since}
+use Rattle.durable_job.proofs.Held.{held_partly, held_whole, lacks_since, not_replaced_as, opening_is, replaced_as, survives_since}
 use Rattle.durable_job.proofs.Paces.{counts_none, counts_some}
+use Rattle.shelf.specs.declared.kept.ShelfStop.{ShelfStop}
+use Rattle.shelf.specs.declared.kept.ShelfStop.TheVariants.{NoMemory}
+use Rattle.std.proofs.Common.{Err, Option, Some, ap, ◌≡◌}
 use Rattle.durable_job.proofs.keeping.keep.Goals as goal
 
 pub play_over-requires-clause-holds : goal.play_over-requires-clause-holds
 play_over-requires-clause-holds g c =
     let m = g.M.Moves in
     let is = opening_is c.service.result.now (m.origin c.args.moved.now) (m.sent c.args.moved.now) c.service.ensures c.requires.sent in
-    (replaced_as g.F.Shelf.sight (m.origin c.args.moved.now) c.service.result.now c.args.shelf.now c.put_image.new.shelf is c.in-Ok.ensures.ok).holds
+    (replaced_as g.F.Shelf.sight (m.origin c.args.moved.now) c.service.result.now c.args.shelf.now c.put_image.new.shelf is
+    c.in-Ok.ensures.ok).holds
 
 pub returns-in-Err-clause-err : goal.returns-in-Err-clause-err
 returns-in-Err-clause-err g c =
     let m = g.M.Moves in
     let is = opening_is c.service.result.now (m.origin c.args.moved.now) (m.sent c.args.moved.now) c.service.ensures c.requires.sent in
-    not_replaced_as g.F.Shelf.sight (m.origin c.args.moved.now) c.service.result.now c.args.shelf.now c.put_image.new.shelf is c.in-Err.ensures.err
+    not_replaced_as g.F.Shelf.sight (m.origin c.args.moved.now) c.service.result.now c.args.shelf.now c.put_image.new.shelf is
+    c.in-Err.ensures.err
 
 pub returns-in-Ok-play_over-clause-held : goal.returns-in-Ok-play_over-clause-held
 returns-in-Ok-play_over-clause-held g c =
@@ -21,7 +25,8 @@ returns-in-Ok-play_over-clause-held g c =
     let s = g.F.Shelf.sight in
     let is = opening_is c.service.result.now (m.origin c.args.moved.now) (m.sent c.args.moved.now) c.service.ensures c.requires.sent in
     held_whole s (m.origin c.args.moved.now) (m.sent c.play_over.new.world) c.args.shelf.now c.put_image.new.shelf c.play_over.new.shelf
-    (replaced_as s (m.origin c.args.moved.now) c.service.result.now c.args.shelf.now c.put_image.new.shelf is c.in-Ok.ensures.ok) c.in-Ok-play_over.ensures.ok
+    (replaced_as s (m.origin c.args.moved.now) c.service.result.now c.args.shelf.now c.put_image.new.shelf is c.in-Ok.ensures.ok)
+    c.in-Ok-play_over.ensures.ok
 
 pub returns-in-Ok-play_over-clause-survives : goal.returns-in-Ok-play_over-clause-survives
 returns-in-Ok-play_over-clause-survives g c =
@@ -29,12 +34,14 @@ returns-in-Ok-play_over-clause-survives g c =
     let s = g.F.Shelf.sight in
     let is = opening_is c.service.result.now (m.origin c.args.moved.now) (m.sent c.args.moved.now) c.service.ensures c.requires.sent in
     survives_since s (m.origin c.args.moved.now) (m.sent c.play_over.new.world) c.args.shelf.now c.put_image.new.shelf c.play_over.new.shelf
-    (replaced_as s (m.origin c.args.moved.now) c.service.result.now c.args.shelf.now c.put_image.new.shelf is c.in-Ok.ensures.ok) c.in-Ok-play_over.ensures.ok.leaves
+    (replaced_as s (m.origin c.args.moved.now) c.service.result.now c.args.shelf.now c.put_image.new.shelf is c.in-Ok.ensures.ok)
+    c.in-Ok-play_over.ensures.ok.leaves
 
 pub returns-in-Ok-play_over-clause-counted : goal.returns-in-Ok-play_over-clause-counted
 returns-in-Ok-play_over-clause-counted g c =
     let n = g.F.Shelf.faults in
-    counts_none (n c.args.shelf.now) (n c.put_image.new.shelf) (n c.play_over.new.shelf) c.in-Ok.ensures.counted (c.in-Ok-play_over.ensures.calm (λ e. cc))
+    counts_none (n c.args.shelf.now) (n c.put_image.new.shelf) (n c.play_over.new.shelf) c.in-Ok.ensures.counted
+    (c.in-Ok-play_over.ensures.calm (λ e. cc))
 
 pub returns-in-Err-play_over-clause-held : goal.returns-in-Err-play_over-clause-held
 returns-in-Err-play_over-clause-held g c =
@@ -42,7 +49,8 @@ returns-in-Err-play_over-clause-held g c =
     let s = g.F.Shelf.sight in
     let is = opening_is c.service.result.now (m.origin c.args.moved.now) (m.sent c.args.moved.now) c.service.ensures c.requires.sent in
     held_partly s (m.origin c.args.moved.now) (m.sent c.play_over.new.world) c.args.shelf.now c.put_image.new.shelf c.play_over.new.shelf
-    (replaced_as s (m.origin c.args.moved.now) c.service.result.now c.args.shelf.now c.put_image.new.shelf is c.in-Ok.ensures.ok) c.in-Err-play_over.fault c.in-Err-play_over.ensures.err
+    (replaced_as s (m.origin c.args.moved.now) c.service.result.now c.args.shelf.now c.put_image.new.shelf is c.in-Ok.ensures.ok)
+    c.in-Err-play_over.fault c.in-Err-play_over.ensures.err
 
 pub returns-in-Err-play_over-clause-survives : goal.returns-in-Err-play_over-clause-survives
 returns-in-Err-play_over-clause-survives g c =
@@ -50,12 +58,14 @@ returns-in-Err-play_over-clause-survives g c =
     let s = g.F.Shelf.sight in
     let is = opening_is c.service.result.now (m.origin c.args.moved.now) (m.sent c.args.moved.now) c.service.ensures c.requires.sent in
     survives_since s (m.origin c.args.moved.now) (m.sent c.play_over.new.world) c.args.shelf.now c.put_image.new.shelf c.play_over.new.shelf
-    (replaced_as s (m.origin c.args.moved.now) c.service.result.now c.args.shelf.now c.put_image.new.shelf is c.in-Ok.ensures.ok) c.in-Err-play_over.ensures.err.leaves
+    (replaced_as s (m.origin c.args.moved.now) c.service.result.now c.args.shelf.now c.put_image.new.shelf is c.in-Ok.ensures.ok)
+    c.in-Err-play_over.ensures.err.leaves
 
 pub returns-in-Err-play_over-clause-counted : goal.returns-in-Err-play_over-clause-counted
 returns-in-Err-play_over-clause-counted g c =
     let n = g.F.Shelf.faults in
-    counts_some c.in-Err-play_over.fault (n c.args.shelf.now) (n c.put_image.new.shelf) (n c.play_over.new.shelf) c.in-Ok.ensures.counted c.requires.count c.in-Err-play_over.ensures.failed c.in-Err-play_over.ensures.calm
+    counts_some c.in-Err-play_over.fault (n c.args.shelf.now) (n c.put_image.new.shelf) (n c.play_over.new.shelf) c.in-Ok.ensures.counted
+    c.requires.count c.in-Err-play_over.ensures.failed c.in-Err-play_over.ensures.calm
 
 pub returns-in-Ok-play_over-clause-over : goal.returns-in-Ok-play_over-clause-over
 returns-in-Ok-play_over-clause-over g c = λ e. c.in-Ok-play_over.ensures.over

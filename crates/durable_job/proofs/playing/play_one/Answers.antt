@@ -1,6 +1,12 @@
-use Rattle.durable_job.proofs.Common.{Content, IsHeld, Run, Stays, Survives, ap, not_called, subst, LacksSince, left_of, ◌∙◌, ◌≡◌, ◌<◌, ◌⊎◌}
-use Rattle.durable_job.proofs.Held.{not_replaced_as}
 use Rattle.durable_job.proofs.Ends.{one_played}
+use Rattle.durable_job.proofs.Held.{not_replaced_as}
+use Rattle.durable_job.specs.Moves.{Stays, left_of}
+use Rattle.durable_job.specs.Pace.{LacksSince}
+use Rattle.durable_job.specs.Played.{IsHeld, Survives}
+use Rattle.job_world.specs.Worlds.{Run}
+use Rattle.journal_log.proofs.Replaces.{not_called}
+use Rattle.s3_types.specs.Store.{Content}
+use Rattle.std.proofs.Common.{ap, subst, ◌<◌, ◌∙◌, ◌≡◌, ◌⊎◌}
 use Rattle.durable_job.proofs.playing.play_one.Goals as goal
 
 pub returns-in_default-clause-err : goal.returns-in_default-clause-err

@@ -1,9 +1,15 @@
-use Rattle.durable_job.proofs.Common.{AreTwins, Content, IsHeld, IsPlayed, Survives, Twins, TwinsStay, Two, ap, not_called, subst, sym}
-use Rattle.durable_job.proofs.Common.{LacksSince, turns_left, ◌∙◌, ◌≡◌, ◌<◌, ◌⊎◌}
-use Rattle.twin_jobs.specs.Worlds.{Run}
-use Rattle.durable_job.specs.declared.playing.Kept.{Kept}
-use Rattle.durable_job.proofs.Held.{not_replaced_as}
 use Rattle.durable_job.proofs.Ends.{twins_are, two_played}
+use Rattle.durable_job.proofs.Held.{not_replaced_as}
+use Rattle.durable_job.specs.Moves.{TwinsStay, turns_left}
+use Rattle.durable_job.specs.Pace.{LacksSince}
+use Rattle.durable_job.specs.Played.{IsHeld, IsPlayed, Survives}
+use Rattle.durable_job.specs.declared.jobs.Jobs.TheVariants.{Two}
+use Rattle.durable_job.specs.declared.playing.Kept.{Kept}
+use Rattle.journal_log.proofs.Replaces.{not_called}
+use Rattle.s3_types.specs.Store.{Content}
+use Rattle.std.proofs.Common.{ap, subst, sym, ◌<◌, ◌∙◌, ◌≡◌, ◌⊎◌}
+use Rattle.twin_jobs.specs.Worlds.{Run}
+use Rattle.twin_script.specs.TwinScripts.{AreTwins, Twins}
 use Rattle.durable_job.proofs.playing.play_two.Goals as goal
 
 pub returns-in_default-clause-err : goal.returns-in_default-clause-err
@@ -23,7 +29,8 @@ kept_of-requires g c =
     let left = c.finish-left.result in
     let e = c.in-Ok-keep.ensures in
     let f = c.finish-left.ensures in
-    subst (λ (u : Twins). AreTwins u) (sym (twins_are t c.args.service left.first left.second c.in-Ok.order c.keep.new.moved f.first f.second (subst (λ (x : Run). TwinsStay x c.keep.new.moved) c.in-Ok-new.ensures e.keeps) c.in-Ok.ensures)) c.keeps.ensures.twins
+    subst (λ (u : Twins). AreTwins u) (sym (twins_are t c.args.service left.first left.second c.in-Ok.order c.keep.new.moved f.first
+    f.second (subst (λ (x : Run). TwinsStay x c.keep.new.moved) c.in-Ok-new.ensures e.keeps) c.in-Ok.ensures)) c.keeps.ensures.twins
 
 pub returns-clause-played : goal.returns-clause-played
 returns-clause-played g c =
@@ -37,7 +44,8 @@ returns-clause-played g c =
     let f = c.finish-left.ensures in
     let opening : r.opening ≡ d = ap (λ (x : Run). x.opening) c.in-Ok-new.ensures in
     subst (λ (k : Kept). IsPlayed s (Two t) d k c.args.shelf.now c.keep.new.shelf) (sym c.kept_of.ensures)
-    (two_played s t d n c.in-Ok-keep.stop c.verdict_of-verdict.result left.first left.second c.in-Ok.order left.service left.journal c.args.shelf.now c.keep.new.shelf c.in-Ok.ensures
+    (two_played s t d n c.in-Ok-keep.stop c.verdict_of-verdict.result left.first left.second c.in-Ok.order left.service left.journal
+    c.args.shelf.now c.keep.new.shelf c.in-Ok.ensures
     (record {
       stays = subst (λ (x : Run). TwinsStay x n) c.in-Ok-new.ensures e.keeps;
       origin = e.origin ∙ opening;

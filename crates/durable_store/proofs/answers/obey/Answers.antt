@@ -1,5 +1,6 @@
-use Rattle.durable_store.proofs.Common.{refl, said}
 use Rattle.durable_store.proofs.Keeping.{not_failed}
+use Rattle.durable_store.specs.Outcomes.IsAnswer.{said}
+use Rattle.std.proofs.Common.{refl}
 use Rattle.durable_store.proofs.answers.obey.Goals as goal
 
 pub returns-in-Says-clause-answer : goal.returns-in-Says-clause-answer

@@ -1,4 +1,7 @@
-use Rattle.durable_store.proofs.Common.{AllByRecursion, IsMade, content_after, drop, ◌≡◌}
+use Rattle.journal_log.specs.Changes.{content_after}
+use Rattle.journal_log.specs.Made.{IsMade}
+use Rattle.std.proofs.Common.{drop, ◌≡◌}
+use Rattle.std.specs.List.{AllByRecursion}
 use Rattle.durable_store.proofs.folding.follow_all.Given as goal
 
 abbrev pub invariant-loop-change : goal.invariant-loop-change

@@ -1,4 +1,5 @@
-use Rattle.folder_log.proofs.Common.{most_file, vec_len, ◌≤◌}
+use Rattle.shelf.specs.Logged.{most_file}
+use Rattle.std.proofs.Common.{vec_len, ◌≤◌}
 use Rattle.folder_log.proofs.file_disk.read_whole.Given as goal
 
 abbrev pub invariant-loop : goal.invariant-loop

@@ -1,4 +1,5 @@
-use Rattle.folder_log.proofs.Common.{drop, filled, ◌≡◌}
+use Rattle.folder_log.specs.Calls.{filled}
+use Rattle.std.proofs.Common.{drop, ◌≡◌}
 use Rattle.folder_log.proofs.state.torn_file.Given as goal
 
 abbrev pub invariant-loop-range : goal.invariant-loop-range

@@ -1,6 +1,8 @@
-use Rattle.fs_ops.proofs.Common.{deleted, false, marker_if, parent}
-use Rattle.fs_ops.proofs.Names.{at_end}
+use Rattle.dir_markers.specs.Markers.{deleted}
 use Rattle.fs_ops.proofs.MarkerAbove.{marker_parent, root_marker}
+use Rattle.fs_ops.proofs.Names.{at_end}
+use Rattle.fs_tree.specs.Changes.{marker_if, parent}
+use Rattle.std.proofs.Common.{false}
 use Rattle.fs_ops.proofs.delete.marker_above.Goals as goal
 
 pub returns-in-Some : goal.returns-in-Some

@@ -1,4 +1,5 @@
-use Rattle.fs_ops.proofs.Common.{all_added, drop, last_text, ◌≡◌}
+use Rattle.fs_ops.specs.code.List.{all_added, last_text}
+use Rattle.std.proofs.Common.{drop, ◌≡◌}
 use Rattle.fs_ops.proofs.list.add_all.Given as goal
 
 -- what was found and the entries that are left are all

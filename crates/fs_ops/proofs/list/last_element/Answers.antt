@@ -8,4 +8,5 @@ returns-in-Some c =
     last_of_cut c.copied.result c.args.key.now c.in-Some.field-0-0.now c.in-Some.back.now cut.0 cut.1 c.copied.ensures
 
 pub returns-in-None : goal.returns-in-None
-returns-in-None c = last_of_none c.copied-in-None.result c.args.key.now (no_slash c.args.key.now c.in-None.ensures.cases) c.copied-in-None.ensures
+returns-in-None c = last_of_none c.copied-in-None.result c.args.key.now (no_slash c.args.key.now c.in-None.ensures.cases)
+    c.copied-in-None.ensures

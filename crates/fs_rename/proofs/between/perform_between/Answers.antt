@@ -6,7 +6,8 @@ pub returns-then-ne-clause-given : goal.returns-then-ne-clause-given
 returns-then-ne-clause-given g c = given_other c.args.bucket c.args.to_bucket _ _ _ _ c.if-ne.ensures
 
 pub returns-then-ne-clause-performed : goal.returns-then-ne-clause-performed
-returns-then-ne-clause-performed g c = performed_none c.args.bucket _ _ (λ m. c.laws.ensures.phases.during _ m _ m (c.laws.ensures.phases.begin _ m))
+returns-then-ne-clause-performed g c = performed_none c.args.bucket _ _ (λ m. c.laws.ensures.phases.during _ m _ m
+    (c.laws.ensures.phases.begin _ m))
 
 pub returns-then-ne-clause-few : goal.returns-then-ne-clause-few
 returns-then-ne-clause-few g c = λ part e. none_few _ part _ e

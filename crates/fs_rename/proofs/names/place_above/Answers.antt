@@ -1,5 +1,6 @@
-use Rattle.fs_rename.proofs.Common.{at_end, parent}
-use Rattle.fs_rename.proofs.Inside.{above_some, above_none}
+use Rattle.fs_ops.proofs.Names.{at_end}
+use Rattle.fs_rename.proofs.Inside.{above_none, above_some}
+use Rattle.fs_tree.specs.Changes.{parent}
 use Rattle.fs_rename.proofs.names.place_above.Goals as goal
 
 pub returns-in-Some : goal.returns-in-Some

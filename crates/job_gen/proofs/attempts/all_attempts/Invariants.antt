@@ -1,5 +1,7 @@
-use Rattle.job_gen.proofs.Common.{draw, part_files, ◌*◌, ◌≡◌}
 use Rattle.job_gen.proofs.Declaring.{attempts_from}
+use Rattle.job_gen.specs.Made.{part_files}
+use Rattle.job_spec.specs.Turns.{draw}
+use Rattle.std.proofs.Common.{◌*◌, ◌≡◌}
 use Rattle.job_gen.proofs.attempts.all_attempts.Given as goal
 
 abbrev pub invariant-loop-task : goal.invariant-loop-task

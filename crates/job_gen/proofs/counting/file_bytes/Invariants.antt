@@ -1,4 +1,5 @@
-use Rattle.job_gen.proofs.Common.{bytes_of, ◌+◌, ◌≡◌}
+use Rattle.job_model.specs.Legal.{bytes_of}
+use Rattle.std.proofs.Common.{◌+◌, ◌≡◌}
 use Rattle.job_gen.proofs.counting.file_bytes.Given as goal
 
 abbrev pub invariant-loop-bytes : goal.invariant-loop-bytes

@@ -1,4 +1,6 @@
-use Rattle.job_gen.proofs.Common.{pick_bytes, sum_by, take, ◌*◌, ◌≡◌, ◌≤◌}
+use Rattle.job_gen.specs.Summary.{pick_bytes}
+use Rattle.std.proofs.Common.{take, ◌*◌, ◌≡◌, ◌≤◌}
+use Rattle.std.specs.Prelude.{sum_by}
 use Rattle.job_gen.proofs.counting.picked_bytes.Given as goal
 
 abbrev pub invariant-loop-pick : goal.invariant-loop-pick

@@ -1,5 +1,8 @@
-use Rattle.job_gen.proofs.Common.{Commit, Start, [], ap, start_commit, ◌++◌, ◌∙◌, ◌∷◌}
 use Rattle.job_gen.proofs.Ranges.{mapped_on}
+use Rattle.job_gen.specs.Made.{start_commit}
+use Rattle.job_model.specs.declared.events.Event.TheVariants.{Start}
+use Rattle.job_model.specs.declared.events.Op.TheVariants.{Commit}
+use Rattle.std.proofs.Common.{ap, [], ◌++◌, ◌∙◌, ◌∷◌}
 use Rattle.job_gen.proofs.events.push_commits.Goals as goal
 
 pub loop-task-preserved : goal.loop-task-preserved

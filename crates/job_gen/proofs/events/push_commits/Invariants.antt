@@ -1,4 +1,5 @@
-use Rattle.job_gen.proofs.Common.{below, map, start_commit, ◌++◌, ◌≡◌}
+use Rattle.job_gen.specs.Made.{below, start_commit}
+use Rattle.std.proofs.Common.{map, ◌++◌, ◌≡◌}
 use Rattle.job_gen.proofs.events.push_commits.Given as goal
 
 abbrev pub invariant-loop-task : goal.invariant-loop-task

@@ -1,4 +1,6 @@
-use Rattle.job_gen.proofs.Common.{below, filter, flat_map, is_twice, second_writes, ◌++◌, ◌≡◌}
+use Rattle.job_gen.specs.Made.{below, is_twice, second_writes}
+use Rattle.std.proofs.Common.{filter, ◌++◌, ◌≡◌}
+use Rattle.std.specs.List.{flat_map}
 use Rattle.job_gen.proofs.events.push_seconds.Given as goal
 
 abbrev pub invariant-loop-task : goal.invariant-loop-task

@@ -1,4 +1,5 @@
-use Rattle.job_gen.proofs.Common.{below, map, start_write, ◌++◌, ◌≡◌}
+use Rattle.job_gen.specs.Made.{below, start_write}
+use Rattle.std.proofs.Common.{map, ◌++◌, ◌≡◌}
 use Rattle.job_gen.proofs.events.push_writes.Given as goal
 
 abbrev pub invariant-loop-task : goal.invariant-loop-task

@@ -1,6 +1,10 @@
-use Rattle.job_gen.proofs.Common.{IfOk-weaker, [], ap, arith, cases_lt, decimal, decimal_digit, false, inl, inr, part_path, refl, string_bytes, three_digits, two_digits, ℕ, ◌%◌, ◌++◌, ◌+◌, ◌-◌, ◌/◌, ◌<◌, ◌^◌, ◌∙◌, ◌∷◌, ◌≡◌, ◌≤◌}
-use Rattle.std.specs.Fmt.{padded_integral, format_spec, char_count}
-use Rattle.std.proofs.lemmas.Fmt.{decimal_step}
+use Rattle.job_gen.specs.Made.{part_path, three_digits, two_digits}
+use Rattle.std.proofs.Common.{ap, arith, false, inl, inr, refl, ℕ, [], ◌%◌, ◌++◌, ◌+◌, ◌-◌, ◌/◌, ◌<◌, ◌^◌, ◌∙◌, ◌∷◌, ◌≡◌, ◌≤◌}
+use Rattle.std.proofs.lemmas.Bool.{cases_lt}
+use Rattle.std.proofs.lemmas.Fmt.{decimal_digit, decimal_step}
+use Rattle.std.proofs.lemmas.Result.{IfOk-weaker}
+use Rattle.std.specs.Fmt.{char_count, decimal, format_spec, padded_integral}
+use Rattle.std.specs.Prelude.{string_bytes}
 use Rattle.job_gen.proofs.files.made_path.Goals as goal
 
 -- ---- numbers as they are written with zeros before them
@@ -40,5 +44,6 @@ pub returns : goal.returns
 returns c =
     let three = three_written c.args.task c.requires.task in
     let two = two_written c.args.file c.requires.file in
-    let is : string_bytes c.in_ok-format.field-0 ≡ part_path c.args.task c.args.file = c.in_ok-format.ensures.ok ∙ rw (c.laid_out.ensures, c.laid_out-2.ensures, three, two) refl in
+    let is : string_bytes c.in_ok-format.field-0 ≡ part_path c.args.task c.args.file = c.in_ok-format.ensures.ok ∙ rw
+    (c.laid_out.ensures, c.laid_out-2.ensures, three, two) refl in
     IfOk-weaker c.new.result _ (λ path. path ≡ part_path c.args.task c.args.file) (λ path h. h ∙ is) c.new.ensures

@@ -1,4 +1,6 @@
-use Rattle.job_gen.proofs.Common.{below, draw, map, part_file, part_path, ℕ, ◌*◌, ◌+◌, ◌≡◌}
+use Rattle.job_gen.specs.Made.{below, part_file, part_path}
+use Rattle.job_spec.specs.Turns.{draw}
+use Rattle.std.proofs.Common.{map, ℕ, ◌*◌, ◌+◌, ◌≡◌}
 use Rattle.job_gen.proofs.files.task_files.Given as goal
 
 abbrev pub invariant-loop-file : goal.invariant-loop-file

@@ -1,13 +1,17 @@
-use Rattle.job_gen.proofs.Common.{Err, Ok, PathFault, Result, arith, made_dest, same_ok, sym, ◌≡◌}
-use Rattle.basics.specs.Prelude.{Unless}
-use Rattle.job_protocol.specs.Prelude.{Path}
-use Rattle.path_keys.specs.Paths.{wanting}
-use Rattle.path_keys.specs.declared.fault.PathFault.TheVariants.{NoMemory}
+use Rattle.basics.proofs.Reading.{same_ok}
 use Rattle.basics.specs.Parts.{parts_from}
+use Rattle.basics.specs.Reading.{Unless}
+use Rattle.job_gen.specs.Made.{made_dest}
+use Rattle.path_keys.specs.Paths.{Path, wanting}
+use Rattle.path_keys.specs.declared.fault.PathFault.{PathFault}
+use Rattle.path_keys.specs.declared.fault.PathFault.TheVariants.{NoMemory}
+use Rattle.std.proofs.Common.{Err, Ok, arith, sym, ◌≡◌}
+use Rattle.std.specs.Prelude.{Result}
 use Rattle.job_gen.proofs.script.dest.Goals as goal
 
 -- the faults of a path that is one give want of memory alone
-memory_alone : (x : Path) (e : PathFault) → (e ≡ NoMemory → ⊥) → Unless (wanting e) (let read : Result Path PathFault = Ok x in read ≡ Err e) → ⊥
+memory_alone : (x : Path) (e : PathFault) → (e ≡ NoMemory → ⊥)
+    → Unless (wanting e) (let read : Result Path PathFault = Ok x in read ≡ Err e) → ⊥
 memory_alone x e h g = grind arith
 
 pub unreachable-requires : goal.unreachable-requires

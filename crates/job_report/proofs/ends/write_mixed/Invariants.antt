@@ -1,4 +1,6 @@
-use Rattle.job_report.proofs.Common.{actor_end_text, codes, drop, flat_map, join_by, string_bytes, ◌++◌, ◌∷◌, ◌≡◌}
+use Rattle.job_spec.specs.ReportText.{actor_end_text}
+use Rattle.std.proofs.Common.{codes, drop, string_bytes, ◌++◌, ◌∷◌, ◌≡◌}
+use Rattle.std.specs.List.{flat_map, join_by}
 use Rattle.job_report.proofs.ends.write_mixed.Given as goal
 
 abbrev pub invariant-loop-actor_end : goal.invariant-loop-actor_end

@@ -7,5 +7,7 @@ returns-clause-lines c =
     let events = c.args.ended.events.now in
     let ends = c.args.ended.ends.now in
     let next = c.args.told + c.min.result in
-    let goes : c.args.told + c.min.result ≡ c.args.told + min c.args.count (min (length c.args.ended.events.now) (length c.args.ended.ends.now) - c.args.told) = omega (arith, c.min.ensures, c.min-most.ensures) in
-    c.in_ok-write_events.ensures ∙ ap (λ (l : List ℕ). string_bytes c.args.text.now ++ l) (next_is events ends c.letter.result.now c.args.side c.args.number c.args.told c.args.count next c.letter.ensures goes)
+    let goes : c.args.told + c.min.result ≡ c.args.told + min c.args.count (min (length c.args.ended.events.now)
+    (length c.args.ended.ends.now) - c.args.told) = omega (arith, c.min.ensures, c.min-most.ensures) in
+    c.in_ok-write_events.ensures ∙ ap (λ (l : List ℕ). string_bytes c.args.text.now ++ l)
+    (next_is events ends c.letter.result.now c.args.side c.args.number c.args.told c.args.count next c.letter.ensures goes)

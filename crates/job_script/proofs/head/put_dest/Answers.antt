@@ -1,4 +1,5 @@
-use Rattle.job_script.proofs.Common.{OnOk, [], append-nil, append_assoc, codes, string_bytes, subst, sym, ◌++◌, ◌∙◌, ◌∷◌, ◌≡◌}
+use Rattle.std.proofs.Common.{OnOk, append_assoc, codes, string_bytes, subst, sym, [], ◌++◌, ◌∙◌, ◌∷◌, ◌≡◌}
+use Rattle.std.proofs.lemmas.List.{append-nil}
 use Rattle.job_script.proofs.head.put_dest.Goals as goal
 
 pub returns : goal.returns

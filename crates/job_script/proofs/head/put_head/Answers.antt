@@ -1,6 +1,7 @@
-use Rattle.job_script.proofs.Common.{OnOk, Some, ap, decimal, path_text, refl, string_bytes, subst, unless, ◌∙◌, ◌≡◌}
+use Rattle.job_script.proofs.PrintLines.{behind, head_is, line, no_more}
+use Rattle.job_script.specs.HeadLines.{path_text, unless}
+use Rattle.std.proofs.Common.{OnOk, Some, ap, decimal, refl, string_bytes, subst, ◌∙◌, ◌≡◌}
 use Rattle.std.specs.Prelude.{codes, option_map}
-use Rattle.job_script.proofs.PrintLines.{line, behind, no_more, head_is}
 use Rattle.job_script.proofs.head.put_head.Goals as goal
 
 pub returns : goal.returns
@@ -15,6 +16,7 @@ returns c =
     (behind (line _ _ (codes "unique") _ _ c.in_ok-put_word-4.ensures (ap Some c.answer_word.ensures))
     (behind (line _ _ (codes "retries") _ _ c.in_ok-put_number-2.ensures (ap (λ n. Some (decimal n)) c.from-2.ensures))
     (behind (line _ _ (codes "block") _ _ c.in_ok-put_number-3.ensures (ap (option_map decimal) c.unless.ensures))
-    (behind (line _ _ (codes "lanes") _ _ c.in_ok-put_number-4.ensures (ap (option_map decimal) (c.unless-2.ensures ∙ ap (unless 1) c.from-3.ensures)))
+    (behind (line _ _ (codes "lanes") _ _ c.in_ok-put_number-4.ensures (ap (option_map decimal)
+    (c.unless-2.ensures ∙ ap (unless 1) c.from-3.ensures)))
     (behind (line _ _ (codes "stamp") _ _ c.in_ok-put_number-5.ensures refl) (no_more _))))))))))))
     c.put_losses.ensures

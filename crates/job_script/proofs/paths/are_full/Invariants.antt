@@ -1,4 +1,7 @@
-use Rattle.job_script.proofs.Common.{is_full, length, list_all, parts_of, ◌≡◌}
+use Rattle.basics.specs.Parts.{parts_of}
+use Rattle.job_model.specs.Paths.{is_full}
+use Rattle.std.proofs.Common.{length, ◌≡◌}
+use Rattle.std.specs.List.{list_all}
 use Rattle.job_script.proofs.paths.are_full.Given as goal
 
 abbrev pub invariant-loop-more : goal.invariant-loop-more

@@ -1,4 +1,7 @@
-use Rattle.job_script.proofs.Common.{is_reserved, length, list_any, parts_of, ◌≡◌}
+use Rattle.basics.specs.Parts.{parts_of}
+use Rattle.job_model.specs.Paths.{is_reserved}
+use Rattle.std.proofs.Common.{length, ◌≡◌}
+use Rattle.std.specs.List.{list_any}
 use Rattle.job_script.proofs.paths.has_reserved.Given as goal
 
 abbrev pub invariant-loop-more : goal.invariant-loop-more

@@ -1,4 +1,7 @@
-use Rattle.job_script.proofs.Common.{begins_hidden, length, list_any, parts_of, ◌≡◌}
+use Rattle.basics.specs.Parts.{parts_of}
+use Rattle.job_model.specs.Paths.{begins_hidden}
+use Rattle.std.proofs.Common.{length, ◌≡◌}
+use Rattle.std.specs.List.{list_any}
 use Rattle.job_script.proofs.paths.is_hidden.Given as goal
 
 abbrev pub invariant-loop-more : goal.invariant-loop-more

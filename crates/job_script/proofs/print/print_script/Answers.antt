@@ -1,8 +1,11 @@
-use Rattle.job_script.proofs.Common.{IfOk, IfOk-weaker, IsLegal, List, Ok, ap, length, script_of, script_text, script_within, subst, ℕ, ◌∙◌}
-use Rattle.job_script.proofs.Common.{◌≡◌, ◌≤◌}
-use Rattle.std.specs.FinMap as map
+use Rattle.job_model.specs.Legal.{IsLegal}
 use Rattle.job_script.proofs.PrintLines.{script_is}
 use Rattle.job_script.proofs.Whole.{read_again, read_within}
+use Rattle.job_script.specs.Print.{script_text}
+use Rattle.job_script.specs.Script.{script_of, script_within}
+use Rattle.std.proofs.Common.{IfOk, List, Ok, ap, length, subst, ℕ, ◌∙◌, ◌≡◌, ◌≤◌}
+use Rattle.std.proofs.lemmas.Result.{IfOk-weaker}
+use Rattle.std.specs.FinMap as map
 use Rattle.job_script.proofs.print.print_script.Goals as goal
 
 legal : (c : goal.After-new) → IsLegal c.args.script.now

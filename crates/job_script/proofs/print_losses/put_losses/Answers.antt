@@ -14,7 +14,8 @@ loop-sending-preserved c =
     let most = (c.requires c.in-Some.sending c.in-Some.fate first.1).1 in
     record {
       room = omega (arith, most);
-      text = next_loss c.args.fates.now c.loop-sending.from c.in-Some.sending c.in-Some.fate _ _ _ first c.in_ok-put_loss.ensures c.loop-sending.invariant.text;
+      text = next_loss c.args.fates.now c.loop-sending.from c.in-Some.sending c.in-Some.fate _ _ _ first c.in_ok-put_loss.ensures
+          c.loop-sending.invariant.text;
     }
 
 pub returns : goal.returns

@@ -1,5 +1,7 @@
-use Rattle.job_script.proofs.Common.{loss_lines, string_bytes, text_of, ◌++◌, ◌-◌, ◌≡◌, ◌≤◌}
+use Rattle.basics.specs.Words.{text_of}
 use Rattle.job_script.proofs.LossLines.{losses_from}
+use Rattle.job_script.specs.HeadLines.{loss_lines}
+use Rattle.std.proofs.Common.{string_bytes, ◌++◌, ◌-◌, ◌≡◌, ◌≤◌}
 use Rattle.job_script.proofs.print_losses.put_losses.Given as goal
 
 abbrev pub invariant-loop-sending : goal.invariant-loop-sending

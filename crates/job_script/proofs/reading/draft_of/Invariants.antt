@@ -1,4 +1,6 @@
-use Rattle.job_script.proofs.Common.{length, lines_at, lines_of, nothing, ◌+◌, ◌≡◌, ◌≤◌}
+use Rattle.basics.specs.Lines.{lines_of}
+use Rattle.job_script.specs.Script.{lines_at, nothing}
+use Rattle.std.proofs.Common.{length, ◌+◌, ◌≡◌, ◌≤◌}
 use denote.Shadow.{shadow}
 use denote.Text.{Utf8}
 use Rattle.job_script.proofs.reading.draft_of.Given as goal

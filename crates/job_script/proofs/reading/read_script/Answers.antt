@@ -1,5 +1,6 @@
-use Rattle.job_script.proofs.Common.{found, only, script_of}
+use Rattle.basics.proofs.Reading.{found, only}
 use Rattle.job_script.specs.Fault.{wanting}
+use Rattle.job_script.specs.Script.{script_of}
 use Rattle.job_script.proofs.reading.read_script.Goals as goal
 
 pub returns-clause-found : goal.returns-clause-found

@@ -1,5 +1,6 @@
-use Rattle.job_script.proofs.Common.{ap, is_utf8, sym, ◌∙◌}
 use Rattle.job_script.proofs.Whole.{draft_legal}
+use Rattle.std.proofs.Common.{ap, sym, ◌∙◌}
+use Rattle.std.specs.Str.{is_utf8}
 use Rattle.job_script.proofs.reading.script_in.Goals as goal
 
 pub complete-requires : goal.complete-requires

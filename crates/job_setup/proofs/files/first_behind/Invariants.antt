@@ -1,6 +1,6 @@
-use Rattle.std.proofs.Common.{◌≡◌, drop}
-use Rattle.job_protocol.specs.Prelude.{keys_on}
 use Rattle.job_setup.specs.Files.{first_of}
+use Rattle.list_walk.specs.Walks.{keys_on}
+use Rattle.std.proofs.Common.{drop, ◌≡◌}
 use Rattle.job_setup.proofs.files.first_behind.Given as goal
 
 -- the first is behind those that were passed over

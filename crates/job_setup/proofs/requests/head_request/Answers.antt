@@ -1,6 +1,8 @@
-use Rattle.path_keys.proofs.Common.{ap, arith, is_key, is_key_path, length, sym, ◌∙◌, ◌≤◌}
-use Rattle.path_keys.proofs.Beneath.{key_path_from}
 use Rattle.magic_paths.proofs.Elements.{dest_elements}
+use Rattle.path_keys.proofs.Beneath.{key_path_from}
+use Rattle.path_keys.specs.Paths.{is_key}
+use Rattle.s3_types.specs.Names.{is_key_path}
+use Rattle.std.proofs.Common.{ap, arith, length, sym, ◌∙◌, ◌≤◌}
 use Rattle.job_setup.proofs.requests.head_request.Goals as goal
 
 pub new-key-requires : goal.new-key-requires

@@ -8,8 +8,13 @@ turns-init g c = (c.requires.holds, g.met.A.Actors.laws.self _, (going_begins _ 
 pub turns-preserved : goal.turns-preserved
 turns-preserved g c =
     let i = c.turns.invariant in
-    let t = c.in-GoesOn.ensures in
-    (t.holds, g.met.A.Actors.laws.chain _ _ _ i.1 t.keeps, (goes_on i.2.0 t.turned, one_more i.2.0.part _ ∙ ap (λ n. n + 1) i.2.1), omega arith)
+    let t = c.in-GoesOn.ensures in (
+      t.holds,
+      g.met.A.Actors.laws.chain _ _ _ i.1 t.keeps,
+      (goes_on i.2.0 t.turned, one_more i.2.0.part _ ∙ ap (λ n. n + 1) i.2.1),
+      omega
+          arith,
+    )
 
 pub returns-in-Ended-clause-stepped : goal.returns-in-Ended-clause-stepped
 returns-in-Ended-clause-stepped g c =

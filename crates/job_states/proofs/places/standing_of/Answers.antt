@@ -1,5 +1,6 @@
-use Rattle.job_states.proofs.Common.{length, refl, slice_get_read}
 use Rattle.job_states.proofs.PlaceLemmas.{found_there}
+use Rattle.std.proofs.Common.{length, refl}
+use Rattle.std.proofs.lemmas.Option.{slice_get_read}
 use Rattle.job_states.proofs.places.standing_of.Goals as goal
 
 pub returns-in-Some-get-clause-known : goal.returns-in-Some-get-clause-known

@@ -1,4 +1,5 @@
-use Rattle.job_states.proofs.Common.{drop, first_false, ◌≡◌}
+use Rattle.job_states.specs.Stands.{first_false}
+use Rattle.std.proofs.Common.{drop, ◌≡◌}
 use Rattle.job_states.proofs.reports.first_untold.Given as goal
 
 abbrev pub invariant-loop-task : goal.invariant-loop-task

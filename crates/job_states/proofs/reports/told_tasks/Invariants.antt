@@ -1,4 +1,5 @@
-use Rattle.job_states.proofs.Common.{false, has_task, nat_lt, slice_get, unwrap_or, ℕ, ◌&&◌, ◌≡◌}
+use Rattle.job_model.specs.Jobs.{has_task}
+use Rattle.std.proofs.Common.{false, nat_lt, slice_get, unwrap_or, ℕ, ◌&&◌, ◌≡◌}
 use Rattle.job_states.proofs.reports.told_tasks.Given as goal
 
 abbrev pub invariant-loop-task : goal.invariant-loop-task

@@ -1,4 +1,5 @@
-use Rattle.job_states.proofs.Common.{busy_from, drop, ◌++◌, ◌≡◌}
+use Rattle.job_states.specs.Stands.{busy_from}
+use Rattle.std.proofs.Common.{drop, ◌++◌, ◌≡◌}
 use Rattle.job_states.proofs.states.busy_places.Given as goal
 
 abbrev pub invariant-loop-place : goal.invariant-loop-place

@@ -1,5 +1,7 @@
-use Rattle.job_states.proofs.Common.{List, Standing, ap, arith, drop, get_or, map, set, suc, take, unreported_in, ℕ, ◌++◌, ◌+◌, ◌∙◌, ◌≡◌}
 use Rattle.job_states.proofs.ToldLemmas.{mapped_more}
+use Rattle.job_states.specs.Standing.{unreported_in}
+use Rattle.job_states.specs.declared.standing.Standing.{Standing}
+use Rattle.std.proofs.Common.{List, ap, arith, drop, get_or, map, set, suc, take, ℕ, ◌++◌, ◌+◌, ◌∙◌, ◌≡◌}
 use Rattle.job_states.proofs.states.unreport.Goals as goal
 
 pub loop-standing-preserved : goal.loop-standing-preserved

@@ -1,4 +1,5 @@
-use Rattle.job_states.proofs.Common.{drop, map, take, unreported_in, ◌++◌, ◌≡◌}
+use Rattle.job_states.specs.Standing.{unreported_in}
+use Rattle.std.proofs.Common.{drop, map, take, ◌++◌, ◌≡◌}
 use Rattle.job_states.proofs.states.unreport.Given as goal
 
 abbrev pub invariant-loop-standing : goal.invariant-loop-standing

@@ -1,4 +1,8 @@
-use Rattle.journal_log.proofs.Common.{Appended, CrashesLeave, IsBetween, changes, take, ◌≡◌}
+use Rattle.journal_log.specs.Appends.{Appended}
+use Rattle.journal_log.specs.Changes.{changes}
+use Rattle.journal_log.specs.Crashes.{IsBetween}
+use Rattle.shelf.specs.Logged.{CrashesLeave}
+use Rattle.std.proofs.Common.{take, ◌≡◌}
 use Rattle.journal_log.proofs.appends.append_all.Given as goal
 
 abbrev pub invariant-loop-entry : goal.invariant-loop-entry

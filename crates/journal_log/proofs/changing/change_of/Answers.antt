@@ -1,7 +1,8 @@
-use Rattle.journal_log.proofs.Journals.{taken, not_effective, not_changing}
+use Rattle.journal_log.proofs.Journals.{not_changing, not_effective, taken}
+use Rattle.journal_log.proofs.changing.change_of.Goals.{else-is_effective-via-else-is_effective}
+use Rattle.journal_log.proofs.changing.change_of.Goals.{else-is_effective-via-then-is_effective+else-is_changing}
 use Rattle.std.proofs.Common.{sym, ◌∙◌}
 use Rattle.journal_log.proofs.changing.change_of.Goals as goal
-use Rattle.journal_log.proofs.changing.change_of.Goals.{else-is_effective-via-then-is_effective+else-is_changing, else-is_effective-via-else-is_effective}
 
 pub returns-then-is_changing : goal.returns-then-is_changing
 returns-then-is_changing c =
@@ -11,6 +12,7 @@ returns-then-is_changing c =
 pub returns-else-is_effective : goal.returns-else-is_effective
 returns-else-is_effective c =
     elim c.else-is_effective.branch [
-      | else-is_effective-via-then-is_effective+else-is_changing w ↦ not_changing c.args.entry.now (sym w.is_changing.ensures ∙ w.if-is_changing.false)
+      | else-is_effective-via-then-is_effective+else-is_changing w ↦ not_changing c.args.entry.now
+          (sym w.is_changing.ensures ∙ w.if-is_changing.false)
       | else-is_effective-via-else-is_effective w ↦ not_effective c.args.entry.now (sym c.is_effective.ensures ∙ w.if-is_effective.false)
     ]

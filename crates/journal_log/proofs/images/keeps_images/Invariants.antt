@@ -1,4 +1,7 @@
-use Rattle.journal_log.proofs.Common.{AllByRecursion, IsMade, changes, take}
+use Rattle.journal_log.specs.Changes.{changes}
+use Rattle.journal_log.specs.Made.{IsMade}
+use Rattle.std.proofs.Common.{take}
+use Rattle.std.specs.List.{AllByRecursion}
 use Rattle.journal_log.proofs.images.keeps_images.Given as goal
 
 -- the changes of the entries so far

@@ -1,4 +1,5 @@
-use Rattle.list_walk.proofs.Common.{AreKeys, drop, ◌++◌, ◌≡◌}
+use Rattle.list_walk.specs.Fitting.{AreKeys}
+use Rattle.std.proofs.Common.{drop, ◌++◌, ◌≡◌}
 use Rattle.list_walk.proofs.key_walk.add_entries.Given as goal
 
 -- the entries so far and those that are left are all

@@ -1,4 +1,6 @@
-use Rattle.list_walk.proofs.Common.{AreKeys, drop, keys_on, ◌++◌, ◌≡◌}
+use Rattle.list_walk.specs.Fitting.{AreKeys}
+use Rattle.list_walk.specs.Walks.{keys_on}
+use Rattle.std.proofs.Common.{drop, ◌++◌, ◌≡◌}
 use Rattle.list_walk.proofs.key_walk.keys_in.Given as goal
 
 -- the keys so far and those that are left are all

@@ -1,5 +1,6 @@
-use Rattle.log_format.proofs.Common.{ap, list_at, named_at, ◌+◌, ◌-◌, ◌∙◌}
-use Rattle.log_format.proofs.Loop.{in_front, one_more, ends}
+use Rattle.log_format.proofs.Loop.{ends, in_front, one_more}
+use Rattle.log_format.specs.Reading.{list_at, named_at}
+use Rattle.std.proofs.Common.{ap, ◌+◌, ◌-◌, ◌∙◌}
 use Rattle.log_format.proofs.fields.parts_in.Goals as goal
 
 pub returns-in-Err : goal.returns-in-Err
@@ -7,5 +8,6 @@ returns-in-Err c = ends (named_at c.args.at) c.args.count c.loop.counter _ _ _ _
 
 pub loop-preserved : goal.loop-preserved
 loop-preserved c =
-    ap (λ l. in_front l (list_at (named_at c.args.at) (c.args.count - (c.loop.counter + 1)) c.in-Ok.after.now)) c.in_ok-push-in-Ok.ensures.items
+    ap (λ l. in_front l (list_at (named_at c.args.at) (c.args.count - (c.loop.counter + 1)) c.in-Ok.after.now))
+    c.in_ok-push-in-Ok.ensures.items
     ∙ one_more (named_at c.args.at) c.args.count c.loop.counter _ _ _ _ _ c.loop-test.true c.in-Ok.ensures c.loop.invariant

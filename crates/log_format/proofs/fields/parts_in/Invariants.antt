@@ -1,5 +1,6 @@
-use Rattle.log_format.proofs.Common.{list_at, named_at, ◌-◌, ◌≡◌}
 use Rattle.log_format.proofs.Loop.{in_front}
+use Rattle.log_format.specs.Reading.{list_at, named_at}
+use Rattle.std.proofs.Common.{◌-◌, ◌≡◌}
 use Rattle.log_format.proofs.fields.parts_in.Given as goal
 
 abbrev pub invariant-loop : goal.invariant-loop

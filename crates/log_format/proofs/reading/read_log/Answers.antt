@@ -1,4 +1,7 @@
-use Rattle.log_format.proofs.Common.{Gives, List, StandsFor, held_in, subst, sym, ℕ}
+use Rattle.log_format.specs.Fault.{Gives}
+use Rattle.log_format.specs.File.{StandsFor}
+use Rattle.log_format.specs.Reading.{held_in}
+use Rattle.std.proofs.Common.{List, subst, sym, ℕ}
 use Rattle.std.specs.Prelude.{IfOk}
 use Rattle.log_format.proofs.reading.read_log.Goals as goal
 

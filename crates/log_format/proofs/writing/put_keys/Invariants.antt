@@ -1,4 +1,7 @@
-use Rattle.log_format.proofs.Common.{AllByRecursion, IsKey, block, counted, drop, flat_map, ◌++◌, ◌≡◌}
+use Rattle.log_format.specs.Change.{IsKey}
+use Rattle.log_format.specs.Log.{block, counted}
+use Rattle.std.proofs.Common.{drop, ◌++◌, ◌≡◌}
+use Rattle.std.specs.List.{AllByRecursion, flat_map}
 use Rattle.log_format.proofs.writing.put_keys.Given as goal
 
 abbrev pub invariant-loop-key : goal.invariant-loop-key

@@ -1,4 +1,7 @@
-use Rattle.log_format.proofs.Common.{AllByRecursion, IsNamed, counted, drop, flat_map, named, ◌++◌, ◌≡◌}
+use Rattle.log_format.specs.Change.{IsNamed}
+use Rattle.log_format.specs.Log.{counted, named}
+use Rattle.std.proofs.Common.{drop, ◌++◌, ◌≡◌}
+use Rattle.std.specs.List.{AllByRecursion, flat_map}
 use Rattle.log_format.proofs.writing.put_parts.Given as goal
 
 abbrev pub invariant-loop-part : goal.invariant-loop-part

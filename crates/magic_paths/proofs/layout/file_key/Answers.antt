@@ -1,4 +1,7 @@
-use Rattle.magic_paths.proofs.Common.{ap, below, below_elements, is_key_path, key_path_from, ◌∙◌}
+use Rattle.path_keys.proofs.Beneath.{below_elements, key_path_from}
+use Rattle.path_keys.specs.Paths.{below}
+use Rattle.s3_types.specs.Names.{is_key_path}
+use Rattle.std.proofs.Common.{ap, ◌∙◌}
 use Rattle.magic_paths.proofs.layout.file_key.Goals as goal
 
 pub new-requires-2 : goal.new-requires-2

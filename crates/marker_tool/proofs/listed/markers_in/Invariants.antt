@@ -1,4 +1,5 @@
-use Rattle.marker_tool.proofs.Common.{length, markers_in, ◌++◌, ◌≡◌}
+use Rattle.marker_tool.specs.Markers.{markers_in}
+use Rattle.std.proofs.Common.{length, ◌++◌, ◌≡◌}
 use Rattle.marker_tool.proofs.listed.markers_in.Given as goal
 
 abbrev pub invariant-loop-entry : goal.invariant-loop-entry

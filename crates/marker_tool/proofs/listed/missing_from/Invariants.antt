@@ -1,4 +1,5 @@
-use Rattle.marker_tool.proofs.Common.{length, missing_from, ◌++◌, ◌≡◌}
+use Rattle.marker_tool.specs.Markers.{missing_from}
+use Rattle.std.proofs.Common.{length, ◌++◌, ◌≡◌}
 use Rattle.marker_tool.proofs.listed.missing_from.Given as goal
 
 abbrev pub invariant-loop-entry : goal.invariant-loop-entry

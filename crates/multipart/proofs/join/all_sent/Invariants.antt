@@ -1,4 +1,6 @@
-use Rattle.multipart.proofs.Common.{drop, is_part_number, is_sent, list_all, ◌≡◌}
+use Rattle.s3_types.specs.Multipart.{is_part_number, is_sent}
+use Rattle.std.proofs.Common.{drop, ◌≡◌}
+use Rattle.std.specs.List.{list_all}
 use Rattle.multipart.proofs.join.all_sent.Given as goal
 
 abbrev pub invariant-loop-named : goal.invariant-loop-named

@@ -1,5 +1,6 @@
-use Rattle.multipart.proofs.Common.{rises, true, ◌≡◌}
 use Rattle.multipart.proofs.Numbered.{few}
+use Rattle.s3_types.specs.Multipart.{rises}
+use Rattle.std.proofs.Common.{true, ◌≡◌}
 use Rattle.multipart.proofs.join.check.Goals as goal
 
 pub returns-clause-few : goal.returns-clause-few

@@ -1,4 +1,6 @@
-use Rattle.multipart.proofs.Common.{bytes_of, drop, flat_map, ◌++◌, ◌≡◌}
+use Rattle.s3_types.specs.Multipart.{bytes_of}
+use Rattle.std.proofs.Common.{drop, ◌++◌, ◌≡◌}
+use Rattle.std.specs.List.{flat_map}
 use Rattle.multipart.proofs.join.copied_bytes.Given as goal
 
 abbrev pub invariant-loop-named : goal.invariant-loop-named

@@ -1,4 +1,5 @@
-use Rattle.multipart.proofs.Common.{drop, rises_from, ◌≡◌}
+use Rattle.s3_types.specs.Multipart.{rises_from}
+use Rattle.std.proofs.Common.{drop, ◌≡◌}
 use Rattle.multipart.proofs.join.rises_from.Given as goal
 
 abbrev pub invariant-loop-named : goal.invariant-loop-named

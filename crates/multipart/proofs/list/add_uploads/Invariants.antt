@@ -1,4 +1,6 @@
-use Rattle.multipart.proofs.Common.{AreOwn, Follows, below, keys_of, length, ◌++◌, ◌≡◌, ◌≤◌}
+use Rattle.multipart.specs.Listing.{AreOwn, Follows, below}
+use Rattle.std.proofs.Common.{length, ◌++◌, ◌≡◌, ◌≤◌}
+use Rattle.std.specs.Map.{keys_of}
 use Rattle.multipart.proofs.list.add_uploads.Given as goal
 
 abbrev pub invariant-loop-place : goal.invariant-loop-place

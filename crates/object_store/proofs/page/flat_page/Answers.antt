@@ -1,20 +1,30 @@
-use Rattle.object_store.proofs.Common.{AreOwn, Follows, Held, List, PageEntry, [], ap, append_assoc, begins, below, cond, false, filter, map, rules, single, subst, sym, true, ℕ, ◌++◌, ◌∙◌, ◌∷◌, ◌≡◌}
-use Rattle.object_store.proofs.Flat.{none_left, taken, no_more, follows_rest}
+use Rattle.object_store.proofs.Flat.{follows_rest, no_more, none_left, taken}
+use Rattle.object_store.specs.Flat.{Follows, below, single}
+use Rattle.object_store.specs.Held.{AreOwn}
+use Rattle.object_store.specs.declared.objects.Held.{Held}
+use Rattle.s3_types.specs.Pages.{begins}
+use Rattle.s3_types.specs.declared.reply.PageEntry.{PageEntry}
+use Rattle.std.proofs.Common.{List, ap, append_assoc, cond, false, map, rules, subst, sym, true, ℕ, [], ◌++◌, ◌∙◌, ◌∷◌, ◌≡◌}
+use Rattle.std.specs.List.{filter}
 use Rattle.object_store.proofs.page.flat_page.Goals as goal
 
 pub returns-then-not-starts_with-clause-entries : goal.returns-then-not-starts_with-clause-entries
 returns-then-not-starts_with-clause-entries c =
     let n : begins c.args.prefix.now c.in-Some.text.now ≡ false = cc in
-    let none = none_left c.args.prefix.now c.loop-text.rest c.next.new.self (c.in-Some.text.now, c.in-Some.held.now) c.in-Some.ensures.steps c.loop-text.invariant.follows n in
+    let none = none_left c.args.prefix.now c.loop-text.rest c.next.new.self (c.in-Some.text.now, c.in-Some.held.now) c.in-Some.ensures.steps
+    c.loop-text.invariant.follows n in
     c.page_of.ensures.entries
-    ∙ taken c.args.limit c.loop-text.entries.items _ (below c.args.prefix.now c.args.rest) c.loop-text.invariant.told none c.loop-text.invariant.fits
+    ∙ taken c.args.limit c.loop-text.entries.items _ (below c.args.prefix.now c.args.rest) c.loop-text.invariant.told none
+    c.loop-text.invariant.fits
 
 pub returns-then-not-starts_with-clause-more : goal.returns-then-not-starts_with-clause-more
 returns-then-not-starts_with-clause-more c =
     let n : begins c.args.prefix.now c.in-Some.text.now ≡ false = cc in
-    let none = none_left c.args.prefix.now c.loop-text.rest c.next.new.self (c.in-Some.text.now, c.in-Some.held.now) c.in-Some.ensures.steps c.loop-text.invariant.follows n in
+    let none = none_left c.args.prefix.now c.loop-text.rest c.next.new.self (c.in-Some.text.now, c.in-Some.held.now) c.in-Some.ensures.steps
+    c.loop-text.invariant.follows n in
     c.page_of.ensures.more
-    ∙ no_more c.args.limit c.loop-text.entries.items _ (below c.args.prefix.now c.args.rest) c.loop-text.invariant.told none c.loop-text.invariant.fits
+    ∙ no_more c.args.limit c.loop-text.entries.items _ (below c.args.prefix.now c.args.rest) c.loop-text.invariant.told none
+    c.loop-text.invariant.fits
 
 pub loop-text-preserved : goal.loop-text-preserved
 loop-text-preserved c =

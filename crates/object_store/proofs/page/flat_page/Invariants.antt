@@ -1,4 +1,6 @@
-use Rattle.object_store.proofs.Common.{AreOwn, Follows, below, length, ◌++◌, ◌≡◌, ◌≤◌}
+use Rattle.object_store.specs.Flat.{Follows, below}
+use Rattle.object_store.specs.Held.{AreOwn}
+use Rattle.std.proofs.Common.{length, ◌++◌, ◌≡◌, ◌≤◌}
 use Rattle.object_store.proofs.page.flat_page.Given as goal
 
 -- the entries so far and those that are left are all

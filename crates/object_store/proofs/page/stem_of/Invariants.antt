@@ -1,5 +1,6 @@
-use Rattle.object_store.proofs.Common.{stem, ◌≡◌}
 use Rattle.object_store.proofs.Scan.{from}
+use Rattle.s3_types.specs.Pages.{stem}
+use Rattle.std.proofs.Common.{◌≡◌}
 use Rattle.object_store.proofs.page.stem_of.Given as goal
 
 -- the stem is the one found from here on

@@ -1,4 +1,6 @@
-use Rattle.path_keys.proofs.Common.{first_fault, length, parts_of, ◌≡◌}
+use Rattle.basics.specs.Parts.{parts_of}
+use Rattle.path_keys.specs.Paths.{first_fault}
+use Rattle.std.proofs.Common.{length, ◌≡◌}
 use Rattle.path_keys.proofs.elements.first_fault.Given as goal
 
 abbrev pub invariant-loop-fault : goal.invariant-loop-fault

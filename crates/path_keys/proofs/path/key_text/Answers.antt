@@ -1,5 +1,7 @@
-use Rattle.path_keys.proofs.Common.{None, Ok, ap, arith, first_fault, is_key, parts_of, sym, ◌∙◌, ◌≡◌}
-use Rattle.path_keys.proofs.Faults.{text_too_long, text_fits, key_is}
+use Rattle.basics.specs.Parts.{parts_of}
+use Rattle.path_keys.proofs.Faults.{key_is, text_fits, text_too_long}
+use Rattle.path_keys.specs.Paths.{first_fault, is_key}
+use Rattle.std.proofs.Common.{None, Ok, ap, arith, sym, ◌∙◌, ◌≡◌}
 use Rattle.path_keys.proofs.path.key_text.Goals as goal
 
 pub returns-then-key-gt1023-clause-read : goal.returns-then-key-gt1023-clause-read

@@ -1,5 +1,7 @@
-use Rattle.path_keys.proofs.Common.{None, ap, arith, below, first_fault, is_key, length, parts_of, ◌∙◌, ◌≡◌, ◌≤◌}
+use Rattle.basics.specs.Parts.{parts_of}
 use Rattle.path_keys.proofs.Beneath.{key_below}
+use Rattle.path_keys.specs.Paths.{below, first_fault, is_key}
+use Rattle.std.proofs.Common.{None, ap, arith, length, ◌∙◌, ◌≡◌, ◌≤◌}
 use Rattle.path_keys.proofs.relatives.joined_key.Goals as goal
 
 pub returns-clause-key : goal.returns-clause-key

@@ -1,4 +1,8 @@
-use Rattle.path_keys.proofs.Common.{None, Some, [], ap, arith, one_part, others_from_bytes, part_from, parts_of, split_parts, ◌∙◌}
+use Rattle.basics.proofs.Pieces.{one_part, others_from_bytes}
+use Rattle.basics.proofs.Split.{part_from}
+use Rattle.basics.specs.Parts.{parts_of}
+use Rattle.std.proofs.Common.{None, Some, ap, arith, [], ◌∙◌}
+use Rattle.std.proofs.lemmas.Str.Pattern.{split_parts}
 use Rattle.path_keys.proofs.split.first_element.Goals as goal
 
 pub returns-in-Some-clause-parts : goal.returns-in-Some-clause-parts
@@ -7,7 +11,8 @@ returns-in-Some-clause-parts c =
     ap (parts_of 47) round.0 ∙ part_from 47 [] c.in-Some.front.now c.in-Some.behind.now (others_from_bytes 47 c.in-Some.front.now round.1)
 
 pub returns-in-Some-clause-whole : goal.returns-in-Some-clause-whole
-returns-in-Some-clause-whole c = (split_parts 47 c.args.text.now (Some (c.in-Some.front, c.in-Some.behind)) c.in-Some.ensures.cases (omega arith)).0
+returns-in-Some-clause-whole c = (split_parts 47 c.args.text.now (Some (c.in-Some.front, c.in-Some.behind)) c.in-Some.ensures.cases
+    (omega arith)).0
 
 pub returns-in-None-clause-parts : goal.returns-in-None-clause-parts
 returns-in-None-clause-parts c =

@@ -1,5 +1,6 @@
-use Rattle.path_keys.proofs.Common.{None, arith, strip_suffix_char}
 use Rattle.path_keys.proofs.Ends.{no_end}
+use Rattle.std.proofs.Common.{None, arith}
+use Rattle.std.proofs.lemmas.Str.Pattern.{strip_suffix_char}
 use Rattle.path_keys.proofs.split.trimmed.Goals as goal
 
 pub returns-in-None : goal.returns-in-None

@@ -1,4 +1,6 @@
-use Rattle.pending_json.proofs.Common.{is_plain_tag, length, list_all, true, ◌≡◌}
+use Rattle.s3_types.specs.Tags.{is_plain_tag}
+use Rattle.std.proofs.Common.{length, true, ◌≡◌}
+use Rattle.std.specs.List.{list_all}
 use Rattle.pending_json.proofs.quick.plain_tags.Given as goal
 
 abbrev pub invariant-loop-item : goal.invariant-loop-item

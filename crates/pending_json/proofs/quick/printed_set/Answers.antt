@@ -1,6 +1,7 @@
-use Rattle.pending_json.proofs.Common.{List, Ok, set_of, subst, sym, ℕ, ◌≡◌}
 use Rattle.pending_json.proofs.RoundTrip.{set_text}
 use Rattle.pending_json.proofs.Sent.{set_written}
+use Rattle.pending_json.specs.Reading.{set_of}
+use Rattle.std.proofs.Common.{List, Ok, subst, sym, ℕ, ◌≡◌}
 use Rattle.pending_json.proofs.quick.printed_set.Goals as goal
 
 pub returns-then-prints : goal.returns-then-prints

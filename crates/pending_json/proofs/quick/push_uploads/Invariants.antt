@@ -1,4 +1,6 @@
-use Rattle.pending_json.proofs.Common.{AllByRecursion, IsPending, length}
+use Rattle.pending_json.specs.Records.{IsPending}
+use Rattle.std.proofs.Common.{length}
+use Rattle.std.specs.List.{AllByRecursion}
 use Rattle.pending_json.proofs.quick.push_uploads.Given as goal
 
 abbrev pub invariant-loop-alloc : goal.invariant-loop-alloc

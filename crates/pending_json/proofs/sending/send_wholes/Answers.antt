@@ -1,5 +1,5 @@
-use Rattle.basics.proofs.Common.{on_ok_weaker}
 use Rattle.pending_json.proofs.Sent.{wholes_sent}
+use Rattle.std.proofs.lemmas.Result.{on_ok_weaker}
 use Rattle.pending_json.proofs.sending.send_wholes.Goals as goal
 
 pub returns : goal.returns

@@ -1,4 +1,7 @@
-use Rattle.pending_json.proofs.Common.{drop, items_view, pendings_in, with_front, ◌≡◌}
+use Rattle.basics.proofs.Reading.{with_front}
+use Rattle.pending_json.specs.Reading.{pendings_in}
+use Rattle.serde_json.specs.View.{items_view}
+use Rattle.std.proofs.Common.{drop, ◌≡◌}
 use Rattle.pending_json.proofs.set_reading.pendings_in.Given as goal
 
 abbrev pub invariant-loop-value : goal.invariant-loop-value

@@ -1,4 +1,5 @@
-use Rattle.pending_json.proofs.Common.{drop, sum, ◌==◌, ◌≡◌}
+use Rattle.std.proofs.Common.{drop, ◌==◌, ◌≡◌}
+use Rattle.std.specs.List.{sum}
 use Rattle.pending_json.proofs.sizes.fit.Given as goal
 
 abbrev pub invariant-loop-size : goal.invariant-loop-size

@@ -1,5 +1,7 @@
-use Rattle.s3_types.proofs.Common.{ap, false≢true, is_ok, sym, ◌∙◌}
 use Rattle.s3_types.proofs.Digits.{digits_read}
+use Rattle.std.proofs.Common.{ap, sym, ◌∙◌}
+use Rattle.std.proofs.lemmas.Bool.{false≢true}
+use Rattle.std.specs.Prelude.{is_ok}
 use Rattle.s3_types.proofs.digests.digest_in.Goals as goal
 
 pub unreachable-requires : goal.unreachable-requires

@@ -1,5 +1,7 @@
-use Rattle.s3_types.proofs.Common.{List, is_hex, list_all, subst, sym, true, ℕ, ◌≡◌}
 use Rattle.s3_types.proofs.Digits.{encoded_hex}
+use Rattle.s3_types.specs.Tags.{is_hex}
+use Rattle.std.proofs.Common.{List, subst, sym, true, ℕ, ◌≡◌}
+use Rattle.std.specs.List.{list_all}
 use Rattle.s3_types.proofs.digests.digits_of.Goals as goal
 
 pub returns-clause-hex : goal.returns-clause-hex

@@ -1,4 +1,7 @@
-use Rattle.s3_types.proofs.Common.{Holds, digest_of, flat_map, take}
+use Rattle.md5.specs.Md5.{Holds}
+use Rattle.s3_types.specs.Tags.{digest_of}
+use Rattle.std.proofs.Common.{take}
+use Rattle.std.specs.List.{flat_map}
 use Rattle.s3_types.proofs.digests.joined_tag.Given as goal
 
 -- the hasher holds the digests so far

@@ -1,4 +1,5 @@
-use Rattle.s3_types.proofs.Common.{drop, named_from, ◌++◌, ◌+◌, ◌≡◌}
+use Rattle.s3_types.specs.Blocks.{named_from}
+use Rattle.std.proofs.Common.{drop, ◌++◌, ◌+◌, ◌≡◌}
 use Rattle.s3_types.proofs.lists.named_parts.Given as goal
 
 abbrev pub invariant-loop-tag : goal.invariant-loop-tag

@@ -1,4 +1,5 @@
-use Rattle.s3_types.proofs.Common.{are_elements, length, ◌≡◌}
+use Rattle.s3_types.specs.Names.{are_elements}
+use Rattle.std.proofs.Common.{length, ◌≡◌}
 use Rattle.s3_types.proofs.names.are_elements.Given as goal
 
 abbrev pub invariant-loop-more : goal.invariant-loop-more

@@ -1,5 +1,6 @@
-use Rattle.s3_types.proofs.Common.{is_utf8-from_IsUtf8, sym}
 use Rattle.s3_types.proofs.Utf8.{not_utf8}
+use Rattle.std.proofs.Common.{sym}
+use Rattle.std.proofs.lemmas.Str.{is_utf8-from_IsUtf8}
 use Rattle.s3_types.proofs.names.as_utf8.Goals as goal
 
 pub returns-in-Ok-clause-found : goal.returns-in-Ok-clause-found

@@ -1,5 +1,6 @@
-use Rattle.s3_types.proofs.Common.{is_bucket, sym, true, ◌∙◌, ◌≡◌}
 use Rattle.s3_types.proofs.Utf8.{bucket_utf8}
+use Rattle.s3_types.specs.Names.{is_bucket}
+use Rattle.std.proofs.Common.{sym, true, ◌∙◌, ◌≡◌}
 use Rattle.s3_types.proofs.names.bucket_text.Goals as goal
 
 pub returns-clause-found : goal.returns-clause-found

@@ -1,4 +1,6 @@
-use Rattle.s3a_shell.proofs.Common.{drop, entry_line, flat_map, string_bytes, ◌++◌, ◌≡◌}
+use Rattle.s3a_shell.specs.Texts.{entry_line}
+use Rattle.std.proofs.Common.{drop, string_bytes, ◌++◌, ◌≡◌}
+use Rattle.std.specs.List.{flat_map}
 use Rattle.s3a_shell.proofs.paths.entry_lines.Given as goal
 
 abbrev pub invariant-loop-entry : goal.invariant-loop-entry

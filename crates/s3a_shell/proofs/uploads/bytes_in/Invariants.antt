@@ -1,4 +1,5 @@
-use Rattle.s3a_shell.proofs.Common.{bytes_in, drop, ◌*◌, ◌+◌, ◌^◌, ◌≡◌, ◌≤◌}
+use Rattle.s3a_shell.specs.Uploading.{bytes_in}
+use Rattle.std.proofs.Common.{drop, ◌*◌, ◌+◌, ◌^◌, ◌≡◌, ◌≤◌}
 use Rattle.s3a_shell.proofs.uploads.bytes_in.Given as goal
 
 abbrev pub invariant-loop-part : goal.invariant-loop-part

@@ -1,5 +1,7 @@
-use Rattle.s3a_top.proofs.Common.{Command, Option, false, may_read, subst, sym, ◌∙◌, ◌≡◌}
 use Rattle.s3a_top.proofs.Naming.{named_said, named_trace}
+use Rattle.s3a_top.specs.Commands.{may_read}
+use Rattle.s3a_words.specs.declared.command.Command.{Command}
+use Rattle.std.proofs.Common.{Option, false, subst, sym, ◌∙◌, ◌≡◌}
 use Rattle.s3a_top.proofs.top.worked.Goals as goal
 
 pub returns-then-asks_trace-clause-unread : goal.returns-then-asks_trace-clause-unread

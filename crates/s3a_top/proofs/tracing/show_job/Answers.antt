@@ -1,6 +1,8 @@
-use Rattle.s3a_top.proofs.Common.{IsFinal, One, subst, sym}
-use Rattle.s3a_top.specs.Tracings.{told_alone}
+use Rattle.durable_job.specs.declared.jobs.Jobs.TheVariants.{One}
 use Rattle.s3a_top.proofs.Verdicts.{jobs_final}
+use Rattle.s3a_top.specs.Plays.{IsFinal}
+use Rattle.s3a_top.specs.Tracings.{told_alone}
+use Rattle.std.proofs.Common.{subst, sym}
 use Rattle.s3a_top.proofs.tracing.show_job.Goals as goal
 
 pub shown_run-requires : goal.shown_run-requires

@@ -1,8 +1,9 @@
-use Rattle.s3a_top.proofs.Common.{Content, subst, sym, ◌^◌, ◌≤◌}
 use Rattle.durable_store.specs.Doing.{work_in}
 use Rattle.s3_types.specs.Moment.{IsHonest}
+use Rattle.s3_types.specs.Store.{Content}
 use Rattle.s3a_top.proofs.Showing.{answer_shown, few_in, sends_honest}
 use Rattle.s3a_top.specs.Traces.{shown_sends}
+use Rattle.std.proofs.Common.{subst, sym, ◌^◌, ◌≤◌}
 use Rattle.s3a_top.proofs.tracing.show_store.Goals as goal
 
 pub shown_work-requires-clause-next : goal.shown_work-requires-clause-next

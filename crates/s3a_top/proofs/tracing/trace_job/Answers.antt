@@ -1,11 +1,13 @@
-use Rattle.s3a_top.proofs.Common.{AreJobsOf, Jobs, None, Opens, refl, subst}
-use Rattle.s3a_top.specs.declared.stop.Stop.TheVariants.{Image, NoMemory}
+use Rattle.durable_job.specs.declared.jobs.Jobs.{Jobs}
 use Rattle.s3a_top.proofs.Beginning.{image_begins}
 use Rattle.s3a_top.proofs.Crashing.{opens_so}
+use Rattle.s3a_top.proofs.Halting.{faulty_of, held_sound, sound_of}
 use Rattle.s3a_top.proofs.Showing.{not_two}
 use Rattle.s3a_top.proofs.Telling.{counted_done, counted_none, counted_read, jobs_taken, played_counts, read_cause, verdict_worked}
 use Rattle.s3a_top.proofs.Telling.{wanting_cause}
-use Rattle.s3a_top.proofs.Halting.{faulty_of, held_sound, sound_of}
+use Rattle.s3a_top.specs.Openings.{AreJobsOf, Opens}
+use Rattle.s3a_top.specs.declared.stop.Stop.TheVariants.{Image, NoMemory}
+use Rattle.std.proofs.Common.{None, refl, subst}
 use Rattle.s3a_top.proofs.tracing.trace_job.Goals as goal
 
 pub opened-requires-clause-some : goal.opened-requires-clause-some

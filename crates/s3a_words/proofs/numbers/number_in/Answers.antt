@@ -1,10 +1,13 @@
-use Rattle.s3a_words.proofs.Common.{ap, arith, decimal, parse-decimal, rules, string_bytes, sym, ◌∙◌, ◌≡◌}
-use Rattle.s3a_words.proofs.Decimals.{none_written, decimal_written, writes_decimals}
+use Rattle.s3a_words.proofs.Decimals.{decimal_written, none_written, writes_decimals}
+use Rattle.std.proofs.Common.{ap, arith, rules, string_bytes, sym, ◌∙◌, ◌≡◌}
+use Rattle.std.proofs.lemmas.Fmt.{parse-decimal}
+use Rattle.std.specs.Fmt.{decimal}
 use Rattle.s3a_words.proofs.numbers.number_in.Goals as goal
 
 pub returns-in_default-clause-exact : goal.returns-in_default-clause-exact
 returns-in_default-clause-exact c =
-    sym (none_written c.args.word.now (λ n small e. c.in_default.not-Ok n (parse-decimal 64 n c.args.word.now c.parse.result (omega arith) (omega arith) (sym e) c.parse.ensures.value.0)))
+    sym (none_written c.args.word.now (λ n small e. c.in_default.not-Ok n (parse-decimal 64 n c.args.word.now c.parse.result (omega arith)
+    (omega arith) (sym e) c.parse.ensures.value.0)))
 
 pub returns-then-ne-clause-exact : goal.returns-then-ne-clause-exact
 returns-then-ne-clause-exact c =

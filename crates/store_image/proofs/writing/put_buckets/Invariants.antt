@@ -1,4 +1,7 @@
-use Rattle.store_image.proofs.Common.{bucket, counted, flat_map, w64, ◌++◌, ◌≡◌}
+use Rattle.std.proofs.Common.{◌++◌, ◌≡◌}
+use Rattle.std.specs.Int.{w64}
+use Rattle.std.specs.List.{flat_map}
+use Rattle.store_image.specs.Image.{bucket, counted}
 use Rattle.store_image.proofs.writing.put_buckets.Given as goal
 
 abbrev pub invariant-loop-held : goal.invariant-loop-held

@@ -1,4 +1,8 @@
-use Rattle.store_image.proofs.Common.{AllByRecursion, counted, flat_map, is_part_number, part, true, w16, ◌++◌, ◌≡◌}
+use Rattle.s3_types.specs.Multipart.{is_part_number}
+use Rattle.std.proofs.Common.{true, ◌++◌, ◌≡◌}
+use Rattle.std.specs.Int.{w16}
+use Rattle.std.specs.List.{AllByRecursion, flat_map}
+use Rattle.store_image.specs.Image.{counted, part}
 use Rattle.store_image.proofs.writing.put_parts.Given as goal
 
 abbrev pub invariant-loop-number : goal.invariant-loop-number

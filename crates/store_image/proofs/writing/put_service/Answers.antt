@@ -1,6 +1,6 @@
 use Rattle.std.proofs.Common.{List, ap, append_assoc, ℕ, ◌++◌, ◌∙◌, ◌≡◌}
 use Rattle.std.proofs.lemmas.Result.{on_ok_weaker}
-use Rattle.s3_types.specs.Prelude.{to_be_bytes, w64}
+use Rattle.std.specs.Int.{to_be_bytes, w64}
 use Rattle.store_image.specs.Image.{magic}
 use Rattle.store_image.proofs.writing.put_service.Goals as goal
 

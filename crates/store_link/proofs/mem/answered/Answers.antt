@@ -1,7 +1,8 @@
-use Rattle.std.proofs.Common.{◌≡◌, ◌≤◌, ◌+◌, Result, Ok, Err, subst, sym}
-use Rattle.std.specs.Prelude.{OnOk}
-use Rattle.s3_types.specs.Prelude.{Content, apply_store}
+use Rattle.s3_types.specs.Answer.{apply_store}
+use Rattle.s3_types.specs.Store.{Content}
 use Rattle.s3_types.specs.declared.request.Request.{Request}
+use Rattle.std.proofs.Common.{Err, Ok, Result, subst, sym, ◌+◌, ◌≡◌, ◌≤◌}
+use Rattle.std.specs.Prelude.{OnOk}
 use Rattle.store_link.proofs.Ids.{next_store}
 use Rattle.store_link.proofs.mem.answered.Goals as goal
 
@@ -11,4 +12,5 @@ one_more (Err e) c d r h = tt
 
 pub returns-else-is_cluster-clause-next : goal.returns-else-is_cluster-clause-next
 returns-else-is_cluster-clause-next c =
-    one_more c.apply-else-is_cluster.result c.args.service.now c.apply-else-is_cluster.new.self c.args.request.now c.apply-else-is_cluster.ensures.ok
+    one_more c.apply-else-is_cluster.result c.args.service.now c.apply-else-is_cluster.new.self c.args.request.now
+    c.apply-else-is_cluster.ensures.ok

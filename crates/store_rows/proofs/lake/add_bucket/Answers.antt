@@ -1,9 +1,13 @@
+use Rattle.basics.specs.Order.{text_cmp}
+use Rattle.s3_types.specs.Store.{Content, Uploads}
 use Rattle.std.proofs.Common.{ap, ◌∙◌}
-use Rattle.s3_types.specs.Prelude.{Content, Uploads, get, get-empty, nat_cmp, text_cmp}
+use Rattle.std.specs.FinMap.{get, get-empty}
+use Rattle.std.specs.Ordering.{nat_cmp}
 use Rattle.store_rows.proofs.lake.add_bucket.Goals as goal
 
 pub add_bucket-requires-clause-absent : goal.add_bucket-requires-clause-absent
-add_bucket-requires-clause-absent c = ap (λ (s : Content). get s.buckets c.in_ok-name.name) c.requires ∙ get-empty text_cmp c.in_ok-name.name
+add_bucket-requires-clause-absent c = ap (λ (s : Content). get s.buckets c.in_ok-name.name) c.requires ∙ get-empty text_cmp
+    c.in_ok-name.name
 
 pub add_bucket-requires-clause-below : goal.add_bucket-requires-clause-below
 add_bucket-requires-clause-below c i h = ap (λ (m : Uploads). get m i) c.new-2.ensures ∙ get-empty nat_cmp i

@@ -1,6 +1,6 @@
-use Rattle.std.proofs.Common.{◌≡◌, Bool, false}
-use Rattle.fs_ops.specs.Prelude.{Scene}
 use Rattle.block_stream.specs.Holds.{IsReady}
+use Rattle.s3_types.specs.Store.{Scene}
+use Rattle.std.proofs.Common.{Bool, false, ◌≡◌}
 use Rattle.store_rows.proofs.streams.fill.Given as goal
 
 abbrev pub invariant-loop-piece : goal.invariant-loop-piece

@@ -1,9 +1,12 @@
-use Rattle.task_magic.proofs.Common.{AreReady, ok_as, subst}
-use Rattle.task_magic.proofs.Committed.{asks_record, asks_set, no_place, all_taken}
+use Rattle.std.proofs.Common.{subst}
+use Rattle.task_magic.proofs.Committed.{all_taken, asks_record, asks_set, no_place}
+use Rattle.task_requests.proofs.Steps.{ok_as}
+use Rattle.task_requests.specs.Publishing.{AreReady}
 use Rattle.task_magic.proofs.committing.record_or_set.Goals as goal
 
 pub returns-in-Some : goal.returns-in-Some
-returns-in-Some c = ok_as c.read_request.result _ _ c.read_request.ensures (asks_record c.args.plan.now c.args.places.now c.args.records.now c.args.at c.in-Some.key.now c.requires.records c.in-Some.ensures)
+returns-in-Some c = ok_as c.read_request.result _ _ c.read_request.ensures (asks_record c.args.plan.now c.args.places.now c.args.records.now
+    c.args.at c.in-Some.key.now c.requires.records c.in-Some.ensures)
 
 pub publish_request-requires-clause-ready : goal.publish_request-requires-clause-ready
 publish_request-requires-clause-ready c =

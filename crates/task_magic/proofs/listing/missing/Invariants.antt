@@ -1,4 +1,5 @@
-use Rattle.task_magic.proofs.Common.{drop, least_unseen, length, map, record_of, ◌≡◌, ◌≤◌}
+use Rattle.std.proofs.Common.{drop, length, map, ◌≡◌, ◌≤◌}
+use Rattle.task_magic.specs.Committing.{least_unseen, record_of}
 use Rattle.task_magic.proofs.listing.missing.Given as goal
 
 abbrev pub invariant-loop-left : goal.invariant-loop-left

@@ -1,4 +1,5 @@
-use Rattle.task_magic.proofs.Common.{Task, ap, arith, length}
+use Rattle.job_model.specs.Jobs.{Task}
+use Rattle.std.proofs.Common.{ap, arith, length}
 use Rattle.task_magic.proofs.stepping.next_place.Goals as goal
 
 pub overflow_add-result : goal.overflow_add-result

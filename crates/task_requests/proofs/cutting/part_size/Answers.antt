@@ -1,5 +1,6 @@
-use Rattle.task_requests.proofs.Common.{arith, common_steps}
 use Rattle.s3_types.specs.Blocks.{block_of}
+use Rattle.std.proofs.Common.{arith}
+use Rattle.std.proofs.lemmas.Grind.{common_steps}
 use Rattle.task_requests.proofs.cutting.part_size.Goals as goal
 
 pub returns : goal.returns

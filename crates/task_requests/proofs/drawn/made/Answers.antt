@@ -1,5 +1,6 @@
+use Rattle.std.proofs.Common.{ap, reverse, sym, ◌∙◌}
+use Rattle.std.proofs.lemmas.List.{reverse-reverse}
 use Rattle.task_requests.proofs.InOrder.{made_reverse}
-use Rattle.task_requests.proofs.Common.{ap, reverse, reverse-reverse, sym, ◌∙◌}
 use Rattle.task_requests.proofs.drawn.made.Goals as goal
 
 pub returns : goal.returns

@@ -1,4 +1,7 @@
-use Rattle.task_requests.proofs.Common.{IsLastAt, List, get, take, text_eq, ℕ}
+use Rattle.basics.specs.Order.{text_eq}
+use Rattle.indexmap.specs.IndexMap.{get}
+use Rattle.std.proofs.Common.{List, take, ℕ}
+use Rattle.task_requests.specs.Publishing.{IsLastAt}
 use Rattle.task_requests.proofs.publishing.last_places.Given as goal
 
 abbrev pub invariant-loop-place : goal.invariant-loop-place

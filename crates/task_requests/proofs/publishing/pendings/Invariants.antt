@@ -1,4 +1,5 @@
-use Rattle.task_requests.proofs.Common.{picked, records_of, take, ◌≡◌}
+use Rattle.std.proofs.Common.{take, ◌≡◌}
+use Rattle.task_requests.specs.Publishing.{picked, records_of}
 use Rattle.task_requests.proofs.publishing.pendings.Given as goal
 
 abbrev pub invariant-loop-place : goal.invariant-loop-place

@@ -4,7 +4,8 @@ use Rattle.task_requests.proofs.Steps.{goes_on, goes_by}
 use Rattle.task_requests.proofs.requests.behind.Goals as goal
 
 pub part_length-part-requires : goal.part_length-part-requires
-part_length-part-requires c = start_fits c.args.plan.now c.args.bytes.now c.args.sent _ c.requires.task c.requires.short c.requires.within c.size_of-size.ensures
+part_length-part-requires c = start_fits c.args.plan.now c.args.bytes.now c.args.sent _ c.requires.task c.requires.short c.requires.within
+    c.size_of-size.ensures
 
 pub overflow_add-sent : goal.overflow_add-sent
 overflow_add-sent c = omega (arith, number_fits c.args.plan.now c.args.bytes.now c.args.sent c.requires.within)

@@ -1,8 +1,14 @@
-use Rattle.task_requests.proofs.Common.{File, Known, List, Task, UploadPart, ap, part_behind, size_of, some_parts, with_drawn, ℕ, ◌∙◌}
+use Rattle.job_model.specs.Files.{File}
+use Rattle.job_model.specs.Jobs.{Task}
+use Rattle.job_model.specs.Known.{Known}
 use Rattle.job_model.specs.contracts.plan.TaskPlan.{the_view}
-use Rattle.task_requests.proofs.Steps.{known_of, begun_asked, begun_drawn}
+use Rattle.s3_types.proofs.Blocks.{some_parts}
+use Rattle.s3_types.specs.declared.request.Request.TheVariants.{UploadPart}
+use Rattle.std.proofs.Common.{List, ap, ℕ, ◌∙◌}
+use Rattle.task_requests.proofs.Steps.{begun_asked, begun_drawn, known_of}
+use Rattle.task_requests.proofs.uploads.begin_upload.Goals.{in-Err, in-Ok-draw}
+use Rattle.task_requests.specs.Writing.{part_behind, size_of, with_drawn}
 use Rattle.task_requests.proofs.uploads.begin_upload.Goals as goal
-use Rattle.task_requests.proofs.uploads.begin_upload.Goals.{in-Ok-draw, in-Err}
 
 pub ask_part-requires-clause-within : goal.ask_part-requires-clause-within
 ask_part-requires-clause-within c = some_parts (size_of c.args.plan.now c.in-Some.bytes.now) c.in-Some.bytes.now
@@ -23,7 +29,8 @@ returns-clause-drawn c =
     let f : File = (c.in-Some.path.now, c.in-Some.bytes.now) in
     elim c.match-draw.branch [
       | in-Ok-draw w ↦ rw w.result-is (begun_drawn t _ c.args.place f c.in_ok-key.key c.args.upload c.in-Some.ensures.file
-          (known_of (the_view c.plan.inside) t (λ (k : Known). with_drawn k c.in_ok-key.key c.args.upload) c.draw.new.self c.plan.view_is w.in-Ok-draw.ensures.ok)
+          (known_of (the_view c.plan.inside) t (λ (k : Known). with_drawn k c.in_ok-key.key c.args.upload) c.draw.new.self c.plan.view_is
+          w.in-Ok-draw.ensures.ok)
           c.in_ok-key.ensures)
       | in-Err w ↦ rw w.result-is tt
     ]

@@ -1,4 +1,6 @@
-use Rattle.task_staging.proofs.Common.{Job, ap, checks_partitions, ◌∙◌}
+use Rattle.job_model.specs.Jobs.{Job}
+use Rattle.job_protocol.specs.Conflicts.{checks_partitions}
+use Rattle.std.proofs.Common.{ap, ◌∙◌}
 use Rattle.task_staging.proofs.opening.is_checked.Goals as goal
 
 pub returns : goal.returns

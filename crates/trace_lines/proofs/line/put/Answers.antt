@@ -1,8 +1,8 @@
-use Rattle.std.proofs.Common.{ap, arith, sym, ◌∙◌}
-use Rattle.basics.proofs.Common.{on_ok_weaker}
 use Rattle.serde_json.specs.Data.{put}
+use Rattle.std.proofs.Common.{ap, arith, sym, ◌∙◌}
+use Rattle.std.proofs.lemmas.Result.{on_ok_weaker}
+use Rattle.trace_lines.proofs.Places.{put_before, put_behind, put_last, put_over}
 use Rattle.trace_lines.specs.Members.{data_of, listed}
-use Rattle.trace_lines.proofs.Places.{put_before, put_over, put_behind, put_last}
 use Rattle.trace_lines.proofs.line.put.Goals as goal
 
 pub returns-in-Less-clause-ok : goal.returns-in-Less-clause-ok

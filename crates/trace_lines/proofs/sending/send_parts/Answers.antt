@@ -1,8 +1,8 @@
-use Rattle.std.proofs.Common.{refl, rules}
-use Rattle.basics.proofs.Common.{on_ok_weaker}
 use Rattle.serde.proofs.Events.{WritesEach-more, WritesSeq-ends}
-use Rattle.trace_lines.specs.Requests.{part_object}
+use Rattle.std.proofs.Common.{refl, rules}
+use Rattle.std.proofs.lemmas.Result.{on_ok_weaker}
 use Rattle.trace_lines.proofs.Sent.{Sends, seq_sent}
+use Rattle.trace_lines.specs.Requests.{part_object}
 use Rattle.trace_lines.proofs.sending.send_parts.Goals as goal
 
 pub loop-part-preserved : goal.loop-part-preserved

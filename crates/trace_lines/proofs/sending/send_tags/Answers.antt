@@ -1,7 +1,7 @@
-use Rattle.std.proofs.Common.{refl, rules}
-use Rattle.basics.proofs.Common.{on_ok_weaker}
 use Rattle.serde.proofs.Events.{WritesEach-more, WritesSeq-ends}
-use Rattle.trace_lines.proofs.Sent.{Sends, tags_sent, tag_data}
+use Rattle.std.proofs.Common.{refl, rules}
+use Rattle.std.proofs.lemmas.Result.{on_ok_weaker}
+use Rattle.trace_lines.proofs.Sent.{Sends, tag_data, tags_sent}
 use Rattle.trace_lines.proofs.sending.send_tags.Goals as goal
 
 pub loop-tag-preserved : goal.loop-tag-preserved

@@ -1,7 +1,7 @@
-use Rattle.std.proofs.Common.{refl, rules, ◌∙◌}
-use Rattle.basics.proofs.Common.{on_ok_weaker}
 use Rattle.serde.proofs.Events.{WritesEach-more, WritesSeq-ends}
 use Rattle.serde_json.specs.Data.{string}
+use Rattle.std.proofs.Common.{refl, rules, ◌∙◌}
+use Rattle.std.proofs.lemmas.Result.{on_ok_weaker}
 use Rattle.trace_lines.proofs.Sent.{Sends, said_is, seq_sent}
 use Rattle.trace_lines.proofs.sending.send_texts.Goals as goal
 

@@ -1,9 +1,9 @@
-use Rattle.std.proofs.Common.{ℕ, ap, string_bytes, ◌++◌, ◌∙◌}
-use Rattle.std.specs.List.{flat_map}
-use Rattle.basics.proofs.Common.{on_ok_weaker}
 use Rattle.job_model.specs.JobScript.{Script}
-use Rattle.trace_text.specs.Heads.{attempt_lines, object_lines}
+use Rattle.std.proofs.Common.{ap, string_bytes, ℕ, ◌++◌, ◌∙◌}
+use Rattle.std.proofs.lemmas.Result.{on_ok_weaker}
+use Rattle.std.specs.List.{flat_map}
 use Rattle.trace_text.proofs.Written.{three_written}
+use Rattle.trace_text.specs.Heads.{attempt_lines, object_lines}
 use Rattle.trace_text.proofs.trace.write_heads.Goals as goal
 
 pub returns : goal.returns

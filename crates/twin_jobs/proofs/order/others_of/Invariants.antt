@@ -1,4 +1,5 @@
-use Rattle.twin_jobs.proofs.Common.{drop, others_in, ◌++◌, ◌+◌, ◌≡◌}
+use Rattle.std.proofs.Common.{drop, ◌++◌, ◌+◌, ◌≡◌}
+use Rattle.twin_jobs.specs.Order.{others_in}
 use Rattle.twin_jobs.proofs.order.others_of.Given as goal
 
 abbrev pub invariant-loop-place : goal.invariant-loop-place

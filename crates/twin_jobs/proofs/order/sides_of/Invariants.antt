@@ -1,4 +1,5 @@
-use Rattle.twin_jobs.proofs.Common.{sides_in, take, ◌≡◌}
+use Rattle.std.proofs.Common.{take, ◌≡◌}
+use Rattle.twin_script.specs.TwinScripts.{sides_in}
 use Rattle.twin_jobs.proofs.order.sides_of.Given as goal
 
 abbrev pub invariant-loop-turn : goal.invariant-loop-turn

@@ -1,4 +1,5 @@
-use Rattle.twin_script.proofs.Common.{[], cut, cut_from, drop, length, take, ◌-◌, ◌≡◌, ◌≤◌}
+use Rattle.std.proofs.Common.{drop, length, take, [], ◌-◌, ◌≡◌, ◌≤◌}
+use Rattle.twin_script.specs.Cutting.{cut, cut_from}
 use Rattle.twin_script.proofs.cutting.cut.Given as goal
 
 abbrev pub invariant-loop-at : goal.invariant-loop-at

@@ -1,4 +1,6 @@
-use Rattle.twin_script.proofs.Common.{length, lines_at, lines_of, nothing, ◌+◌, ◌≡◌, ◌≤◌}
+use Rattle.basics.specs.Lines.{lines_of}
+use Rattle.std.proofs.Common.{length, ◌+◌, ◌≡◌, ◌≤◌}
+use Rattle.twin_script.specs.Order.{lines_at, nothing}
 use Rattle.twin_script.proofs.order.draft_of.Given as goal
 
 abbrev pub invariant-loop-rest : goal.invariant-loop-rest

@@ -1,10 +1,15 @@
-use Rattle.twin_script.proofs.Common.{AreTwins, IsLegal, List, Twins, ap, length, string_bytes, subst, twins_of, twins_text, ℕ, ◌∙◌, ◌≡◌, ◌≤◌}
+use Rattle.job_model.specs.Legal.{IsLegal}
+use Rattle.std.proofs.Common.{List, ap, length, string_bytes, subst, ℕ, ◌∙◌, ◌≡◌, ◌≤◌}
 use Rattle.twin_script.proofs.Again.{twins_again, twins_is}
+use Rattle.twin_script.specs.Print.{twins_text}
+use Rattle.twin_script.specs.TwinScripts.{AreTwins, Twins}
+use Rattle.twin_script.specs.Twins.{twins_of}
 use Rattle.twin_script.proofs.print.print_twins.Goals as goal
 
 text_is : (c : goal.In_ok-put_order) → string_bytes c.put_order.new.out ≡ twins_text c.args.twins.now
 text_is c =
-    twins_is c.args.twins.now _ _ _ _ _ _ _ c.twins.view_is c.as_slice.ensures c.new-out.ensures.bytes c.in_ok-put_script.ensures.text c.in_ok-put_parting.ensures c.in_ok-put_script-2.ensures.text c.in_ok-put_order.ensures
+    twins_is c.args.twins.now _ _ _ _ _ _ _ c.twins.view_is c.as_slice.ensures c.new-out.ensures.bytes c.in_ok-put_script.ensures.text
+    c.in_ok-put_parting.ensures c.in_ok-put_script-2.ensures.text c.in_ok-put_order.ensures
 
 pub returns-clause-text : goal.returns-clause-text
 returns-clause-text c = text_is c

@@ -1,4 +1,7 @@
-use Rattle.twin_script.proofs.Common.{IsLegal, IsUtf8, script_text, subst, sym, ◌∙◌, ◌≡◌}
+use Rattle.job_model.specs.Legal.{IsLegal}
+use Rattle.job_script.specs.Print.{script_text}
+use Rattle.std.proofs.Common.{subst, sym, ◌∙◌, ◌≡◌}
+use Rattle.std.specs.Str.{IsUtf8}
 use Rattle.twin_script.proofs.Printed.{script_utf8}
 use Rattle.twin_script.proofs.print.put_script.Goals as goal
 

@@ -1,4 +1,6 @@
-use Rattle.twin_script.proofs.Common.{found, only, twins_of, wanting}
+use Rattle.basics.proofs.Reading.{found, only}
+use Rattle.twin_script.specs.Fault.{wanting}
+use Rattle.twin_script.specs.Twins.{twins_of}
 use Rattle.twin_script.proofs.reading.read_twins.Goals as goal
 
 pub returns-clause-found : goal.returns-clause-found

@@ -1,6 +1,8 @@
-use Rattle.twin_script.proofs.Common.{ap, script_of, within}
-use Rattle.twin_script.specs.declared.fault.TwinFault.TheVariants as fault
+use Rattle.job_script.specs.Script.{script_of}
+use Rattle.std.proofs.Common.{ap}
 use Rattle.twin_script.proofs.Pair.{second_fails}
+use Rattle.twin_script.specs.Twins.{within}
+use Rattle.twin_script.specs.declared.fault.TwinFault.TheVariants as fault
 use Rattle.twin_script.proofs.reading.second_script.Goals as goal
 
 pub returns-in-Ok-clause-exact : goal.returns-in-Ok-clause-exact

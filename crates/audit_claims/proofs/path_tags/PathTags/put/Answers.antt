@@ -1,8 +1,8 @@
-use Rattle.std.proofs.Common.{◌∙◌, ap}
-use Rattle.std.specs.FinMap as map
-use Rattle.basics.specs.Order.{text_total}
-use Rattle.basics.proofs.Common.{exact_bytes}
 use Rattle.basics.proofs.Tree.{made_insert}
+use Rattle.basics.specs.Order.{text_total}
+use Rattle.std.proofs.Common.{ap, ◌∙◌}
+use Rattle.std.proofs.lemmas.Map.Lookups.{exact_bytes}
+use Rattle.std.specs.FinMap as map
 use Rattle.audit_claims.proofs.path_tags.PathTags.put.Goals as goal
 
 pub returns-clause-ok : goal.returns-clause-ok

@@ -1,13 +1,12 @@
-use Rattle.std.proofs.Common.{◌≡◌, List, None, Option, Some, OnOk, ap, refl, subst, sym, ℕ, ◌∙◌}
-use Rattle.std.specs.BTreeMap.{BTreeMap}
-use Rattle.std.specs.FinMap as map
+use Rattle.audit_claims.specs.Etags.{TagMap}
+use Rattle.audit_objects.proofs.Places.{found, has_put, one_put, unwritten}
+use Rattle.audit_objects.specs.Objects.{ObjectMap, at, put}
+use Rattle.basics.specs.Order.{text_cmp}
+use Rattle.std.proofs.Common.{List, None, OnOk, Option, Some, ap, refl, subst, sym, ℕ, ◌∙◌, ◌≡◌}
+use Rattle.std.specs.BTreeMap.{BTreeMap, is_at}
 use Rattle.std.specs.Map.{lookup}
 use Rattle.std.specs.Prelude.{IsSome}
-use Rattle.basics.specs.Order.{text_cmp}
-use Rattle.basics.specs.Prelude.{is_at}
-use Rattle.audit_claims.specs.Etags.{TagMap}
-use Rattle.audit_objects.specs.Objects.{ObjectMap, at, put}
-use Rattle.audit_objects.proofs.Places.{found, has_put, one_put, unwritten}
+use Rattle.std.specs.FinMap as map
 use Rattle.audit_objects.proofs.objects.Objects.put.Goals as goal
 
 pub add_bucket-requires : goal.add_bucket-requires

@@ -1,5 +1,6 @@
-use Rattle.bucket_ops.proofs.Common.{calm_of, course_of}
-use Rattle.bucket_ops.proofs.PhaseLaws.{in_bucket, asked_in}
+use Rattle.bucket_ops.proofs.PhaseLaws.{asked_in, in_bucket}
+use Rattle.operations.proofs.CourseLaws.{calm_of}
+use Rattle.operations.proofs.PlanLaws.{course_of}
 use Rattle.bucket_ops.proofs.bucket.InBucketStagePlan.laws.Goals as goal
 
 pub returns-clause-course : goal.returns-clause-course

@@ -1,5 +1,6 @@
-use Rattle.bucket_ops.proofs.Common.{calm_of, course_of}
-use Rattle.bucket_ops.proofs.UploadLaws.{uploads_plan, uploads_asked}
+use Rattle.bucket_ops.proofs.UploadLaws.{uploads_asked, uploads_plan}
+use Rattle.operations.proofs.CourseLaws.{calm_of}
+use Rattle.operations.proofs.PlanLaws.{course_of}
 use Rattle.bucket_ops.proofs.uploads.UploadsBelowPlan.laws.Goals as goal
 
 pub returns-clause-course : goal.returns-clause-course

@@ -1,5 +1,7 @@
-use Rattle.cleanup.proofs.Common.{Clean, Driving, None, clean_over, subst, sym, ◌∙◌, ◌≡◌}
-use Rattle.cleanup.proofs.Places.{over_is, not_over}
+use Rattle.cleanup.proofs.Places.{not_over, over_is}
+use Rattle.job_protocol.specs.AtWork.{Driving}
+use Rattle.job_protocol.specs.Cleanups.{Clean, clean_over}
+use Rattle.std.proofs.Common.{None, subst, sym, ◌∙◌, ◌≡◌}
 use Rattle.cleanup.proofs.cleaning.CleaningAsks.end.Goals as goal
 
 pub returns-in_default : goal.returns-in_default

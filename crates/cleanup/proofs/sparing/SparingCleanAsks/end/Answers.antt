@@ -1,5 +1,7 @@
-use Rattle.cleanup.proofs.Common.{Driving, None, Sparing, sparing_over, subst, sym, ◌∙◌, ◌≡◌}
-use Rattle.cleanup.proofs.SparingPlaces.{over_is, not_over}
+use Rattle.cleanup.proofs.SparingPlaces.{not_over, over_is}
+use Rattle.job_protocol.specs.AtWork.{Driving}
+use Rattle.job_protocol.specs.Sparing.{Sparing, sparing_over}
+use Rattle.std.proofs.Common.{None, subst, sym, ◌∙◌, ◌≡◌}
 use Rattle.cleanup.proofs.sparing.SparingCleanAsks.end.Goals as goal
 
 pub returns-in_default : goal.returns-in_default

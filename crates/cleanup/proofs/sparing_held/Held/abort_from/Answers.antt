@@ -1,5 +1,6 @@
-use Rattle.cleanup.proofs.Common.{all_of, arith}
 use Rattle.cleanup.proofs.SparingPlaces.{aborts_at}
+use Rattle.cleanup.specs.SparingHeld.{all_of}
+use Rattle.std.proofs.Common.{arith}
 use Rattle.cleanup.proofs.sparing_held.Held.abort_from.Goals as goal
 
 pub returns-clause-goes : goal.returns-clause-goes

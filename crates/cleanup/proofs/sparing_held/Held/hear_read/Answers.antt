@@ -1,5 +1,7 @@
-use Rattle.cleanup.proofs.Common.{all_of, ap, drop, names, places_of, reading_on, ◌++◌, ◌∙◌}
 use Rattle.cleanup.proofs.SparingPlaces.{next_behind}
+use Rattle.cleanup.specs.SparingHeld.{all_of, places_of}
+use Rattle.job_protocol.specs.Sparing.{names, reading_on}
+use Rattle.std.proofs.Common.{ap, drop, ◌++◌, ◌∙◌}
 use Rattle.cleanup.proofs.sparing_held.Held.hear_read.Goals as goal
 
 pub returns-clause-goes : goal.returns-clause-goes
@@ -8,4 +10,5 @@ returns-clause-goes c =
     let k = c.args.committer in
     c.read_from.ensures.goes
     ∙ ap (λ us. reading_on k us (drop c.next_place-at.result (places_of k h)) (all_of k h)) c.in_ok-add_names.ensures
-    ∙ ap (λ ps. reading_on k (h.named ++ names c.args.reply.now) ps (all_of k h)) (next_behind h.at 1 c.next_place-at.result c.count.result (places_of k h) c.next_place-at.ensures c.count.ensures)
+    ∙ ap (λ ps. reading_on k (h.named ++ names c.args.reply.now) ps (all_of k h))
+    (next_behind h.at 1 c.next_place-at.result c.count.result (places_of k h) c.next_place-at.ensures c.count.ensures)

@@ -1,5 +1,6 @@
-use Rattle.cleanup.proofs.Common.{all_of, arith, places_of}
 use Rattle.cleanup.proofs.SparingPlaces.{reads_at}
+use Rattle.cleanup.specs.SparingHeld.{all_of, places_of}
+use Rattle.std.proofs.Common.{arith}
 use Rattle.cleanup.proofs.sparing_held.Held.read_from.Goals as goal
 
 pub returns-clause-goes : goal.returns-clause-goes

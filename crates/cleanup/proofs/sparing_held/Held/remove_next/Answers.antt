@@ -6,4 +6,5 @@ use Rattle.cleanup.proofs.sparing_held.Held.remove_next.Goals as goal
 pub returns-clause-goes : goal.returns-clause-goes
 returns-clause-goes c = λ k.
     let h = c.args.self.now in
-    c.remove_from.ensures.goes k ∙ ap removing (next_behind h.at 1 c.next_place-at.result c.len.result h.paths c.next_place-at.ensures c.len.ensures)
+    c.remove_from.ensures.goes k ∙ ap removing (next_behind h.at 1 c.next_place-at.result c.len.result h.paths c.next_place-at.ensures
+    c.len.ensures)

@@ -1,4 +1,7 @@
-use Rattle.cluster_fs.proofs.Common.{ap, exact_bytes, made_remove, text_total, ◌∙◌}
+use Rattle.basics.proofs.Tree.{made_remove}
+use Rattle.basics.specs.Order.{text_total}
+use Rattle.std.proofs.Common.{ap, ◌∙◌}
+use Rattle.std.proofs.lemmas.Map.Lookups.{exact_bytes}
 use Rattle.std.specs.FinMap as map
 use Rattle.cluster_fs.proofs.cluster.Cluster.delete.Goals as goal
 

@@ -1,7 +1,10 @@
-use Rattle.cluster_fs.proofs.Common.{ap, get_made, sym, text_total, ◌∙◌}
+use Rattle.basics.proofs.Tree.{get_made}
+use Rattle.basics.specs.Order.{text_total}
+use Rattle.std.proofs.Common.{ap, sym, ◌∙◌}
 use Rattle.std.specs.FinMap as map
 use Rattle.cluster_fs.proofs.cluster.Cluster.get.Goals as goal
 
 pub returns : goal.returns
 returns c =
-    c.get.ensures.value ∙ sym (get_made text_total c.self.inside.held.entries c.args.path.now) ∙ ap (λ m. map.get m c.args.path.now) c.self.view_is
+    c.get.ensures.value ∙ sym (get_made text_total c.self.inside.held.entries c.args.path.now) ∙ ap (λ m. map.get m c.args.path.now)
+    c.self.view_is

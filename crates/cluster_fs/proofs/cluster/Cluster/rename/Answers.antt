@@ -1,8 +1,11 @@
-use Rattle.cluster_fs.proofs.Common.{Bool, Files, Some, ap, false, not, renamed, sym, text_eq, true, ◌∙◌, ◌≡◌}
+use Rattle.basics.specs.Order.{text_eq}
+use Rattle.cluster_fs.proofs.Renamed.{onto_another, onto_itself}
+use Rattle.cluster_fs.proofs.cluster.Cluster.rename.Goals.{else-ne, then-ne}
+use Rattle.s3_types.specs.Answer.{renamed}
+use Rattle.s3_types.specs.Store.{Files}
+use Rattle.std.proofs.Common.{Bool, Some, ap, false, not, sym, true, ◌∙◌, ◌≡◌}
 use Rattle.std.specs.FinMap as map
-use Rattle.cluster_fs.proofs.Renamed.{onto_itself, onto_another}
 use Rattle.cluster_fs.proofs.cluster.Cluster.rename.Goals as goal
-use Rattle.cluster_fs.proofs.cluster.Cluster.rename.Goals.{then-ne, else-ne}
 
 not_is : (b r : Bool) → r ≡ not b → not r ≡ b
 not_is true r h = ap not h
@@ -11,8 +14,10 @@ not_is false r h = ap not h
 pub returns-clause-ok : goal.returns-clause-ok
 returns-clause-ok c =
     let bytes : c.in_ok-bytes.bytes ≡ c.in-Some.bytes.now = c.in_ok-bytes.ensures.cases in
-    let put : c.put.new.self ≡ map.insert c.args.self.now c.args.target.now c.in-Some.bytes.now = c.in_ok-put.ensures.ok ∙ ap (map.insert c.args.self.now c.args.target.now) bytes in
-    let is : renamed c.args.self.now c.args.source.now c.args.target.now (Some c.in-Some.bytes.now) ≡ renamed c.args.self.now c.args.source.now c.args.target.now (map.get c.args.self.now c.args.source.now) =
+    let put : c.put.new.self ≡ map.insert c.args.self.now c.args.target.now c.in-Some.bytes.now = c.in_ok-put.ensures.ok ∙ ap
+    (map.insert c.args.self.now c.args.target.now) bytes in
+    let is : renamed c.args.self.now c.args.source.now c.args.target.now (Some c.in-Some.bytes.now) ≡ renamed c.args.self.now
+    c.args.source.now c.args.target.now (map.get c.args.self.now c.args.source.now) =
     ap (renamed c.args.self.now c.args.source.now c.args.target.now) c.in-Some.ensures in
     elim c.if-ne.branch [
       | then-ne w ↦

@@ -1,5 +1,6 @@
-use Rattle.conflict.proofs.Common.{ap, is_none, ◌∙◌}
 use Rattle.conflict.proofs.Deleting.{none_left}
+use Rattle.conflict.specs.Checks.{is_none}
+use Rattle.std.proofs.Common.{ap, ◌∙◌}
 use Rattle.conflict.proofs.absent.CheckAbsent.is_over.Goals as goal
 
 pub returns : goal.returns

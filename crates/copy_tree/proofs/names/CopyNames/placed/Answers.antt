@@ -1,5 +1,9 @@
-use Rattle.copy_tree.proofs.Common.{CopyPaths, ap, is_marker, option_copied, prefix_of, sym, ◌∙◌}
+use Rattle.copy_tree.specs.code.Copy.{CopyPaths}
+use Rattle.fs_ops.specs.Places.{prefix_of}
 use Rattle.fs_rename.proofs.Places.{place_marker}
+use Rattle.fs_tree.specs.Tree.{is_marker}
+use Rattle.std.proofs.Common.{ap, sym, ◌∙◌}
+use Rattle.std.specs.Option.{option_copied}
 use Rattle.copy_tree.proofs.names.CopyNames.placed.Goals as goal
 
 pub new_keys-requires : goal.new_keys-requires

@@ -10,7 +10,8 @@ pub returns-in-Ok-clause-keeps : goal.returns-in-Ok-clause-keeps
 returns-in-Ok-clause-keeps g c = turn_stays c.args.self.now c.turn.new.self c.in-Ok.turned c.in-Ok.ensures.ok
 
 pub returns-in-Ok-clause-ok : goal.returns-in-Ok-clause-ok
-returns-in-Ok-clause-ok g c = turn_steps c.args.self.now c.turn.new.self c.in-Ok.turned c.is_turn.result c.is_turn.ensures c.in-Ok.ensures.ok
+returns-in-Ok-clause-ok g c = turn_steps c.args.self.now c.turn.new.self c.in-Ok.turned c.is_turn.result c.is_turn.ensures
+    c.in-Ok.ensures.ok
 
 pub returns-in-Err-clause-origin : goal.returns-in-Err-clause-origin
 returns-in-Err-clause-origin g c = none_opening c.args.self.now c.turn.new.self c.in-Err.ensures.err

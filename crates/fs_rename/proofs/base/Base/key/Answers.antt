@@ -1,5 +1,6 @@
-use Rattle.fs_rename.proofs.Common.{ap, are_elements, ◌∙◌}
 use Rattle.fs_rename.proofs.NewKeys.{base_key}
+use Rattle.s3_types.specs.Names.{are_elements}
+use Rattle.std.proofs.Common.{ap, ◌∙◌}
 use Rattle.fs_rename.proofs.base.Base.key.Goals as goal
 
 pub fitting-requires : goal.fitting-requires

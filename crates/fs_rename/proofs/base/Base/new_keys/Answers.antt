@@ -1,5 +1,8 @@
-use Rattle.fs_rename.proofs.Common.{List, ap, drop, drop_more, marker_of, new_keys, sym, with_front, ℕ, ◌+◌, ◌∙◌, ◌∷◌}
+use Rattle.dir_markers.specs.Markers.{marker_of}
 use Rattle.fs_rename.proofs.NewKeys.{one_more}
+use Rattle.fs_rename.specs.Keys.{new_keys, with_front}
+use Rattle.std.proofs.Common.{List, ap, drop, sym, ℕ, ◌+◌, ◌∙◌, ◌∷◌}
+use Rattle.std.proofs.lemmas.List.{drop_more}
 use Rattle.fs_rename.proofs.base.Base.new_keys.Goals as goal
 
 pub loop-key-preserved : goal.loop-key-preserved

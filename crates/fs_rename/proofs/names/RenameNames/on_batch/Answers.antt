@@ -1,4 +1,5 @@
-use Rattle.fs_rename.proofs.Common.{sweep_fits_so, sym, ◌∙◌}
+use Rattle.bucket_ops.proofs.Sweeps.{sweep_fits_so}
+use Rattle.std.proofs.Common.{sym, ◌∙◌}
 use Rattle.fs_rename.proofs.names.RenameNames.on_batch.Goals as goal
 
 pub hear-requires : goal.hear-requires

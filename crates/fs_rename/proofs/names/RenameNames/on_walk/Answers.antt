@@ -1,4 +1,5 @@
-use Rattle.fs_rename.proofs.Common.{fits_decides, sym, ◌∙◌}
+use Rattle.bucket_ops.proofs.Walks.{fits_decides}
+use Rattle.std.proofs.Common.{sym, ◌∙◌}
 use Rattle.fs_rename.proofs.names.RenameNames.on_walk.Goals as goal
 
 pub hear-requires : goal.hear-requires

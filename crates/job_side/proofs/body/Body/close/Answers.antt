@@ -17,6 +17,23 @@ returns g c =
     let k = c.args.self.now in
     let pushed = c.push_reserved.ensures.items ∙ ap (λ e. k.side.ends.items ++ e ∷ []) c.taken_end-end.ensures.end in
     record {
-      quiet = quiet_closed _ _ _ _ g.W.Acts.end_of g.met.W.Acts.laws.goes_on c.laws.ensures.ends k (record k { side = record k.side { ends = c.push_reserved.new.self; states = c.count.new.self; finished = c.taken_end-end.new.finished }; shared = record k.shared { events = k.shared.events + 1 } }) c.args.event c.requires.going c.requires.now c.requires.turns pushed c.taken_end-end.ensures.none (λ p. c.count.ensures.stands _ p);
-      grown = record { stays = record { script = refl; others = refl; shares = refl; opening = refl; fates = λ n. refl }; end = _; ends = c.push_reserved.ensures.items; events = refl; more = ([], sym (append-nil _), tt) };
+      quiet = quiet_closed _ _ _ _ g.W.Acts.end_of g.met.W.Acts.laws.goes_on c.laws.ensures.ends k
+          (record k {
+            side = record k.side {
+              ends = c.push_reserved.new.self;
+              states = c.count.new.self;
+              finished =
+                  c.taken_end-end.new.finished;
+            };
+            shared = record k.shared { events = k.shared.events + 1 };
+          }) c.args.event c.requires.going
+          c.requires.now c.requires.turns pushed c.taken_end-end.ensures.none (λ p. c.count.ensures.stands _ p);
+      grown = record {
+        stays = record { script = refl; others = refl; shares = refl; opening = refl; fates = λ n. refl };
+        end = _;
+        ends =
+            c.push_reserved.ensures.items;
+        events = refl;
+        more = ([], sym (append-nil _), tt);
+      };
     }

@@ -22,4 +22,8 @@ close-requires g c =
     (do_turns _ c.args.actor c.args.op c.carry_on.ensures.all) c.carry_on.ensures.going
 
 pub returns : goal.returns
-returns g c = record { quiet = c.close.ensures.quiet; grown = grown_after c.args.event _ _ _ c.begin-goes_on.ensures.entered c.carry_on.ensures.same _ c.close.ensures.grown }
+returns g c = record {
+  quiet = c.close.ensures.quiet;
+  grown = grown_after c.args.event _ _ _ c.begin-goes_on.ensures.entered
+      c.carry_on.ensures.same _ c.close.ensures.grown;
+}

@@ -9,4 +9,5 @@ pub open-requires-clause-few : goal.open-requires-clause-few
 open-requires-clause-few g c = few_attempts _ _ _ _ _ c.requires.ready.quiet.holds c.args.event c.requires.ready.next
 
 pub returns : goal.returns
-returns g c = has_entered _ _ _ _ _ c.requires.ready.quiet c.args.event c.requires.ready.next c.requires.ready.fine c.requires.ready.turn _ c.open.ensures c.requires.none c.requires.ready.room
+returns g c = has_entered _ _ _ _ _ c.requires.ready.quiet c.args.event c.requires.ready.next c.requires.ready.fine c.requires.ready.turn _
+    c.open.ensures c.requires.none c.requires.ready.room

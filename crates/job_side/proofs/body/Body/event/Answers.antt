@@ -4,7 +4,8 @@ use Rattle.job_side.proofs.Rooms.{refusal_is, next_roomy, turn_roomy, grown_room
 use Rattle.job_side.proofs.body.Body.event.Goals as goal
 
 pub refusal-requires : goal.refusal-requires
-refusal-requires g c = event_of _ _ _ _ _ c.make_room.ensures.quiet.holds c.args.event (next_roomy _ _ c.make_room.ensures.same c.args.event c.requires.next)
+refusal-requires g c = event_of _ _ _ _ _ c.make_room.ensures.quiet.holds c.args.event
+    (next_roomy _ _ c.make_room.ensures.same c.args.event c.requires.next)
 
 pub refuse-requires : goal.refuse-requires
 refuse-requires g c = record {

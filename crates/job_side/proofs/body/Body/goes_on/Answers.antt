@@ -13,11 +13,13 @@ die-requires-clause-actor g c = placed _ _ _ c.requires.actor
 
 pub returns-in-Ok-None-clause-going : goal.returns-in-Ok-None-clause-going
 returns-in-Ok-None-clause-going g c =
-    goes _ _ _ _ _ _ c.requires.others c.requires.during g.W.Acts.end_of g.met.W.Acts.laws.goes_on c.requires.holds (c.requires.work, c.requires.hand)
+    goes _ _ _ _ _ _ c.requires.others c.requires.during g.W.Acts.end_of g.met.W.Acts.laws.goes_on c.requires.holds
+    (c.requires.work, c.requires.hand)
     (sym c.in-Ok-None.ensures.ok ∙ c.in-Ok-None.field-0-is)
 
 pub returns-in-Ok-Some-clause-going : goal.returns-in-Ok-Some-clause-going
-returns-in-Ok-Some-clause-going g c = goes_over _ _ _ _ _ _ c.requires.others c.requires.during _ _ _ c.over.ensures.holds c.over.ensures.over
+returns-in-Ok-Some-clause-going g c = goes_over _ _ _ _ _ _ c.requires.others c.requires.during _ _ _ c.over.ensures.holds
+    c.over.ensures.over
 
 pub returns-in-Ok-None-clause-ended : goal.returns-in-Ok-None-clause-ended
 returns-in-Ok-None-clause-ended g c = sym c.in-Ok-None.ensures.ok ∙ c.in-Ok-None.field-0-is

@@ -1,5 +1,7 @@
-use Rattle.job_side.proofs.Common.{AreBelow, Content, subst, ◌∙◌}
 use Rattle.job_side.proofs.Firsts.{is_begun}
+use Rattle.s3_service.specs.Ids.{AreBelow}
+use Rattle.s3_types.specs.Store.{Content}
+use Rattle.std.proofs.Common.{subst, ◌∙◌}
 use Rattle.job_side.proofs.body.Body.new.Goals as goal
 
 pub returns : goal.returns

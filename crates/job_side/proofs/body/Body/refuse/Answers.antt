@@ -13,6 +13,17 @@ pub returns : goal.returns
 returns g c =
     let k = c.args.self.now in
     record {
-      quiet = quiet_refused _ _ _ _ k (record k { side = record k.side { ends = c.push_reserved.new.self; states = c.count.new.self }; shared = record k.shared { events = k.shared.events + 1 } }) c.args.event c.args.fault c.requires.quiet c.requires.next c.requires.refused c.requires.turn c.push_reserved.ensures.items (λ p. c.count.ensures.stands _ p);
-      grown = record { stays = record { script = refl; others = refl; shares = refl; opening = refl; fates = λ n. refl }; end = _; ends = c.push_reserved.ensures.items; events = refl; more = ([], sym (append-nil _), tt) };
+      quiet = quiet_refused _ _ _ _ k (record k {
+        side = record k.side { ends = c.push_reserved.new.self; states = c.count.new.self };
+        shared = record k.shared { events = k.shared.events + 1 };
+      }) c.args.event c.args.fault c.requires.quiet c.requires.next
+          c.requires.refused c.requires.turn c.push_reserved.ensures.items (λ p. c.count.ensures.stands _ p);
+      grown = record {
+        stays = record { script = refl; others = refl; shares = refl; opening = refl; fates = λ n. refl };
+        end = _;
+        ends =
+            c.push_reserved.ensures.items;
+        events = refl;
+        more = ([], sym (append-nil _), tt);
+      };
     }

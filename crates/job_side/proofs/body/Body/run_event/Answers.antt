@@ -1,13 +1,14 @@
-use Rattle.job_steps.specs.Prelude.{past}
-use Rattle.job_side.proofs.Moments.{event_of}
-use Rattle.job_side.proofs.Frames.{closing, grown_after}
-use Rattle.job_side.proofs.Moving.{run_moves, place_entered, room_entered, busy_entered}
 use Rattle.job_side.proofs.EventTurns.{ran_all, run_turns}
+use Rattle.job_side.proofs.Frames.{closing, grown_after}
+use Rattle.job_side.proofs.Moments.{event_of}
+use Rattle.job_side.proofs.Moving.{busy_entered, place_entered, room_entered, run_moves}
+use Rattle.job_spec.specs.States.{past}
 use Rattle.job_side.proofs.body.Body.run_event.Goals as goal
 
 pub place-place-requires : goal.place-place-requires
 place-place-requires g c =
-    (run_moves c.args.event c.args.actor c.requires.is).known c.args.self.now.side.script (event_of _ _ _ _ _ c.requires.ready.quiet.holds c.args.event c.requires.ready.next)
+    (run_moves c.args.event c.args.actor c.requires.is).known c.args.self.now.side.script
+    (event_of _ _ _ _ _ c.requires.ready.quiet.holds c.args.event c.requires.ready.next)
 
 pub enter-requires-clause-none : goal.enter-requires-clause-none
 enter-requires-clause-none g c = (run_moves c.args.event c.args.actor c.requires.is).none
@@ -28,7 +29,12 @@ close-requires g c =
     let at = place_entered _ _ _ _ _ _ _ e c.args.actor c.place-place.result c.place-place.ensures in
     closing c.args.event _ _ _ e.entered c.run.ensures.keeps _ c.requires.is c.requires.ready.room
     (run_turns c.run.new.actors c.args.actor
-    (ran_all g.W.Acts.left g.W.Works.rise c.place-place.result c.args.actor c.enter.new.self c.run.new.actors at e.entered.fresh e.none c.run.ensures.ran)) c.run.ensures.holds
+    (ran_all g.W.Acts.left g.W.Works.rise c.place-place.result c.args.actor c.enter.new.self c.run.new.actors at e.entered.fresh e.none
+    c.run.ensures.ran)) c.run.ensures.holds
 
 pub returns : goal.returns
-returns g c = record { quiet = c.close.ensures.quiet; grown = grown_after c.args.event _ _ _ c.enter.ensures.entered c.run.ensures.keeps _ c.close.ensures.grown }
+returns g c = record {
+  quiet = c.close.ensures.quiet;
+  grown = grown_after c.args.event _ _ _ c.enter.ensures.entered c.run.ensures.keeps _
+      c.close.ensures.grown;
+}

@@ -1,8 +1,9 @@
-use Rattle.job_side.proofs.Common.{refl, same_laws}
-use Rattle.job_side.proofs.Moments.{event_of}
-use Rattle.job_side.proofs.Frames.{closing, grown_after}
 use Rattle.job_side.proofs.Beginning.{known_named}
 use Rattle.job_side.proofs.EventTurns.{start_turns}
+use Rattle.job_side.proofs.Frames.{closing, grown_after}
+use Rattle.job_side.proofs.Moments.{event_of}
+use Rattle.job_side.specs.Holds.{same_laws}
+use Rattle.std.proofs.Common.{refl}
 use Rattle.job_side.proofs.body.Body.start_event.Goals as goal
 
 pub place-place-requires : goal.place-place-requires
@@ -16,8 +17,13 @@ begin-requires-clause-begins g c = rw c.requires.is (refl, refl)
 pub close-requires : goal.close-requires
 close-requires g c =
     let b = c.begin.ensures in
-    closing c.args.event _ _ _ b.entered (same_laws.self _) _ c.requires.is c.requires.ready.room (start_turns _ _ c.args.actor c.args.op c.begin.result b.taken b.entered.fresh)
+    closing c.args.event _ _ _ b.entered (same_laws.self _) _ c.requires.is c.requires.ready.room
+    (start_turns _ _ c.args.actor c.args.op c.begin.result b.taken b.entered.fresh)
     b.going
 
 pub returns : goal.returns
-returns g c = record { quiet = c.close.ensures.quiet; grown = grown_after c.args.event _ _ _ c.begin.ensures.entered (same_laws.self _) _ c.close.ensures.grown }
+returns g c = record {
+  quiet = c.close.ensures.quiet;
+  grown = grown_after c.args.event _ _ _ c.begin.ensures.entered (same_laws.self _) _
+      c.close.ensures.grown;
+}

@@ -1,8 +1,8 @@
-use Rattle.job_steps.specs.Prelude.{past}
-use Rattle.job_side.proofs.Moments.{event_of}
-use Rattle.job_side.proofs.Frames.{closing, grown_after}
-use Rattle.job_side.proofs.Moving.{step_moves, place_entered, room_entered, busy_entered}
 use Rattle.job_side.proofs.EventTurns.{step_turns}
+use Rattle.job_side.proofs.Frames.{closing, grown_after}
+use Rattle.job_side.proofs.Moments.{event_of}
+use Rattle.job_side.proofs.Moving.{busy_entered, place_entered, room_entered, step_moves}
+use Rattle.job_spec.specs.States.{past}
 use Rattle.job_side.proofs.body.Body.step_event.Goals as goal
 
 pub place-place-requires : goal.place-place-requires
@@ -28,8 +28,13 @@ close-requires g c =
     let e = c.enter.ensures in
     let at = place_entered _ _ _ _ _ _ _ e c.args.actor c.place-place.result c.place-place.ensures in
     closing c.args.event _ _ _ e.entered c.step.ensures.keeps _ c.requires.is c.requires.ready.room
-    (step_turns g.W.Acts.left g.W.Works.rise c.place-place.result c.args.actor c.enter.new.self c.step.new.actors at e.entered.fresh e.none c.args.count c.step.result
+    (step_turns g.W.Acts.left g.W.Works.rise c.place-place.result c.args.actor c.enter.new.self c.step.new.actors at e.entered.fresh e.none
+    c.args.count c.step.result
     c.step.ensures.stepped) c.step.ensures.holds
 
 pub returns : goal.returns
-returns g c = record { quiet = c.close.ensures.quiet; grown = grown_after c.args.event _ _ _ c.enter.ensures.entered c.step.ensures.keeps _ c.close.ensures.grown }
+returns g c = record {
+  quiet = c.close.ensures.quiet;
+  grown = grown_after c.args.event _ _ _ c.enter.ensures.entered c.step.ensures.keeps _
+      c.close.ensures.grown;
+}

@@ -10,7 +10,8 @@ goes_on-requires g c =
     let at = c.requires.actor.within in
     let same = c.requires.holds.places in
     let below : c.args.place < length k.side.hands.items = omega arith in
-    in_hand_of _ g.W.Acts.end_of _ _ _ _ _ k _ c.in-Ok.work (handed_at _ k _ c.put.new.place _ refl refl below c.put.ensures) _ c.in-Ok.is c.requires
+    in_hand_of _ g.W.Acts.end_of _ _ _ _ _ k _ c.in-Ok.work (handed_at _ k _ c.put.new.place _ refl refl below c.put.ensures) _ c.in-Ok.is
+    c.requires
 
 pub die-requires-clause-actor : goal.die-requires-clause-actor
 die-requires-clause-actor g c = placed _ _ _ c.requires.actor

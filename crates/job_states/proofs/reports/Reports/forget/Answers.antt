@@ -8,4 +8,5 @@ returns c = λ tasks f is.
     let told = c.untell.new.told in
     let many : c.self.inside.told.len ≡ length told = omega arith in
     let same : length told ≡ length items = omega arith in
-    whole c.self.inside.told.len told (drop (length told) items) many ∙ forgotten items told tasks f (c.self.view_is ∙ is) same c.untell.ensures
+    whole c.self.inside.told.len told (drop (length told) items) many ∙ forgotten items told tasks f (c.self.view_is ∙ is) same
+    c.untell.ensures

@@ -6,4 +6,5 @@ pub returns-then-task-len : goal.returns-then-task-len
 returns-then-task-len c = λ tasks f is. told_there c.self.inside.told.items tasks c.args.task f (c.self.view_is ∙ is) (omega arith)
 
 pub returns-else-task-len : goal.returns-else-task-len
-returns-else-task-len c = λ tasks f is. told_nowhere c.args.self.now tasks c.args.task f is (subst (λ (l : List Bool). length l ≤ c.args.task) c.self.view_is (omega arith))
+returns-else-task-len c = λ tasks f is. told_nowhere c.args.self.now tasks c.args.task f is
+    (subst (λ (l : List Bool). length l ≤ c.args.task) c.self.view_is (omega arith))

@@ -1,5 +1,9 @@
-use Rattle.job_states.proofs.Common.{ChangesAt, Kept, Standing, Stands, begin, standing, subst, sym, true≢false, ◌∙◌}
+use Rattle.job_spec.specs.States.{begin}
 use Rattle.job_states.proofs.StandsLemmas.{changes_begin, others_put}
+use Rattle.job_states.specs.Standing.{standing}
+use Rattle.job_states.specs.Stands.{ChangesAt, Kept, Stands}
+use Rattle.job_states.specs.declared.standing.Standing.{Standing}
+use Rattle.std.proofs.Common.{subst, sym, true≢false, ◌∙◌}
 use Rattle.job_states.proofs.states.States.begin.Goals as goal
 
 pub returns-clause-stands : goal.returns-clause-stands
@@ -8,7 +12,8 @@ returns-clause-stands c = λ p h.
     let a = c.args.actor in
     let k = subst (λ (v : Kept). Stands w v p) (sym c.self.view_is) h in
     let s = c.standing_of-standing.result in
-    let change = changes_begin w p a c.args.op s (c.standing_of-standing.ensures.known (standing p) (c.deref.ensures.value ∙ k.actors)) in record {
+    let change = changes_begin w p a c.args.op s (c.standing_of-standing.ensures.known (standing p) (c.deref.ensures.value ∙ k.actors)) in
+    record {
       events = k.events;
       actors =
           c.put_standing.ensures (standing p) (standing (begin w p a c.args.op)) k.actors

@@ -1,5 +1,9 @@
-use Rattle.job_states.proofs.Common.{ChangesAt, Kept, Standing, Stands, kill, standing, subst, sym, ◌∙◌}
+use Rattle.job_spec.specs.States.{kill}
 use Rattle.job_states.proofs.StandsLemmas.{changes_kill, others_put}
+use Rattle.job_states.specs.Standing.{standing}
+use Rattle.job_states.specs.Stands.{ChangesAt, Kept, Stands}
+use Rattle.job_states.specs.declared.standing.Standing.{Standing}
+use Rattle.std.proofs.Common.{subst, sym, ◌∙◌}
 use Rattle.job_states.proofs.states.States.kill.Goals as goal
 
 pub returns-clause-stands : goal.returns-clause-stands
@@ -10,7 +14,8 @@ returns-clause-stands c = λ p h.
     let s = c.standing_of-standing.result in
     let change = changes_kill w p a s (c.standing_of-standing.ensures.known (standing p) (c.deref.ensures.value ∙ k.actors)) in record {
       events = k.events;
-      actors = c.put_standing.ensures (standing p) (standing (kill p a)) k.actors (subst (λ (x : Standing). ChangesAt w a x (standing p) (standing (kill p a))) (sym c.killed.ensures) change);
+      actors = c.put_standing.ensures (standing p) (standing (kill p a)) k.actors
+          (subst (λ (x : Standing). ChangesAt w a x (standing p) (standing (kill p a))) (sym c.killed.ensures) change);
       attempt = k.attempt;
       reported = k.reported;
       setup = k.setup;

@@ -1,5 +1,7 @@
-use Rattle.job_states.proofs.Common.{Kept, Stands, is_reported, subst, sym, ◌∙◌}
+use Rattle.job_spec.specs.States.{is_reported}
 use Rattle.job_states.proofs.ReportLemmas.{missing_is}
+use Rattle.job_states.specs.Stands.{Kept, Stands}
+use Rattle.std.proofs.Common.{subst, sym, ◌∙◌}
 use Rattle.job_states.proofs.states.States.missing.Goals as goal
 
 pub returns : goal.returns

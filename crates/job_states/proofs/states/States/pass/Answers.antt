@@ -1,4 +1,6 @@
-use Rattle.job_states.proofs.Common.{Past, Stands, subst, sym}
+use Rattle.job_spec.specs.States.{Past}
+use Rattle.job_states.specs.Stands.{Stands}
+use Rattle.std.proofs.Common.{subst, sym}
 use Rattle.job_states.proofs.states.States.pass.Goals as goal
 
 pub returns-clause-stands : goal.returns-clause-stands

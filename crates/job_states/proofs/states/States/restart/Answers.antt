@@ -1,7 +1,12 @@
-use Rattle.job_states.proofs.Common.{ChangesAt, Driver, Kept, Standing, Stands, actors, ap, arith, drop, is_reported, length, map, standing, subst, sym, true≢false, unreported_in, ◌+◌, ◌∙◌, ◌≡◌}
-use Rattle.job_states.proofs.StandsLemmas.{renew, changes_restart, others_put}
+use Rattle.job_spec.specs.States.{actors, is_reported}
 use Rattle.job_states.proofs.ReportLemmas.{whole}
-use Rattle.job_states.proofs.ToldLemmas.{none_reported, map_twice}
+use Rattle.job_states.proofs.StandsLemmas.{changes_restart, others_put, renew}
+use Rattle.job_states.proofs.ToldLemmas.{map_twice, none_reported}
+use Rattle.job_states.specs.Standing.{standing, unreported_in}
+use Rattle.job_states.specs.Stands.{ChangesAt, Kept, Stands}
+use Rattle.job_states.specs.declared.standing.Standing.{Standing}
+use Rattle.s3_types.specs.declared.request.Actor.TheVariants.{Driver}
+use Rattle.std.proofs.Common.{ap, arith, drop, length, map, subst, sym, true≢false, ◌+◌, ◌∙◌, ◌≡◌}
 use Rattle.job_states.proofs.states.States.restart.Goals as goal
 
 pub returns-clause-stands : goal.returns-clause-stands
@@ -15,8 +20,10 @@ returns-clause-stands c = λ p h.
     let change = changes_restart w p s (c.standing_of-standing.ensures.known (standing p) (c.deref.ensures.value ∙ k.actors)) in record {
       events = k.events;
       actors =
-          whole c.put_standing.new.standings.len told (drop (length told) items) many ∙ c.unreport.ensures ∙ ap (map unreported_in) c.deref_mut.ensures.value
-          ∙ ap (map unreported_in) (c.put_standing.ensures (standing p) (standing (renew p)) k.actors (subst (λ (x : Standing). ChangesAt w Driver x (standing p) (standing (renew p))) (sym c.renewed.ensures) change))
+          whole c.put_standing.new.standings.len told (drop (length told) items) many ∙ c.unreport.ensures ∙ ap (map unreported_in)
+          c.deref_mut.ensures.value
+          ∙ ap (map unreported_in) (c.put_standing.ensures (standing p) (standing (renew p)) k.actors
+          (subst (λ (x : Standing). ChangesAt w Driver x (standing p) (standing (renew p))) (sym c.renewed.ensures) change))
           ∙ map_twice unreported_in (standing (renew p)) (actors w);
       attempt = ap (λ n. n + 1) k.attempt;
       reported = c.forget.ensures w.tasks (is_reported w p.reported) k.reported ∙ sym (none_reported w);

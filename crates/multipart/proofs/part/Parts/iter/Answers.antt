@@ -1,6 +1,10 @@
-use Rattle.multipart.proofs.Common.{AllByRecursion, List, ap, entries_made, is_part_number, nat_cmp_total, subst, sym, true, ℕ, ◌∙◌, ◌≡◌}
-use Rattle.std.specs.FinMap as fin
+use Rattle.basics.proofs.Tree.{entries_made}
 use Rattle.multipart.proofs.Numbered.{all_numbered}
+use Rattle.s3_types.specs.Multipart.{is_part_number}
+use Rattle.std.proofs.Common.{List, ap, subst, sym, true, ℕ, ◌∙◌, ◌≡◌}
+use Rattle.std.specs.Cmp.{nat_cmp_total}
+use Rattle.std.specs.List.{AllByRecursion}
+use Rattle.std.specs.FinMap as fin
 use Rattle.multipart.proofs.part.Parts.iter.Goals as goal
 
 pub returns-clause-entries : goal.returns-clause-entries

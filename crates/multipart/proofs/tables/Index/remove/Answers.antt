@@ -1,6 +1,7 @@
-use Rattle.multipart.proofs.Common.{ap, made_remove, ◌∙◌}
+use Rattle.basics.proofs.Tree.{made_remove}
+use Rattle.multipart.proofs.Keyed.{exact_refs, refs_total}
+use Rattle.std.proofs.Common.{ap, ◌∙◌}
 use Rattle.std.specs.FinMap as fin
-use Rattle.multipart.proofs.Keyed.{refs_total, exact_refs}
 use Rattle.multipart.proofs.tables.Index.remove.Goals as goal
 
 pub returns : goal.returns

@@ -1,4 +1,6 @@
-use Rattle.multipart.proofs.Common.{ap, len_made, nat_cmp_total, sym, ◌∙◌}
+use Rattle.basics.proofs.Tree.{len_made}
+use Rattle.std.proofs.Common.{ap, sym, ◌∙◌}
+use Rattle.std.specs.Cmp.{nat_cmp_total}
 use Rattle.std.specs.FinMap as fin
 use Rattle.multipart.proofs.tables.Lives.count.Goals as goal
 

@@ -1,5 +1,6 @@
-use Rattle.multipart.proofs.Common.{ap, keyed, sym, ◌∙◌}
 use Rattle.multipart.proofs.Keyed.{keyed_empty}
+use Rattle.multipart.specs.Index.{keyed}
+use Rattle.std.proofs.Common.{ap, sym, ◌∙◌}
 use Rattle.multipart.proofs.uploads.Uploads.new.Goals as goal
 
 pub invariant_of-result : goal.invariant_of-result

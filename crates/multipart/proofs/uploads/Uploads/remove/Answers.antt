@@ -1,6 +1,7 @@
-use Rattle.multipart.proofs.Common.{ap, keyed, sym, ◌∙◌}
-use Rattle.std.specs.FinMap as fin
 use Rattle.multipart.proofs.Keyed.{keyed_remove}
+use Rattle.multipart.specs.Index.{keyed}
+use Rattle.std.proofs.Common.{ap, sym, ◌∙◌}
+use Rattle.std.specs.FinMap as fin
 use Rattle.multipart.proofs.uploads.Uploads.remove.Goals as goal
 
 pub invariant_of-self : goal.invariant_of-self

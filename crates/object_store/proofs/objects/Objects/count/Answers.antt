@@ -1,7 +1,11 @@
-use Rattle.object_store.proofs.Common.{Held, ap, len_viewed, sym, text_total, ◌∙◌}
+use Rattle.basics.proofs.Viewed.{len_viewed}
+use Rattle.basics.specs.Order.{text_total}
+use Rattle.object_store.specs.declared.objects.Held.{Held}
+use Rattle.std.proofs.Common.{ap, sym, ◌∙◌}
 use Rattle.std.specs.FinMap as map
 use Rattle.object_store.proofs.objects.Objects.count.Goals as goal
 
 pub returns : goal.returns
 returns c =
-    c.len.ensures.len ∙ sym (len_viewed (λ (h : Held). h.object) text_total c.self.inside.held.entries c.len.ensures.ordered) ∙ ap map.len c.self.view_is
+    c.len.ensures.len ∙ sym (len_viewed (λ (h : Held). h.object) text_total c.self.inside.held.entries c.len.ensures.ordered) ∙ ap map.len
+    c.self.view_is

@@ -1,4 +1,5 @@
-use Rattle.object_store.proofs.Common.{drop, without, ◌≡◌}
+use Rattle.s3_types.specs.Answer.{without}
+use Rattle.std.proofs.Common.{drop, ◌≡◌}
 use Rattle.object_store.proofs.objects.Objects.delete_many.Given as goal
 
 -- what is left to remove, removed, leaves what all of them leave

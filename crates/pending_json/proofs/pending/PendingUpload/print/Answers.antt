@@ -1,5 +1,5 @@
-use Rattle.basics.proofs.Common.{IfOk-weaker}
 use Rattle.pending_json.proofs.Sent.{pending_written}
+use Rattle.std.proofs.lemmas.Result.{IfOk-weaker}
 use Rattle.pending_json.proofs.pending.PendingUpload.print.Goals as goal
 
 pub returns : goal.returns

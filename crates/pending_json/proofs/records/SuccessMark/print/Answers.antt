@@ -1,5 +1,5 @@
-use Rattle.basics.proofs.Common.{IfOk-weaker}
 use Rattle.pending_json.proofs.Sent.{mark_written}
+use Rattle.std.proofs.lemmas.Result.{IfOk-weaker}
 use Rattle.pending_json.proofs.records.SuccessMark.print.Goals as goal
 
 pub returns : goal.returns

@@ -1,5 +1,5 @@
-use Rattle.basics.proofs.Common.{on_ok_weaker}
-use Rattle.pending_json.proofs.Sent.{text_is, whole_is, uploads_are, set_sent}
+use Rattle.pending_json.proofs.Sent.{set_sent, text_is, uploads_are, whole_is}
+use Rattle.std.proofs.lemmas.Result.{on_ok_weaker}
 use Rattle.pending_json.proofs.sending.PendingSetSerialize.serialize.Goals as goal
 
 pub returns : goal.returns

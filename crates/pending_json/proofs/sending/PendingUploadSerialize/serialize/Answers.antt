@@ -1,11 +1,15 @@
-use Rattle.pending_json.proofs.Common.{ap, cond, is_some, on_ok_weaker, some_mapped, sym, version_of, ◌∙◌, ◌≡◌}
-use Rattle.pending_json.proofs.Sent.{text_is, whole_is, tags_are, sizes_are, begun_with, upload_sent}
+use Rattle.basics.proofs.Options.{some_mapped}
+use Rattle.pending_json.proofs.Sent.{begun_with, sizes_are, tags_are, text_is, upload_sent, whole_is}
+use Rattle.pending_json.specs.Trees.{version_of}
+use Rattle.std.proofs.Common.{ap, cond, is_some, sym, ◌∙◌, ◌≡◌}
+use Rattle.std.proofs.lemmas.Result.{on_ok_weaker}
 use Rattle.pending_json.proofs.sending.PendingUploadSerialize.serialize.Goals as goal
 
 pub returns : goal.returns
 returns g c =
     let p = c.args.self.now in
-    let sized : c.is_some-sized.result ≡ is_some p.sizes = c.is_some-sized.ensures ∙ sym (some_mapped (λ s. s.now) c.sizes-sizes.result) ∙ ap is_some c.sizes-sizes.ensures.value in
+    let sized : c.is_some-sized.result ≡ is_some p.sizes = c.is_some-sized.ensures ∙ sym (some_mapped (λ s. s.now) c.sizes-sizes.result) ∙
+    ap is_some c.sizes-sizes.ensures.value in
     on_ok_weaker c.end_map.result (upload_sent p _ _ _ _ _ _ _ _ _ _ _ _
     (whole_is _ _ _ _ _ (c.from.ensures ∙ c.attempt.ensures) c.in_ok-send_whole.ensures)
     (text_is _ _ _ _ _ (c.as_str.ensures ∙ c.as_text.ensures.text ∙ c.bucket.ensures) c.in_ok-send_text.ensures)

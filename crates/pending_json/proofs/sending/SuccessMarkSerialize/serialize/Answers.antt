@@ -1,5 +1,6 @@
-use Rattle.pending_json.proofs.Common.{ap, cond, on_ok_weaker, ◌∙◌}
-use Rattle.pending_json.proofs.Sent.{text_is, texts_are, begun_with, mark_sent}
+use Rattle.pending_json.proofs.Sent.{begun_with, mark_sent, text_is, texts_are}
+use Rattle.std.proofs.Common.{ap, cond, ◌∙◌}
+use Rattle.std.proofs.lemmas.Result.{on_ok_weaker}
 use Rattle.pending_json.proofs.sending.SuccessMarkSerialize.serialize.Goals as goal
 
 pub returns : goal.returns

@@ -1,7 +1,10 @@
-use Rattle.s3_service.proofs.Common.{ap, get_made, sym, text_total, ◌∙◌}
+use Rattle.basics.proofs.Tree.{get_made}
+use Rattle.basics.specs.Order.{text_total}
+use Rattle.std.proofs.Common.{ap, sym, ◌∙◌}
 use Rattle.std.specs.FinMap as map
 use Rattle.s3_service.proofs.buckets.Buckets.get.Goals as goal
 
 pub returns : goal.returns
 returns c =
-    c.get.ensures.value ∙ sym (get_made text_total c.self.inside.held.entries c.args.name.now) ∙ ap (λ m. map.get m c.args.name.now) c.self.view_is
+    c.get.ensures.value ∙ sym (get_made text_total c.self.inside.held.entries c.args.name.now) ∙ ap (λ m. map.get m c.args.name.now)
+    c.self.view_is

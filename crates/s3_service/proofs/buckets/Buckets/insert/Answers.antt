@@ -1,8 +1,12 @@
-use Rattle.s3_service.proofs.Common.{ap, exact_bytes, made_insert, text_total, ◌∙◌}
+use Rattle.basics.proofs.Tree.{made_insert}
+use Rattle.basics.specs.Order.{text_total}
+use Rattle.std.proofs.Common.{ap, ◌∙◌}
+use Rattle.std.proofs.lemmas.Map.Lookups.{exact_bytes}
 use Rattle.std.specs.FinMap as map
 use Rattle.s3_service.proofs.buckets.Buckets.insert.Goals as goal
 
 pub returns-clause-ok : goal.returns-clause-ok
 returns-clause-ok c =
-    made_insert text_total exact_bytes c.self.inside.held.entries c.insert.new.self.entries c.args.name c.args.bucket c.in_ok-insert.ensures.updates.0
+    made_insert text_total exact_bytes c.self.inside.held.entries c.insert.new.self.entries c.args.name c.args.bucket
+    c.in_ok-insert.ensures.updates.0
     ∙ ap (λ m. map.insert m c.args.name c.args.bucket) c.self.view_is

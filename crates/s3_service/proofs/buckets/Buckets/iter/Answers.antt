@@ -1,4 +1,6 @@
-use Rattle.s3_service.proofs.Common.{ap, entries_made, sym, text_total, ◌∙◌}
+use Rattle.basics.proofs.Tree.{entries_made}
+use Rattle.basics.specs.Order.{text_total}
+use Rattle.std.proofs.Common.{ap, sym, ◌∙◌}
 use Rattle.std.specs.FinMap as map
 use Rattle.s3_service.proofs.buckets.Buckets.iter.Goals as goal
 

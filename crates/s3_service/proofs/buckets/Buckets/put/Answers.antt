@@ -1,15 +1,29 @@
-use Rattle.s3_service.proofs.Common.{BTreeMap, BucketContent, IsSome, List, None, Option, ap, refl, subst, sym, text_cmp, with_objects, ℕ, ◌∙◌}
+use Rattle.basics.specs.Order.{text_cmp}
+use Rattle.s3_service.proofs.Changed.{absent, found, unwritten, written}
+use Rattle.s3_types.specs.Answer.{with_objects}
+use Rattle.s3_types.specs.Store.{BucketContent}
+use Rattle.std.proofs.Common.{List, None, Option, ap, refl, subst, sym, ℕ, ◌∙◌}
+use Rattle.std.specs.BTreeMap.{BTreeMap}
+use Rattle.std.specs.Option.{IsSome}
 use Rattle.std.specs.FinMap as map
-use Rattle.s3_service.proofs.Changed.{found, absent, written, unwritten}
 use Rattle.s3_service.proofs.buckets.Buckets.put.Goals as goal
 
 pub returns-in_default-clause-ok : goal.returns-in_default-clause-ok
 returns-in_default-clause-ok c =
     ap (λ (t : BTreeMap (List ℕ) BucketContent). map.from_entries {R = text_cmp} t.entries) c.get_mut.follows.holds-at-none ∙ c.self.view_is
-    ∙ sym (absent c.args.self.now c.args.name.now (λ b. with_objects b (map.insert b.objects c.args.key.now (record { bytes = c.args.bytes.now; header = c.args.header }))) (found c.self.inside.held.entries c.args.self.now c.args.name.now c.self.view_is None c.in_default.ensures.value))
+    ∙ sym (absent c.args.self.now c.args.name.now (λ b. with_objects b (map.insert b.objects c.args.key.now
+    (record { bytes = c.args.bytes.now; header = c.args.header }))) (found c.self.inside.held.entries c.args.self.now c.args.name.now
+    c.self.view_is None c.in_default.ensures.value))
 
 pub returns-in-Ok-clause-ok : goal.returns-in-Ok-clause-ok
-returns-in-Ok-clause-ok c = written c.self.inside.held.entries c.args.self.now c.args.name.now c.self.view_is (c.get_mut.follows.lender c.put.new.self).entries c.put.new.self c.in-Some.bucket.now c.in-Some.ensures.value ((c.get_mut.follows.holds c.put.new.self).3 (subst (λ (o : Option BucketContent). IsSome o) c.in-Some.ensures.value refl)).0 (λ b. with_objects b (map.insert b.objects c.args.key.now (record { bytes = c.args.bytes.now; header = c.args.header }))) c.in-Ok.ensures.ok
+returns-in-Ok-clause-ok c = written c.self.inside.held.entries c.args.self.now c.args.name.now c.self.view_is
+    (c.get_mut.follows.lender c.put.new.self).entries c.put.new.self c.in-Some.bucket.now c.in-Some.ensures.value
+    ((c.get_mut.follows.holds c.put.new.self).3 (subst (λ (o : Option BucketContent). IsSome o) c.in-Some.ensures.value refl)).0
+    (λ b. with_objects b (map.insert b.objects c.args.key.now (record { bytes = c.args.bytes.now; header = c.args.header })))
+    c.in-Ok.ensures.ok
 
 pub returns-in-Err-clause-err : goal.returns-in-Err-clause-err
-returns-in-Err-clause-err c = unwritten c.self.inside.held.entries c.args.self.now c.args.name.now c.self.view_is (c.get_mut.follows.lender c.put.new.self).entries c.put.new.self c.in-Some.bucket.now c.in-Some.ensures.value ((c.get_mut.follows.holds c.put.new.self).3 (subst (λ (o : Option BucketContent). IsSome o) c.in-Some.ensures.value refl)).0 c.in-Err.ensures.err
+returns-in-Err-clause-err c = unwritten c.self.inside.held.entries c.args.self.now c.args.name.now c.self.view_is
+    (c.get_mut.follows.lender c.put.new.self).entries c.put.new.self c.in-Some.bucket.now c.in-Some.ensures.value
+    ((c.get_mut.follows.holds c.put.new.self).3 (subst (λ (o : Option BucketContent). IsSome o) c.in-Some.ensures.value refl)).0
+    c.in-Err.ensures.err

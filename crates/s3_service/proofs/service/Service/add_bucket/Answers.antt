@@ -1,5 +1,7 @@
-use Rattle.s3_service.proofs.Common.{AreBelow, Buckets, arith, subst, sym, ◌≤◌}
 use Rattle.s3_service.proofs.Below.{below_insert, next_below}
+use Rattle.s3_service.specs.Ids.{AreBelow}
+use Rattle.s3_types.specs.Store.{Buckets}
+use Rattle.std.proofs.Common.{arith, subst, sym, ◌≤◌}
 use Rattle.s3_service.proofs.service.Service.add_bucket.Goals as goal
 
 pub invariant_of-self-2 : goal.invariant_of-self-2

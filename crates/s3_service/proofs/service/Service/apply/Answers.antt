@@ -1,5 +1,6 @@
-use Rattle.s3_service.proofs.Common.{AreBelow, subst, sym, ℕ}
 use Rattle.s3_service.proofs.Below.{kept_below}
+use Rattle.s3_service.specs.Ids.{AreBelow}
+use Rattle.std.proofs.Common.{subst, sym, ℕ}
 use Rattle.s3_service.proofs.service.Service.apply.Goals as goal
 
 pub invariant_of-self : goal.invariant_of-self

@@ -1,5 +1,6 @@
-use Rattle.s3_service.proofs.Common.{PutObject, refl}
 use Rattle.s3_service.proofs.Below.{put_below}
+use Rattle.s3_types.specs.declared.request.Request.TheVariants.{PutObject}
+use Rattle.std.proofs.Common.{refl}
 use Rattle.s3_service.proofs.service.Service.follow.Goals as goal
 
 pub invariant_of-self : goal.invariant_of-self

@@ -1,5 +1,7 @@
-use Rattle.s3_service.proofs.Common.{AreBelow, BucketContent, Buckets, IsFresh, arith, subst, sym, ◌≤◌}
 use Rattle.s3_service.proofs.Below.{below_insert, new_fresh}
+use Rattle.s3_service.specs.Ids.{AreBelow, IsFresh}
+use Rattle.s3_types.specs.Store.{BucketContent, Buckets}
+use Rattle.std.proofs.Common.{arith, subst, sym, ◌≤◌}
 use Rattle.s3_service.proofs.service.Service.make.Goals as goal
 
 pub invariant_of-self-2 : goal.invariant_of-self-2

@@ -1,12 +1,19 @@
-use Rattle.s3_service.proofs.Common.{BucketContent, Content, IsNext, List, ap, filter_all, next_of, option_copied, option_map, rules, slice_get, subst, sym, ℕ, ◌∙◌, ◌≡◌}
-use Rattle.std.specs.FinMap as fin
+use Rattle.basics.proofs.Tree.{filter_all}
 use Rattle.s3_service.proofs.Next.{is_next}
+use Rattle.s3_service.specs.Next.{IsNext, next_of}
+use Rattle.s3_types.specs.Store.{BucketContent, Content}
+use Rattle.std.proofs.Common.{List, ap, rules, subst, sym, ℕ, ◌∙◌, ◌≡◌}
+use Rattle.std.specs.List.{slice_get}
+use Rattle.std.specs.Option.{option_copied, option_map}
+use Rattle.std.specs.FinMap as fin
 use Rattle.s3_service.proofs.service.Service.next_bucket.Goals as goal
 
 pub returns-in-Some-clause-rest : goal.returns-in-Some-clause-rest
 returns-in-Some-clause-rest c =
-    let next : option_map {U = List ℕ × BucketContent} (λ b. (b.name.now, record { objects = b.objects.now; uploads = b.uploads.now })) c.first_from.result ≡ next_of (option_copied c.args.after) c.args.self.now.buckets = search rules in
-    subst (IsNext (option_copied c.args.after) c.args.self.now.buckets) (sym next) (is_next (option_copied c.args.after) c.args.self.now.buckets)
+    let next : option_map {U = List ℕ × BucketContent} (λ b. (b.name.now, record { objects = b.objects.now; uploads = b.uploads.now }))
+    c.first_from.result ≡ next_of (option_copied c.args.after) c.args.self.now.buckets = search rules in
+    subst (IsNext (option_copied c.args.after) c.args.self.now.buckets) (sym next)
+    (is_next (option_copied c.args.after) c.args.self.now.buckets)
 
 pub returns-in-None-clause-next : goal.returns-in-None-clause-next
 returns-in-None-clause-next c =
@@ -17,4 +24,5 @@ returns-in-None-clause-next c =
 
 pub returns-in-None-clause-rest : goal.returns-in-None-clause-rest
 returns-in-None-clause-rest c =
-    subst (IsNext (option_copied c.args.after) c.args.self.now.buckets) (sym (returns-in-None-clause-next c)) (is_next (option_copied c.args.after) c.args.self.now.buckets)
+    subst (IsNext (option_copied c.args.after) c.args.self.now.buckets) (sym (returns-in-None-clause-next c))
+    (is_next (option_copied c.args.after) c.args.self.now.buckets)

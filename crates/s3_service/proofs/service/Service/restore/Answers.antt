@@ -1,5 +1,7 @@
-use Rattle.s3_service.proofs.Common.{AreBelow, Buckets, subst, sym}
 use Rattle.s3_service.proofs.Below.{none_below}
+use Rattle.s3_service.specs.Ids.{AreBelow}
+use Rattle.s3_types.specs.Store.{Buckets}
+use Rattle.std.proofs.Common.{subst, sym}
 use Rattle.s3_service.proofs.service.Service.restore.Goals as goal
 
 pub invariant_of-result : goal.invariant_of-result

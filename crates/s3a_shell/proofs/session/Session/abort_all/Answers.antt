@@ -1,8 +1,10 @@
-use Rattle.s3a_shell.proofs.Common.{UploadRef, [], ap, sym, take, take_more, ◌++◌, ◌+◌, ◌∙◌, ◌∷◌}
-use Rattle.s3a_shell.specs.Uploading.{aborts}
-use Rattle.s3a_shell.proofs.Asking.{in_take, one_more}
+use Rattle.s3_types.specs.declared.request.UploadRef.{UploadRef}
 use Rattle.s3a_shell.proofs.Aborting.{more_aborted, sent_more}
+use Rattle.s3a_shell.proofs.Asking.{in_take, one_more}
 use Rattle.s3a_shell.proofs.Few.{few_more}
+use Rattle.s3a_shell.specs.Uploading.{aborts}
+use Rattle.std.proofs.Common.{ap, sym, take, [], ◌++◌, ◌+◌, ◌∙◌, ◌∷◌}
+use Rattle.std.proofs.lemmas.List.{take_more}
 use Rattle.s3a_shell.proofs.session.Session.abort_all.Goals as goal
 
 pub loop-upload-preserved : goal.loop-upload-preserved

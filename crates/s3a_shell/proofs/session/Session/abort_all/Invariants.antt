@@ -1,7 +1,7 @@
 use Rattle.s3a_shell.specs.Asking.{OnOne}
-use Rattle.s3a_shell.specs.Sendings.{AtMost}
-use Rattle.s3a_shell.specs.Uploading.{aborts}
-use Rattle.s3a_shell.proofs.Common.{AfterSome, Asked, Sent, after_aborts, take, ◌≡◌}
+use Rattle.s3a_shell.specs.Sendings.{Asked, AtMost, Sent}
+use Rattle.s3a_shell.specs.Uploading.{AfterSome, aborts, after_aborts}
+use Rattle.std.proofs.Common.{take, ◌≡◌}
 use Rattle.s3a_shell.proofs.session.Session.abort_all.Given as goal
 
 abbrev pub invariant-loop-upload : goal.invariant-loop-upload

@@ -11,14 +11,18 @@ pub returns-in_ok-aborted_line-in-Some-clause-did :
     goal.returns-in_ok-aborted_line-in-Some-clause-did
 returns-in_ok-aborted_line-in-Some-clause-did c =
     let e = c.in_ok-live_uploads.ensures in
-    did_abort c.args.path.now c.args.self.now.store.scene c.live_uploads.new.self.store.scene c.abort_all.new.self.store.scene c.in_ok-live_uploads.field-0 c.in-Some.found c.as_slice.result.now c.bucket.result.now c.in_ok-aborted_line-in-Some.field-0 c.len.result
-    c.fine.result e.found c.in-Some.is c.as_slice.ensures c.bucket.ensures e.same c.in_ok-abort_all-in-Some.ensures.scene c.len.ensures c.in_ok-aborted_line-in-Some.ensures c.fine.ensures
+    did_abort c.args.path.now c.args.self.now.store.scene c.live_uploads.new.self.store.scene c.abort_all.new.self.store.scene
+    c.in_ok-live_uploads.field-0 c.in-Some.found c.as_slice.result.now c.bucket.result.now c.in_ok-aborted_line-in-Some.field-0
+    c.len.result
+    c.fine.result e.found c.in-Some.is c.as_slice.ensures c.bucket.ensures e.same c.in_ok-abort_all-in-Some.ensures.scene c.len.ensures
+    c.in_ok-aborted_line-in-Some.ensures c.fine.ensures
 
 pub returns-in_ok-aborted_line-in-Some-clause-sent :
     goal.returns-in_ok-aborted_line-in-Some-clause-sent
 returns-in_ok-aborted_line-in-Some-clause-sent c =
     let e = c.in_ok-live_uploads.ensures in
-    sent_some c.args.path.now c.args.self.now.store.scene c.in_ok-live_uploads.field-0 c.in-Some.found c.as_slice.result.now c.bucket.result.now c.args.self.now c.live_uploads.new.self c.abort_all.new.self
+    sent_some c.args.path.now c.args.self.now.store.scene c.in_ok-live_uploads.field-0 c.in-Some.found c.as_slice.result.now
+    c.bucket.result.now c.args.self.now c.live_uploads.new.self c.abort_all.new.self
     e.found c.in-Some.is c.as_slice.ensures c.bucket.ensures e.same refl e.sent c.in_ok-abort_all-in-Some.ensures.sent
 
 pub returns-in_ok-aborted_line-in-Some-clause-asked :

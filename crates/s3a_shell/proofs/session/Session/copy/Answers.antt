@@ -1,12 +1,11 @@
-use Rattle.s3a_shell.proofs.Common.{Route, route, said_of_copy, subst}
-use Rattle.copy_tree.specs.Public.{CopiesIn, StandsCopied}
-use Rattle.s3a_shell.proofs.Joining.{sent_as}
-use Rattle.s3a_shell.proofs.Performing.{between_if, sent, on_ok}
+use Rattle.copy_tree.specs.Public.{CopiesIn, CopySends, StandsCopied, most_copies}
+use Rattle.fs_rename.specs.Between.{Route}
 use Rattle.s3a_shell.proofs.Asking.{between_asked}
-use Rattle.copy_tree.specs.Public.{CopySends}
-use Rattle.s3a_shell.proofs.Performing.{asked}
 use Rattle.s3a_shell.proofs.Few.{between_few}
-use Rattle.copy_tree.specs.Public.{most_copies}
+use Rattle.s3a_shell.proofs.Joining.{sent_as}
+use Rattle.s3a_shell.proofs.Performing.{asked, between_if, on_ok, sent}
+use Rattle.s3a_shell.specs.Moving.{route, said_of_copy}
+use Rattle.std.proofs.Common.{subst}
 use Rattle.s3a_shell.proofs.session.Session.copy.Goals as goal
 
 pub returns-in-Ok-clause-did : goal.returns-in-Ok-clause-did
@@ -20,7 +19,8 @@ pub returns-in-Ok-clause-sent : goal.returns-in-Ok-clause-sent
 returns-in-Ok-clause-sent c =
     let z = c.args.self.now.store.scene in
     on_ok c.copy_said.result
-    (sent_as (StandsCopied c.in_ok-copy.copy z) (StandsCopied (route c.args.from.now c.args.to.now) z) _ _ (λ s h. subst (λ (r : Route). StandsCopied r z s) c.in_ok-copy.ensures h)
+    (sent_as (StandsCopied c.in_ok-copy.copy z) (StandsCopied (route c.args.from.now c.args.to.now) z) _ _
+    (λ s h. subst (λ (r : Route). StandsCopied r z s) c.in_ok-copy.ensures h)
     (sent _ _ _ _ _ c.requires c.in-Ok.ensures.performed))
 
 pub returns-in-Ok-clause-asked : goal.returns-in-Ok-clause-asked

@@ -18,7 +18,8 @@ pub returns-then-as_slice-gt-MOST_INPUT-clause-sent :
     goal.returns-then-as_slice-gt-MOST_INPUT-clause-sent
 returns-then-as_slice-gt-MOST_INPUT-clause-sent c =
     let z = c.args.self.now.store.scene in
-    on_ok c.refusing.result (sent_none (FileOrNot c.args.policy c.args.path.now c.args.bytes.now z) c.args.self.now c.requires (none_stands c.args.policy c.args.path.now c.args.bytes.now z))
+    on_ok c.refusing.result (sent_none (FileOrNot c.args.policy c.args.path.now c.args.bytes.now z) c.args.self.now c.requires
+    (none_stands c.args.policy c.args.path.now c.args.bytes.now z))
 
 pub returns-then-as_slice-gt-MOST_INPUT-clause-asked :
     goal.returns-then-as_slice-gt-MOST_INPUT-clause-asked

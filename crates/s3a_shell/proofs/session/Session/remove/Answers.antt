@@ -1,13 +1,15 @@
+use Rattle.fs_ops.specs.code.Delete.{Deletion}
 use Rattle.s3a_shell.proofs.Asking.{deletion_asked, deletion_sent}
+use Rattle.s3a_shell.proofs.Few.{delete_left, few_at}
 use Rattle.s3a_shell.proofs.Performing.{deleted_at, on_ok}
-use Rattle.s3a_shell.proofs.Few.{few_at, delete_left}
-use Rattle.fs_ops.specs.code.Delete as delete
 use Rattle.s3a_shell.specs.Most.{count_below}
-use Rattle.s3a_shell.proofs.Common.{Deletion, ◌*◌, ◌+◌}
+use Rattle.std.proofs.Common.{◌*◌, ◌+◌}
+use Rattle.fs_ops.specs.code.Delete as delete
 use Rattle.s3a_shell.proofs.session.Session.remove.Goals as goal
 
 pub returns-clause-did : goal.returns-clause-did
-returns-clause-did c = deleted_at c.args.path.now c.args.recursive _ _ _ c.in_ok-answer.answer c.nothing_said.result c.in_ok-deletion.ensures.deletion c.in_ok-deletion.ensures.key c.in_ok-answer.ensures.given c.nothing_said.ensures
+returns-clause-did c = deleted_at c.args.path.now c.args.recursive _ _ _ c.in_ok-answer.answer c.nothing_said.result
+    c.in_ok-deletion.ensures.deletion c.in_ok-deletion.ensures.key c.in_ok-answer.ensures.given c.nothing_said.ensures
 
 pub returns-clause-sent : goal.returns-clause-sent
 returns-clause-sent c =

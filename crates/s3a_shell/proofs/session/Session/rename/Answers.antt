@@ -1,12 +1,11 @@
-use Rattle.s3a_shell.proofs.Common.{Route, route, said_of_move, subst}
-use Rattle.fs_rename.specs.Public.{RenamesIn, StandsWhole}
-use Rattle.s3a_shell.proofs.Joining.{sent_as}
-use Rattle.s3a_shell.proofs.Performing.{between_if, sent, on_ok}
+use Rattle.fs_rename.specs.Between.{Route}
+use Rattle.fs_rename.specs.Public.{RenameSends, RenamesIn, StandsWhole, most_moves}
 use Rattle.s3a_shell.proofs.Asking.{between_asked}
-use Rattle.fs_rename.specs.Public.{RenameSends}
-use Rattle.s3a_shell.proofs.Performing.{asked}
 use Rattle.s3a_shell.proofs.Few.{between_few}
-use Rattle.fs_rename.specs.Public.{most_moves}
+use Rattle.s3a_shell.proofs.Joining.{sent_as}
+use Rattle.s3a_shell.proofs.Performing.{asked, between_if, on_ok, sent}
+use Rattle.s3a_shell.specs.Moving.{route, said_of_move}
+use Rattle.std.proofs.Common.{subst}
 use Rattle.s3a_shell.proofs.session.Session.rename.Goals as goal
 
 pub returns-in-Ok-clause-did : goal.returns-in-Ok-clause-did
@@ -20,7 +19,8 @@ pub returns-in-Ok-clause-sent : goal.returns-in-Ok-clause-sent
 returns-in-Ok-clause-sent c =
     let z = c.args.self.now.store.scene in
     on_ok c.move_said.result
-    (sent_as (StandsWhole c.in_ok-rename.rename z) (StandsWhole (route c.args.from.now c.args.to.now) z) _ _ (λ s h. subst (λ (r : Route). StandsWhole r z s) c.in_ok-rename.ensures h)
+    (sent_as (StandsWhole c.in_ok-rename.rename z) (StandsWhole (route c.args.from.now c.args.to.now) z) _ _
+    (λ s h. subst (λ (r : Route). StandsWhole r z s) c.in_ok-rename.ensures h)
     (sent _ _ _ _ _ c.requires c.in-Ok.ensures.performed))
 
 pub returns-in-Ok-clause-asked : goal.returns-in-Ok-clause-asked

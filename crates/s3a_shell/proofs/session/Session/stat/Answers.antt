@@ -1,19 +1,23 @@
-use Rattle.s3a_shell.proofs.Common.{Stats, looks_there, status_line}
-use Rattle.s3a_shell.proofs.Looking.{looked_same}
-use Rattle.s3a_shell.proofs.Performing.{did_at, on_ok, sent_still}
+use Rattle.fs_ops.proofs.AtPathLaws.{looks_there}
+use Rattle.fs_tree.specs.Answers.{Stats}
 use Rattle.s3a_shell.proofs.Asking.{looked}
 use Rattle.s3a_shell.proofs.Few.{few_at, path_left}
+use Rattle.s3a_shell.proofs.Looking.{looked_same}
+use Rattle.s3a_shell.proofs.Performing.{did_at, on_ok, sent_still}
+use Rattle.s3a_shell.specs.Texts.{status_line}
 use Rattle.fs_ops.specs.code.AtPath as at_path
 use Rattle.s3a_shell.proofs.session.Session.stat.Goals as goal
 
 pub returns-clause-did : goal.returns-clause-did
-returns-clause-did c = did_at c.args.path.now Stats status_line _ _ _ c.in_ok-answer.answer c.status_said.result c.in_ok-stat.ensures c.in_ok-answer.ensures.given c.status_said.ensures
+returns-clause-did c = did_at c.args.path.now Stats status_line _ _ _ c.in_ok-answer.answer c.status_said.result c.in_ok-stat.ensures
+    c.in_ok-answer.ensures.given c.status_said.ensures
 
 pub returns-clause-sent : goal.returns-clause-sent
 returns-clause-sent c = on_ok c.status_said.result (sent_still c.args.path.now.bucket _ _ c.in_ok-answer.ensures.sent)
 
 pub returns-clause-looks : goal.returns-clause-looks
-returns-clause-looks c = on_ok c.status_said.result (looked_same c.args.path.now.bucket _ c.args.self.now.store.scene c.args.self.now c.perform_at.new.self (looks_there c.in_ok-stat.stat) c.in_ok-answer.ensures.asked)
+returns-clause-looks c = on_ok c.status_said.result (looked_same c.args.path.now.bucket _ c.args.self.now.store.scene c.args.self.now
+    c.perform_at.new.self (looks_there c.in_ok-stat.stat) c.in_ok-answer.ensures.asked)
 
 pub returns-clause-asked : goal.returns-clause-asked
 returns-clause-asked c = on_ok c.status_said.result

@@ -1,6 +1,8 @@
-use Rattle.s3a_shell.specs.Asking.{lists, OnOne}
-use Rattle.s3a_shell.specs.Sendings.{AtMost}
-use Rattle.s3a_shell.proofs.Common.{Asked, IsStill, Sent, asked_lines, drop, has_changed, string_bytes, ◌++◌, ◌≡◌}
+use Rattle.bucket_ops.specs.Uploads.{IsStill}
+use Rattle.s3a_shell.specs.Asking.{OnOne, lists}
+use Rattle.s3a_shell.specs.Sendings.{Asked, AtMost, Sent, has_changed}
+use Rattle.s3a_shell.specs.Uploading.{asked_lines}
+use Rattle.std.proofs.Common.{drop, string_bytes, ◌++◌, ◌≡◌}
 use Rattle.s3a_shell.proofs.session.Session.upload_lines.Given as goal
 
 abbrev pub invariant-loop-upload : goal.invariant-loop-upload
@@ -10,5 +12,6 @@ invariant-loop-upload l = record {
   few : AtMost l.upload-index l.fn.self l.self;
   asked : Asked (OnOne lists l.bucket l.uploads) l.fn.self l.self;
   sent : Sent (IsStill l.fn.self.store.scene) l.fn.self l.self;
-  text : string_bytes l.lines ++ asked_lines l.fn.self.store.scene l.bucket (drop l.upload-index l.uploads) ≡ asked_lines l.fn.self.store.scene l.bucket l.uploads;
+  text : string_bytes l.lines ++ asked_lines l.fn.self.store.scene l.bucket (drop l.upload-index l.uploads) ≡ asked_lines
+      l.fn.self.store.scene l.bucket l.uploads;
 }

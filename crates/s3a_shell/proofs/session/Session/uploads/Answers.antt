@@ -13,12 +13,15 @@ pub returns-in_ok-upload_lines-in-Some-clause-did :
 returns-in_ok-upload_lines-in-Some-clause-did c =
     let e = c.in_ok-live_uploads.ensures in
     let f = c.in_ok-upload_lines-in-Some.ensures in
-    did_list c.args.path.now c.args.self.now.store.scene c.live_uploads.new.self.store.scene c.upload_lines.new.self.store.scene c.in_ok-live_uploads.field-0 c.in-Some.found c.as_slice.result.now c.bucket.result.now c.in_ok-upload_lines-in-Some.field-0 c.fine.result
+    did_list c.args.path.now c.args.self.now.store.scene c.live_uploads.new.self.store.scene c.upload_lines.new.self.store.scene
+    c.in_ok-live_uploads.field-0 c.in-Some.found c.as_slice.result.now c.bucket.result.now c.in_ok-upload_lines-in-Some.field-0
+    c.fine.result
     e.found c.in-Some.is c.as_slice.ensures c.bucket.ensures e.same f.same f.lines c.fine.ensures
 
 pub returns-in_ok-upload_lines-in-Some-clause-sent :
     goal.returns-in_ok-upload_lines-in-Some-clause-sent
-returns-in_ok-upload_lines-in-Some-clause-sent c = still_both _ _ _ c.in_ok-live_uploads.ensures.same c.in_ok-live_uploads.ensures.sent c.in_ok-upload_lines-in-Some.ensures.sent
+returns-in_ok-upload_lines-in-Some-clause-sent c = still_both _ _ _ c.in_ok-live_uploads.ensures.same c.in_ok-live_uploads.ensures.sent
+    c.in_ok-upload_lines-in-Some.ensures.sent
 
 pub returns-in_ok-upload_lines-in-Some-clause-looks :
     goal.returns-in_ok-upload_lines-in-Some-clause-looks

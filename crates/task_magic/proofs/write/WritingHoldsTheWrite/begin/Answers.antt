@@ -1,6 +1,7 @@
-use Rattle.task_magic.proofs.Common.{ap, write_by, ◌∙◌}
-use Rattle.task_requests.specs.declared.stage.WriteStage.TheVariants.{Creating}
+use Rattle.std.proofs.Common.{ap, ◌∙◌}
 use Rattle.task_magic.proofs.Whole.{start_is}
+use Rattle.task_requests.specs.Writing.{write_by}
+use Rattle.task_requests.specs.declared.stage.WriteStage.TheVariants.{Creating}
 use Rattle.task_magic.proofs.write.WritingHoldsTheWrite.begin.Goals as goal
 
 pub returns-clause-start : goal.returns-clause-start

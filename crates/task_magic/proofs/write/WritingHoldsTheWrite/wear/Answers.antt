@@ -1,7 +1,8 @@
-use Rattle.task_magic.proofs.Common.{ap, operation_of, ◌∙◌}
+use Rattle.std.proofs.Common.{ap, ◌∙◌}
 use Rattle.task_machines.specs.Tasks.{at}
-use Rattle.task_magic.specs.declared.write.Writing.{Writing}
 use Rattle.task_magic.proofs.Whole.{worn_told}
+use Rattle.task_magic.specs.Writing.{operation_of}
+use Rattle.task_magic.specs.declared.write.Writing.{Writing}
 use Rattle.task_magic.proofs.write.WritingHoldsTheWrite.wear.Goals as goal
 
 pub returns-clause-told : goal.returns-clause-told

@@ -1,5 +1,6 @@
-use Rattle.task_staging.proofs.Common.{abort_by, ap, ◌∙◌}
+use Rattle.std.proofs.Common.{ap, ◌∙◌}
 use Rattle.task_staging.proofs.Undone.{start_is}
+use Rattle.task_staging.specs.Undoing.{abort_by}
 use Rattle.task_staging.proofs.undoing.UndoingHoldsTheAbort.begin.Goals as goal
 
 pub returns-clause-start : goal.returns-clause-start

@@ -1,4 +1,6 @@
-use Rattle.task_staging.proofs.Common.{ap, at, write_wants}
+use Rattle.job_protocol.specs.AtWork.{write_wants}
+use Rattle.std.proofs.Common.{ap}
+use Rattle.task_machines.specs.Tasks.{at}
 use Rattle.job_protocol.specs.Writes as writes
 use Rattle.task_staging.proofs.write.KeepingHoldsTheWrite.ask.Goals as goal
 

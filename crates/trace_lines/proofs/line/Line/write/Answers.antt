@@ -1,5 +1,5 @@
-use Rattle.std.proofs.Common.{ap, string_bytes, ◌++◌, [], ◌∷◌, ◌∙◌}
-use Rattle.basics.proofs.Common.{on_ok_weaker}
+use Rattle.std.proofs.Common.{ap, string_bytes, [], ◌++◌, ◌∙◌, ◌∷◌}
+use Rattle.std.proofs.lemmas.Result.{on_ok_weaker}
 use Rattle.trace_lines.proofs.Sent.{line_written}
 use Rattle.trace_lines.proofs.line.Line.write.Goals as goal
 

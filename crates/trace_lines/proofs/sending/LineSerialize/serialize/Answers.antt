@@ -1,6 +1,6 @@
-use Rattle.std.proofs.Common.{rules}
-use Rattle.basics.proofs.Common.{on_ok_weaker}
 use Rattle.serde.proofs.Events.{WritesEach-more}
+use Rattle.std.proofs.Common.{rules}
+use Rattle.std.proofs.lemmas.Result.{on_ok_weaker}
 use Rattle.trace_lines.proofs.Sent.{SendsMember, line_sent}
 use Rattle.trace_lines.proofs.sending.LineSerialize.serialize.Goals as goal
 

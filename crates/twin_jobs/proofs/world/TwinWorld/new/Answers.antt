@@ -1,5 +1,8 @@
-use Rattle.twin_jobs.proofs.Common.{List, Side, Twins, ap, begun, length, sides_in, subst, sym, ◌+◌, ◌<◌, ◌^◌, ◌∙◌}
-use Rattle.twin_jobs.proofs.Starting.{few_asked, pair_rests, pair_begun}
+use Rattle.std.proofs.Common.{List, ap, length, subst, sym, ◌+◌, ◌<◌, ◌^◌, ◌∙◌}
+use Rattle.twin_jobs.proofs.Starting.{few_asked, pair_begun, pair_rests}
+use Rattle.twin_jobs.specs.Worlds.{begun}
+use Rattle.twin_script.specs.TwinScripts.{Twins, sides_in}
+use Rattle.twin_script.specs.declared.turns.Side.{Side}
 use Rattle.twin_jobs.proofs.world.TwinWorld.new.Goals as goal
 
 pub paired-requires : goal.paired-requires
@@ -13,11 +16,15 @@ paired-requires g c =
 
 pub invariant_of-result : goal.invariant_of-result
 invariant_of-result g c =
-    pair_rests g.W.Acts.wants g.W.Works.is_of g.W.Works.running g.W.Works.picks_of _ c.twins.invariant c.args.service c.requires.few c.next_upload.ensures.below
-    c.in-Ok-new.shared c.in-Ok-new.ensures.first c.in-Ok-new.ensures.opening c.in-Ok.sides.items (c.in-Ok.ensures ∙ ap sides_in c.as_slice.ensures) c.in_ok-pair.pair c.in_ok-pair.ensures
+    pair_rests g.W.Acts.wants g.W.Works.is_of g.W.Works.running g.W.Works.picks_of _ c.twins.invariant c.args.service c.requires.few
+    c.next_upload.ensures.below
+    c.in-Ok-new.shared c.in-Ok-new.ensures.first c.in-Ok-new.ensures.opening c.in-Ok.sides.items
+    (c.in-Ok.ensures ∙ ap sides_in c.as_slice.ensures) c.in_ok-pair.pair c.in_ok-pair.ensures
 
 pub returns : goal.returns
 returns g c =
-    pair_begun g.W.Acts.wants g.W.Works.is_of g.W.Works.running g.W.Works.picks_of _ c.twins.invariant c.args.service c.requires.few c.next_upload.ensures.below
-    c.in-Ok-new.shared c.in-Ok-new.ensures.first c.in-Ok-new.ensures.opening c.in-Ok.sides.items (c.in-Ok.ensures ∙ ap sides_in c.as_slice.ensures) c.in_ok-pair.pair c.in_ok-pair.ensures
+    pair_begun g.W.Acts.wants g.W.Works.is_of g.W.Works.running g.W.Works.picks_of _ c.twins.invariant c.args.service c.requires.few
+    c.next_upload.ensures.below
+    c.in-Ok-new.shared c.in-Ok-new.ensures.first c.in-Ok-new.ensures.opening c.in-Ok.sides.items
+    (c.in-Ok.ensures ∙ ap sides_in c.as_slice.ensures) c.in_ok-pair.pair c.in_ok-pair.ensures
     ∙ ap (λ (t : Twins). begun t c.args.service) c.twins.view_is
