@@ -1,4 +1,4 @@
--- The operations of a job's actors go on as the script has it.
+-- The operations of a job's actors go on as the script says.
 use Rattle.actor_operations.proofs.Checking.{check_goes, sparing_asks_same, sparing_goes, until_at}
 use Rattle.actor_operations.proofs.Going.{abort_tells, attempts_ask, attempts_go, clean_goes, driver_goes, setup_goes, task_commit_tells}
 use Rattle.actor_operations.proofs.Going.{write_tells}
@@ -80,7 +80,7 @@ goes g a k (Checked x) o h asks so = both _ _ _ _ (checked_goes g a x.check x.co
 stays : (g : Setting) (a : Actor) (act : Act) (o : Outcome) → IsOf g a act → IsOf g a (tells_of act o)
 stays g a act o h = grind arith
 
--- ---- its end, and what its plan tells then
+-- ---- its end, and its plan after that
 
 ends : (k : Known) (act : Act) → end_of act ≡ over (running_of k act).operation
 ends k act = grind arith

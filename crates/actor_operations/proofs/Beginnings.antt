@@ -55,7 +55,7 @@ begins_setup j g _ r k e = absurd e
 
 -- ---- an abort or clean
 
--- by the partitions that are reported
+-- The abort or clean, by the reported partitions.
 cleaning : (j : Job) (dirs : Option (List (List ℕ))) (g : Setting) (k : Known) → is_some dirs ≡ g.shared → j ≡ job_of g.script
     → IsOf g Driver (clean_by j dirs) × (protocol.clean_of g ≡ (running_of k (clean_by j dirs)).operation)
     × ((running_of k (clean_by j dirs)).known ≡ k)
@@ -74,7 +74,7 @@ begins_clean j x = record { clean = begins_cleaning j x ops.Clean (λ g r k. ref
 
 -- ---- the job's commit
 
--- the commit is without a check where a task is missing, and else behind one
+-- The commit has no check if a task is missing, and else comes after one.
 module _ (j : Job) (reported : List ℕ) (dirs : List (List ℕ)) (c : Committing) (is : c ≡ start j (least_missing j.tasks reported)) where
   pub alone_missing : is_missing (commit_over c.operation) ≡ true
       → Commit c ≡ commit_by j reported (Some dirs) Fail (least_missing j.tasks reported)
@@ -84,7 +84,7 @@ module _ (j : Job) (reported : List ℕ) (dirs : List (List ℕ)) (c : Committin
       → Checked (record { check = until_clear t; commit = c }) ≡ commit_by j reported (Some dirs) Fail (least_missing j.tasks reported)
   checked_whole h t g = grind arith
 
--- the operation goes by the job's plan, and is this
+-- The operation has the job's plan, and is this one.
 record Goes (g : Setting) (k : Known) (op : protocol.Operation) (act : Act) : Type 0 where
   is_of : IsOf g Driver act
   same : op ≡ (running_of k act).operation
@@ -99,7 +99,7 @@ begins_commit j x = grind (arith, commit_begins)
 
 -- ---- an attempt's
 
--- where an attempt begins so, whoever has the plan does
+-- If an attempt begins so, whoever has its plan does.
 by_attempt : (op : Op) (t : Task) (act : Act) → ((g : Setting) (a : Who) (r : Reports) → t ≡ task_of g.script g.minimum a t.known
     → Begun g (actor_of a) op r t.known act) → BeginsTask op t act
 by_attempt op t act f g Driver r k h = absurd h
@@ -109,7 +109,7 @@ by_attempt op t act f g (Attempt task attempt) r k h =
     let known : t.known ≡ k = ap (λ x. x.known) h in
     subst (λ x. Begun g (actor_of a) op r x act) known (f g a r (subst (λ x. t ≡ task_of g.script g.minimum a x) (sym known) h))
 
--- nothing of its first request was sent
+-- Its first request was never sent.
 known_first : {O : Type 0} (wants : Attempting O → Option Request) (t : Task) (o : O)
     → known_now wants (unsent t.job.retries (record { plan = t; operation = o })) ≡ t.known
 known_first wants t o = ap (λ b. cond b (learn_of (task_script t) (who_of t) t.known (wants (record { plan = t; operation = o }))
@@ -138,7 +138,7 @@ begins_commit_task t = by_attempt ops.Commit t (commit_task_of t) (λ g a r h. r
 pub begins_abort_task : (t : Task) → BeginsTask ops.Abort t (abort_task_of t)
 begins_abort_task t = grind arith
 
--- ---- whatever is as it begins
+-- ---- operations as they begin
 
 pub setup_begun : (j : Job) (act : Act) → act ≡ setup_of j → BeginsSetup j act
 setup_begun j act e = subst (λ x. BeginsSetup j x) (sym e) (begins_setup j)
@@ -158,7 +158,7 @@ clean_begun j x act e = subst (λ a. BeginsClean j x a) (sym e) (begins_clean j 
 
 -- ---- the driver's, as the script begins them
 
--- it begins so by whatever script gives the plan
+-- The driver begins so for each script that gives the plan.
 abbrev pub StartsBy : Op → Job → Reported → Act → Type 0
 StartsBy op j x act = (g : Setting) (a : Actor) (k : Known) (r : Reports) → IsReport g a op x r → IsLegal g.script
     → IsPlanOf g a k (plans.Job j) → Starts IsOf running_of picks_of g a op r k act

@@ -1,4 +1,4 @@
--- What an attempt has left is not raised by a request that puts nothing below its directory.
+-- A request that puts nothing below an attempt's directory does not raise the bound on the sends that the attempt has left.
 use Rattle.actor_operations.specs.Beside.{AttemptsStay, PutsNone}
 use Rattle.basics.proofs.Less.{lt}
 use Rattle.basics.proofs.Naturals.{no_more_times}
@@ -37,7 +37,7 @@ use Rattle.std.specs.FinMap as fin
 use Rattle.job_protocol.specs.TaskCommits as commits
 
 module _ {K X : Type 0} (R : K → K → Ordering) (t : K × X → Bool) where
-  -- one is put that does not pass, as none of its key does
+  -- Putting a value whose key and value pass no test does not raise the count.
   count_put_other : (k : K) (v : X) → t (k, v) ≡ false → ((q : K) → R k q ≡ Equal → t (q, v) ≡ false) → (es : List (K × X))
       → count t (put R k v es) ≤ count t es
   count_put_other k v own none [] = let e : one (t (k, v)) ≡ 0 = ap one own in omega (arith, count_more t (k, v) [], e)

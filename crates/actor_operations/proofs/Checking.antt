@@ -1,4 +1,4 @@
--- A job's commit behind its check goes as the script's, and so does a sparing abort or clean.
+-- A job's commit after its check goes on as the script's does, and so does a sparing abort or clean.
 use Rattle.actor_operations.specs.Acts.{stepped, until_clear}
 use Rattle.actor_operations.specs.Plans.{checked_at, counted}
 use Rattle.conflict.specs.Rechecks.{PlannedCheck, check_told}
@@ -30,7 +30,7 @@ sparing_goes w o i = ap (λ x. record { plan = job_of w; operation = x }) (spari
 check_same : (w : Script) (o : Check) (i : Item) → check_after (job_script (job_of w)) o i ≡ check_after w o i
 check_same w o i = grind arith
 
--- ---- a check under its retries
+-- ---- a check with its retries
 
 check_at : (w : Script) (m : PlannedCheck) (i : Item) → m.plan.job ≡ job_of w → (check_told m i).operation ≡ check_after w m.operation i
 check_at w m i e = ap (λ j. check_after (job_script j) m.operation i) e ∙ check_same w m.operation i
@@ -53,7 +53,7 @@ module _ (w : Script) where
 
 -- ---- the check until it is clear
 
--- once it is clear the commit is the operation
+-- After the check is clear, the commit is the operation.
 pub until_at : (g : Setting) (t : Retrying PlannedCheck) (c : Committing) → c.operation ≡ commit_start g.script None
     → after_check g (counted t.spare t.repeated t.machine.operation) ≡ checked_at (until_clear t) c
 until_at g t c e = grind arith

@@ -1,4 +1,4 @@
--- Machines under their retries go as the operations of the script.
+-- Machines with their retries go on as the operations of the script do.
 use Rattle.actor_operations.specs.Acts.{stepped}
 use Rattle.actor_operations.specs.Plans.{counted, known_now}
 use Rattle.job_model.specs.Attempts.{Who}
@@ -24,16 +24,16 @@ use Rattle.job_protocol.specs.Writes as writes
 use Rattle.job_protocol.specs.TaskCommits as commits
 use Rattle.job_protocol.specs.TaskAborts as aborts
 
--- ---- what is learned of sendings that got no answer
+-- ---- what sends without an answer teach
 
--- a slow one tells what a lost one does
+-- A slow send teaches what a lost one teaches.
 slow : (w : Script) (a : Who) (k : Known) (q : Option Request) → learn_of w a k q Slow ≡ learn_of w a k q RequestLost
 slow w a k q = grind arith
 
 hidden : (w : Script) (a : Who) (k : Known) (q : Option Request) → learn_of w a k q ReplyLost ≡ learn_of w a k q RequestLost
 hidden w a k q = grind arith
 
--- a plan tells what is learned
+-- A plan gives the script by which a send teaches.
 learn_of_by : (w : Script) (n : ℕ) (a : Who) (j k : Known) (q : Option Request) (o : Outcome)
     → learn_of (task_script (task_of w n a j)) a k q o ≡ learn_of w a k q o
 learn_of_by w n a j k q o = grind arith
@@ -44,7 +44,7 @@ learn_of_by w n a j k q o = grind arith
 abbrev pub at : {O : Type 0} → Script → ℕ → Who → Known → O → Attempting O
 at w n a k o = record { plan = task_of w n a k; operation = o }
 
--- a machine's operation asks and goes on as the script's
+-- A machine's operation sends and goes on as the script's operation does.
 pub record Tells {O : Type 0} (w : Script) (n : ℕ) (a : Who) (wants : Attempting O → Option Request)
     (told : Attempting O → Item → Attempting O) (asks : Known → O → Option Request) (after : O → Item → O) : Type 0 where
   pub wanted : (k l : Known) (o : O) → l.drawn ≡ k.drawn → asks l o ≡ wants (at w n a k o)
@@ -53,7 +53,7 @@ pub record Tells {O : Type 0} (w : Script) (n : ℕ) (a : Who) (wants : Attempti
   pub worn : (k : Known) (o : O) → told (at w n a k o) WornOut ≡ at w n a (learn_of w a k (wants (at w n a k o)) RequestLost)
       (after o WornOut)
 
--- what is known now
+-- What is known now.
 abbrev now : {O : Type 0} → Script → ℕ → Who → (Attempting O → Option Request) → ℕ → ℕ → Known → O → Known
 now w n a wants retries spare k o = cond (nat_lt spare retries) (learn_of w a k (wants (at w n a k o)) RequestLost) k
 
@@ -72,7 +72,7 @@ pub drawn_by : (w : Script) (a : Who) (k : Known) (q : Option Request) (b : Bool
     → (cond b (learn_of w a k q RequestLost) k).drawn ≡ k.drawn
 drawn_by w a k q b = grind arith
 
--- an operation and what is known, as one sending leaves them
+-- An operation, and what is known, after one send.
 pub record Same {O : Type 0} (w : Script) (a : Who) (wants : Attempting O → Option Request) (asks : Known → O → Option Request)
     (after : O → Item → O) (t t' : Retrying (Attempting O)) (out : Outcome) : Type 0 where
   pub operation : counted t'.spare t'.repeated t'.machine.operation ≡ step w.retries after (counted t.spare t.repeated t.machine.operation)
@@ -81,7 +81,7 @@ pub record Same {O : Type 0} (w : Script) (a : Who) (wants : Attempting O → Op
 
 module _ {O : Type 0} {w : Script} {n : ℕ} {a : Who} {wants : Attempting O → Option Request} {told : Attempting O → Item → Attempting O}
     {asks : Known → O → Option Request} {after : O → Item → O} (h : Tells w n a wants told asks after) where
-  -- what is known before, and the request
+  -- What is known before, and the request.
   known_before : (retries spare : ℕ) (repeated : Bool) (k : Known) (o : O) (out : Outcome)
       → learn_of w a (known_now wants (machine_at retries spare repeated (at w n a k o)))
       (asks (known_now wants (machine_at retries spare repeated (at w n a k o))) o) out ≡ learn_of w a k (wants (at w n a k o)) out
@@ -98,7 +98,7 @@ module _ {O : Type 0} {w : Script} {n : ℕ} {a : Who} {wants : Attempting O →
         known = grind (arith, nat_tests, before, h.got k o, h.worn k o, slow w a k q, hidden w a k q, learn_of_by w n a k k q RequestLost);
       }
 
-  -- a machine by the plan that the script gives
+  -- A machine with the plan that the script gives goes on as the script says.
   pub attempts_go : (t : Retrying (Attempting O)) (out : Outcome) → t.machine.plan ≡ task_of w n a t.machine.plan.known
       → t.retries ≡ w.retries → t.spare ≤ t.retries → Same w a wants asks after t (stepped told t out) out
   attempts_go t out p r le =
@@ -119,7 +119,7 @@ module _ {O : Type 0} {w : Script} {n : ℕ} {a : Who} {wants : Attempting O →
       (stepped told (machine_at x t.spare t.repeated (at w n a t.machine.plan.known t.machine.operation)) out) out) (sym r)
       (goes_at t.spare t.repeated t.machine.plan.known t.machine.operation out (subst (λ x. t.spare ≤ x) r le)))
 
-  -- and it asks what the script asks
+  -- It sends the request that the script's operation sends.
   pub attempts_ask : (t : Retrying (Attempting O)) → t.machine.plan ≡ task_of w n a t.machine.plan.known
       → wants t.machine ≡ asks (known_now wants t) t.machine.operation
   attempts_ask t p =
@@ -137,7 +137,7 @@ module _ {O : Type 0} {w : Script} {n : ℕ} {a : Who} {wants : Attempting O →
 
 -- ---- the three operations of an attempt
 
--- an operation that is asked and goes on by its plan as by the script
+-- An operation with its plan that sends and goes on as with the script.
 tells_by : {O : Type 0} (w : Script) (n : ℕ) (a : Who) (wants : Attempting O → Option Request) (told : Attempting O → Item → Attempting O)
     (asks : Known → O → Option Request) (after : O → Item → O)
     → ((k l : Known) (o : O) → l.drawn ≡ k.drawn → asks l o ≡ wants (at w n a k o))

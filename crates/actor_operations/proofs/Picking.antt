@@ -1,4 +1,4 @@
--- What a job's operations have picked, beside what is seen.
+-- The attempts that a job's operations have chosen, and those that `see` derives from the entries.
 use Rattle.actor_operations.proofs.WorksGo.{asked_of, behind}
 use Rattle.actor_operations.specs.Acts.{tells_of}
 use Rattle.actor_operations.specs.Plans.{IsAttempt, IsOf, picks_of, running_of}
@@ -43,12 +43,12 @@ use Rattle.job_protocol.specs.Cleanups as cleans
 use Rattle.job_protocol.specs.Rechecks as checks
 use Rattle.job_protocol.specs.Sparing as sparings
 
--- ---- the job's commit has picks
+-- ---- the chosen attempts of the job's commit
 
 pub act_has_picks : (k : Known) (work : Act) → is_some (picks_of work) ≡ is_job_commit (running_of k work).operation
 act_has_picks k work = grind arith
 
--- ---- they are those that are seen
+-- ---- they are those that `see` derives
 
 from_more : (t : ℕ) (picked : List ℕ) (a : ℕ) → picks_from t (picked ++ a ∷ []) ≡ picks_from t picked ++ record
     { task = t + length picked; attempt = a } ∷ []
@@ -68,7 +68,7 @@ read_kept picked o = grind (arith, from_length, from_more)
 kept : (picked : List ℕ) (c : JobCommit) (o : Outcome) → picks_then (picks_from 0 picked) c o ≡ picks_from 0 (picked_after picked c o)
 kept picked c o = grind (arith, read_kept)
 
--- ---- any other operation leaves them
+-- ---- any other operation does not change them
 
 setup_reads : (w v : Script) (op : setups.Setup) (r : Request) → setup_asks v op ≡ Some r → (t : ℕ) → is_reading w t r ≡ false
 setup_reads w v op r e t = grind arith
@@ -81,7 +81,7 @@ check_reads : (w v : Script) (op : checks.Check) (r : Request) → checks.check_
 check_reads w v op r e t = grind arith
 
 module _ (w : Script) (k : Times) (s : Seen) (n : ℕ) (r : Request) where
-  -- what is seen of the picks after the request
+  -- The chosen attempts that `see` derives are the same after the request.
   abbrev Leaves : Actor → Outcome → Type 0
   Leaves a o = (see w k s (record { event = n; actor = a; request = r; outcome = o })).picks ≡ s.picks
 
@@ -91,7 +91,7 @@ module _ (w : Script) (k : Times) (s : Seen) (n : ℕ) (r : Request) where
     | _ ↦ refl
   ])
 
-  -- once an abort or clean has begun nothing is picked
+  -- After an abort or clean has begun, no attempt is chosen.
   closed_leaves : (a : Actor) → a ≡ Driver → is_begun k.clean n ≡ true → (o : Outcome) → Leaves a o
   closed_leaves a is begun o =
       let off : is_picking k s.begun n ≡ false = grind arith in
@@ -108,7 +108,7 @@ module _ (g : Setting) (opening : Content) (x : Play) (a : Actor) where
   abbrev w : Script
   w = g.script
 
-  -- a driver's that reads no set
+  -- A request of the driver that reads no set.
   reads_none : (e : Entry) → e.actor ≡ a → a ≡ Driver → ((t : ℕ) → is_reading g.script t e.request ≡ false) → LeavesPicks g opening x e
   reads_none e is driver none = λ xs ahead. picks_stay w opening x.journal e xs
       (λ s. driver_leaves w (times w xs) s e.event e.request e.actor (is ∙ driver) none e.outcome)
@@ -117,7 +117,7 @@ module _ (g : Setting) (opening : Content) (x : Play) (a : Actor) where
   by_attempt e is attempt = λ xs ahead. picks_stay w opening x.journal e xs (λ s. attempt_leaves w (times w xs) s e.event e.request e.actor
       (subst IsAttempt (sym is) attempt) e.outcome)
 
-  -- a sparing abort or clean may read sets, and picks none
+  -- A sparing abort or clean may read sets, but chooses no attempts.
   spares : (t : Retrying (Driving sparings.Sparing)) → IsAt IsOf running_of g opening x a (Sparing t) → (e : Entry) → e.actor ≡ a
       → MaySend g opening x e → LeavesPicks g opening x e
   spares t at e is may = λ xs ahead.
@@ -134,7 +134,7 @@ pub act_leaves : (g : Setting) (opening : Content) (x : Play) (a : Actor) (work 
     → picks_of work ≡ None → (e : Entry) → e.actor ≡ a → MaySend g opening x e → LeavesPicks g opening x e
 act_leaves g opening x a work h f e p q = grind (arith, reads_none, setup_reads, asked_of, clean_reads, spares, by_attempt)
 
--- ---- after a sending
+-- ---- after a send
 
 module _ (g : Setting) (opening : Content) (x : Play) (a : Actor) where
   commit_picks : (c : Committing) → IsAt IsOf running_of g opening x a (Commit c) → ArePicksOf g opening x (picks_from 0 c.picked)
@@ -146,7 +146,7 @@ module _ (g : Setting) (opening : Content) (x : Play) (a : Actor) where
       (picks_from 0 c.picked) has e (is ∙ driver) may in
       subst (ArePicksOf g opening (happen g x (Sends e))) (kept c.picked c.operation e.outcome) go_on
 
-  -- its check leaves them
+  -- Its check does not change them.
   checked_picks : (o : Option (Retrying PlannedCheck)) (c : Committing)
       → IsAt IsOf running_of g opening x a (Checked (record { check = o; commit = c })) → ArePicksOf g opening x (picks_from 0 c.picked)
       → (e : Entry) → e.actor ≡ a → MaySend g opening x e

@@ -1,4 +1,4 @@
--- Operations as they are told outcomes, and what want of memory leaves of them.
+-- Operations after outcomes, and after memory ran out.
 use Rattle.actor_operations.specs.Acts.{checked_end, checked_wants, end_of, is_clear, under, until_clear, wants_of}
 use Rattle.actor_operations.specs.declared.act.Act.TheVariants.{AbortTask, Clean, Commit, CommitTask, Setup, Sparing, Write}
 use Rattle.commit_laws.specs.Fitting.{without_memory}
@@ -22,7 +22,7 @@ use Rattle.job_protocol.specs.Cleanups as cleans
 use Rattle.job_protocol.specs.Rechecks as checks
 use Rattle.job_protocol.specs.Sparing as sparings
 
--- a machine by its counter and its retries
+-- A machine from its counter and its retries.
 pub whole : {M : Type 0} (t : Retrying M) (x : Retried M) (retries : ℕ) → retried t ≡ x → t.retries ≡ retries → t ≡ under retries x
 whole t x retries e r = ap (λ n. record { machine = t.machine; retries = n; spare = t.spare; repeated = t.repeated }) r ∙ ap (under retries)
     e
@@ -38,7 +38,7 @@ past_clear t e = ap (λ b. cond b None (Some t)) e
 pub not_clear : (t : Retrying PlannedCheck) → is_clear (checks.check_over t.machine.operation) ≡ false → until_clear t ≡ Some t
 not_clear t e = ap (λ b. cond b None (Some t)) e
 
--- ---- where memory was wanting
+-- ---- after memory ran out
 
 pub setup_wanting : (t u : Retrying (Driving setups.Setup)) → u.machine ≡ setup_told t.machine OutOfMemory
     → EndsWanting (wants_of (Setup u)) (end_of (Setup u))
@@ -79,6 +79,6 @@ pub check_wanting : (t u : Retrying PlannedCheck) (c : Committing) → u.machine
 check_wanting t u c e = subst (λ m. EndsWanting (check_wants m) (option_map ends.Check (checks.check_over m.operation))) (sym e)
     (record { none = refl; wanting = refl })
 
--- once its check is clear
+-- The same after its check is clear.
 pub behind_wanting : (c d : Committing) → d ≡ without_memory c → EndsWanting (checked_wants None d) (checked_end None d)
 behind_wanting c d e = commit_wanting c d e

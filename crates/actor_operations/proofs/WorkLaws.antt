@@ -1,4 +1,4 @@
--- What operations of a job's actors owe to a world.
+-- The laws of a job's operations that a world uses.
 use Rattle.actor_operations.proofs.Picking.{act_has_picks, act_leaves, act_picks}
 use Rattle.actor_operations.proofs.WorksBeside.{beside}
 use Rattle.actor_operations.proofs.WorksDue.{due}

@@ -1,4 +1,5 @@
--- What a job's actor has left beside the requests of the others: an attempt's is not raised, and the driver's by no more than so much.
+-- The sends that a job's actor has left, among requests of the others. These never raise an attempt's bound, and raise the driver's by at
+-- most `rise`.
 use Rattle.actor_operations.proofs.ActorsGo.{checked_plan}
 use Rattle.actor_operations.proofs.Beside.{attempts_stay}
 use Rattle.actor_operations.proofs.WorksDue.{by_attempt, fine_at}
@@ -72,7 +73,7 @@ use Rattle.actor_operations.specs.declared.act.Act.TheVariants as acts
 
 -- ---- keys that are apart from an attempt's directory
 
--- what adds no key
+-- A request that adds no key.
 adds_none : (p : List ℕ) (r : Request) → adds_key r ≡ false → PutsNone p r
 adds_none p r e adds k i = absurd (false_true e adds)
 
@@ -81,7 +82,7 @@ puts_apart : (p : List ℕ) (r : Request) (bucket key bytes : List ℕ) (header 
 puts_apart p r bucket key bytes header is out = subst (PutsNone p) is (λ adds k i. elim i
     [ inl e ↦ ap (begins p) e ∙ out | inr none ↦ absurd none ])
 
--- a task's set is in no attempt's directory
+-- The key of a task's set is in no attempt's directory.
 set_apart : (w : Script) (a : Who) (t : ℕ) → begins (attempt_prefix w a) (set_key w.dest.key w.job t) ≡ false
 set_apart w a t =
     let rest = decimal a.task ++ (codes "_" ++ (decimal a.attempt ++ codes "/__base")) in
@@ -155,7 +156,7 @@ module _ (w : Script) (b : Who) where
   check_none : (t : checks.Check) (r : Request) → checks.check_asks w t ≡ Some r → FreeOf r
   check_none t r q = adds_none (attempt_prefix w b) r (grind arith)
 
-  -- what the driver puts in its bucket is not below the job's magic directory
+  -- A key that the driver puts in its bucket is not below the job's magic directory.
   driving_none : (r : Request) → IsDriving w r → bucket_of r ≡ w.dest.bucket → FreeOf r
   driving_none r drives bucket adds k i = elim (true_or_false (begins (attempt_prefix w b) k)) [
     | inr out ↦ out
@@ -181,9 +182,9 @@ module _ (w : Script) (b : Who) where
         [ inl is ↦ adds_none (attempt_prefix w b) z (ap adds_key is) | inr is ↦ adds_none (attempt_prefix w b) z (ap adds_key is) ])
     job_none (CommitOver end) v r q = absurd (none_some refl q)
 
--- ---- what adds a key
+-- ---- requests that add a key
 
--- of attempts only a magic one adds keys
+-- Of the attempts, only those of a magic job add keys.
 write_adds : (w : Script) (minimum : ℕ) (a : Who) (k l : Known) (t : writes.Write) → FitsWrite w minimum a l t → (r : Request)
     → writes.write_asks w a k t ≡ Some r → adds_key r ≡ true → is_magic w.committer ≡ true
 write_adds w minimum a k l t h r g e = grind arith
@@ -199,13 +200,13 @@ abort_adds w a t r q e = grind arith
 is_magic_so : (c : Committer) → is_magic c ≡ true → c ≡ Magic
 is_magic_so c e = grind arith
 
--- the commit of a magic job deletes nothing, and so nothing raises what it has left
+-- The commit of a magic job deletes nothing, and so nothing raises its bound.
 magic_calm : (j : Job) (c : Commit) → j.committer ≡ Magic
     → ((sets : Sets) (p : List ℕ) (ps : List (List ℕ)) (t : Sweep) (n : ℕ) → c ≡ Replacing sets p ps t n → ⊥)
     → commit_rise_of most_commits j c ≡ 0
 magic_calm j c h g = grind arith
 
--- nor does it begin so
+-- A magic job's commit does not begin with a deletion either.
 start_calm : (w : Script) → w.committer ≡ Magic → (c : Commit) → c ≡ commit_start w None
     → (sets : Sets) (p : List ℕ) (ps : List (List ℕ)) (t : Sweep) (n : ℕ) → c ≡ Replacing sets p ps t n → ⊥
 start_calm w magic c is sets p ps t n e = grind arith
@@ -222,11 +223,11 @@ module _ (g : Setting) (opening : Content) (x : Play) where
   abbrev At : Actor → Act → Type 0
   At a work = IsAt IsOf running_of g opening x a work
 
-  -- who is at something is an attempt of the job
+  -- An actor with an attempt's operation is an attempt of the job.
   is_attempt : (b : Who) (work : Act) → At (actor_of b) work → IsAttempt g.script b
   is_attempt b work at = (fine_at g opening x b at).0
 
-  -- the commit's, behind its check
+  -- The same for a job's commit after its check.
   commit_free : (c : Who) (b : Actor) (m : Committing) → At b (acts.Commit m) → (r : Request) → wants_of (acts.Commit m) ≡ Some r
       → PutsNone (attempt_prefix g.script c) r
   commit_free c b m at r e =
@@ -274,7 +275,7 @@ module _ (g : Setting) (opening : Content) (x : Play) where
       → PutsNone (attempt_prefix g.script c) r → PutsNone (below t) r
   below_is_own c t k e r h = subst (λ v. PutsNone (below v) r) (sym e) h
 
-  -- another actor than the driver adds a key in a magic job alone
+  -- Another actor than the driver adds a key only in a magic job.
   other_adds : (b : Actor) (other : Act) → At b other → (b ≡ Driver → ⊥) → (r : Request) → wants_of other ≡ Some r → adds_key r ≡ true
       → is_magic g.script.committer ≡ true
   other_adds b (acts.Commit c) at ne r e adds = absurd (ne at.goes_by.0)
@@ -292,7 +293,7 @@ module _ (g : Setting) (opening : Content) (x : Play) where
       abort_adds g.script o.0 t.machine.operation r (sym (asks g opening x (actor_of o.0) (acts.AbortTask t) o.2) ∙ e) adds
   other_adds b _ at ne r e adds = absurd (ne at.goes_by.actor)
 
-  -- what another actor asks raises nothing of a commit that in a magic job deletes nothing
+  -- A request of another actor does not raise the bound of a commit that deletes nothing in a magic job.
   rises_none : (b : Actor) (other : Act) → At b other → (b ≡ Driver → ⊥) → (r : Request) → wants_of other ≡ Some r → (j : Job) (c : Commit)
       → j ≡ job_of g.script
       → (g.script.committer ≡ Magic → (sets : Sets) (p : List ℕ) (ps : List (List ℕ)) (t : Sweep) (n : ℕ) → c ≡ Replacing sets p ps t n → ⊥)
@@ -326,7 +327,7 @@ less k n h = omega (arith, h)
 none_most : (n most : ℕ) → n ≡ 0 → n ≤ most
 none_most n most e = omega (arith, e)
 
--- so many times the sendings of a request are no more than the most
+-- At most this many times the sends of one request.
 fewer : (k n : ℕ) (w : Script) → k ≤ 3 + most_commits → n ≡ w.retries → k * (n + 1) ≤ rise w
 fewer k n w h e = subst (λ v. k * (v + 1) ≤ rise w) (sym e) (no_more_times k (3 + most_commits) w.retries h)
 

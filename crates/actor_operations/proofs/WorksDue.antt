@@ -1,4 +1,4 @@
--- Each outcome that is due to what a job's actor asks fits.
+-- Each outcome that a job's actor must expect for its request fits.
 use Rattle.actor_operations.proofs.Going.{drawn_by}
 use Rattle.actor_operations.proofs.WorksFew.{reads_few}
 use Rattle.actor_operations.proofs.WorksGo.{asks, behind, commit_at, few_now}
@@ -57,13 +57,13 @@ use Rattle.job_protocol.specs.Cleanups as cleans
 use Rattle.job_protocol.specs.Sparing as sparings
 use Rattle.job_traces.proofs.Running as running
 
--- what is due to a machine's request fits it under its retries
+-- The answer that S3 must give to a machine's request fits the machine with its retries.
 outcome_fits : {M : Type 0} (wants : M → Option Request) (fits : M → Reply → Bool → Type 0) (t : Retrying M) (s : Scene)
     → FitsDue wants fits t.machine s → (r : Request) (o : Outcome) → wants t.machine ≡ Some r → IsHonestOutcome o (answer s r)
     → FitsOutcome fits t o
 outcome_fits wants fits t s h r o g e = grind arith
 
--- the same at another plan
+-- The same with an equal plan.
 driving_by : {O : Type 0} (wants : Driving O → Option Request) (fits : Driving O → Reply → Bool → Type 0) (m : Driving O) (j : Job)
     (s : Scene) → m.plan ≡ j → FitsDue wants fits (record { plan = j; operation = m.operation }) s → FitsDue wants fits m s
 driving_by wants fits m j s e h = subst (λ p. FitsDue wants fits (record { plan = p; operation = m.operation }) s) (sym e) h
@@ -72,7 +72,7 @@ attempting_by : {O : Type 0} (wants : Attempting O → Option Request) (fits : A
     (t : Task) (s : Scene) → m.plan ≡ t → FitsDue wants fits (record { plan = t; operation = m.operation }) s → FitsDue wants fits m s
 attempting_by wants fits m t s e h = subst (λ p. FitsDue wants fits (record { plan = p; operation = m.operation }) s) (sym e) h
 
--- the uploads that a plan knows are those that its attempt knows now
+-- The uploads that a plan knows are those that its attempt now knows.
 drawn_is : {O : Type 0} (wants : Attempting O → Option Request) (t : Retrying (Attempting O)) (k : Known) → known_now wants t ≡ k
     → t.machine.plan.known.drawn ≡ k.drawn
 drawn_is wants t k e = sym (drawn_by (task_script t.machine.plan) (who_of t.machine.plan) t.machine.plan.known (wants t.machine)
@@ -85,7 +85,7 @@ module _ (g : Setting) (opening : Content) (x : Play) where
   abbrev Due : Act → Type 0
   Due work = DueFits wants_of FitsAct work (scene_of opening x)
 
-  -- who does an attempt's operation is an attempt
+  -- An actor that runs an attempt's operation is an attempt.
   pub by_attempt : (a : Actor) (work : Act) → (h : IsAttempt a) → At a work → (b : Who) × (a ≡ actor_of b) × At (actor_of b) work
   by_attempt a work h at = (record { task = h.0; attempt = h.1 }, h.2, subst (λ c. At c work) h.2 at)
 
@@ -93,14 +93,14 @@ module _ (g : Setting) (opening : Content) (x : Play) where
     abbrev here : Stand
     here = stand g opening x at.legal at.opens at.happened
 
-    -- what is due by the stand is due now
+    -- A fact about the answers in the derived state is a fact about the current answers.
     due_now : {M : Type 0} (wants : M → Option Request) (fits : M → Reply → Bool → Type 0) (t : Retrying M)
         → FitsDue wants fits t.machine here.seen.scene → (r : Request) (o : Outcome) → wants t.machine ≡ Some r
         → IsHonestOutcome o (answer (scene_of opening x) r) → FitsOutcome fits t o
     due_now wants fits t h r o e honest = outcome_fits wants fits t (scene_of opening x)
         (subst (FitsDue wants fits t.machine) (scene_is g opening x at.legal at.opens at.happened) h) r o e honest
 
-    -- what the driver is at
+    -- The driver's current operation.
     driver_at : a ≡ Driver → here.driver ≡ Some (running_of (knows_now g x a) work).operation
     driver_at is = driver_is g opening x at.legal at.opens at.happened a (running_of (knows_now g x a) work) is at.at
 
@@ -155,7 +155,7 @@ module _ (g : Setting) (opening : Content) (x : Play) where
       due_now at sparing_wants sparing_fits t (driving_by sparing_wants sparing_fits t.machine (job_of g.script) s.scene at.goes_by.plan
       due)
 
-  -- ---- the driver's commit behind its check
+  -- ---- the driver's commit after its check
 
   check_by : (m : PlannedCheck) (j : Job) (s : Scene) → m.plan.job ≡ j
       → FitsDue check_wants check_fits (record { plan = record { job = j; partitions = m.plan.partitions }; operation = m.operation }) s
@@ -186,7 +186,7 @@ module _ (g : Setting) (opening : Content) (x : Play) where
     pub fine_at : IsDeclared g.script b × Fits g.script g.minimum b (here at).told op
     fine_at = late_attempt.fine b op attempt_at
 
-    -- what it knows is what is told of it
+    -- The attempt's operation knows what the entries told the attempt.
     known_at : (running_of (knows_now g x (actor_of b)) work).known ≡ known (here at).told b
     known_at = (run g opening x at.legal at.opens at.happened).last b (running_of (knows_now g x (actor_of b)) work) at.at
 

@@ -1,4 +1,4 @@
--- A set that the driver reads in a legal job has no more uploads than the job has files.
+-- A set that the driver reads in a legal job has at most as many uploads as the job has files.
 use Rattle.basics.proofs.Members.{some_is}
 use Rattle.basics.specs.Members.{IsIn}
 use Rattle.cleanup.specs.SparingFits.{most_commits}
@@ -28,7 +28,7 @@ use Rattle.std.proofs.lemmas.List.{length-map}
 use Rattle.std.specs.Map.{lookup}
 use Rattle.std.specs.Option.{unwrap_or}
 
--- ---- files apart among others are no more than those
+-- ---- distinct files among others are no more than those
 
 -- the files without one of them
 abbrev without : (x : File) (ys : List File) → IsIn x ys → List File
@@ -65,7 +65,7 @@ declared_few (e ∷ es) a = grind (arith, declared_few es a)
 files_few : (w : Script) → IsLegal w → (a : Who) → length (files w a) ≤ most_commits
 files_few w h a = grind (arith, written, files_are, length-map, declared_few)
 
--- ---- a set that is read
+-- ---- a set that was read
 
 module _ (w : Script) (minimum : ℕ) (s : Scene) (last : ℕ → Option ℕ) (m : Told) (j : IsLegal w) (facts : Facts w minimum s last m)
     (few : s.content.next ≤ 2 ^ 64) where
@@ -84,7 +84,7 @@ module _ (w : Script) (minimum : ℕ) (s : Scene) (last : ℕ → Option ℕ) (m
     | inr there ↦ let o = there.set in subst (HasFew most_commits) (sym there.is_read) (commits_few (m.drawn o.by) o.by o.commits o.are)
   ]
 
-  -- by any honest outcome
+  -- A set in any honest outcome has few uploads.
   pub reads_few : (c : Commit) → FitsJobCommit w minimum m.publish_sent m.drawn c → (r : Request) → commit_asks w c ≡ Some r → (o : Outcome)
       → IsHonestOutcome o (answer s r) → ReadsFew most_commits c o
   reads_few (Fetching sets n) fits r e (Answered x) honest = subst (λ y. HasFew most_commits (set_read y))

@@ -1,4 +1,4 @@
--- The operations of a job's actors ask and go on as the script's.
+-- The operations of a job's actors send and go on as the script's do.
 use Rattle.actor_operations.proofs.ActorsGo.{actors_go}
 use Rattle.actor_operations.proofs.WorksStand.{CommitNow, commit_now, driver_is, scene_is, stand}
 use Rattle.actor_operations.specs.Acts.{end_of, tells_of, wants_of}
@@ -24,20 +24,20 @@ use Rattle.s3_types.specs.declared.request.Request.{Request}
 use Rattle.std.proofs.Common.{None, Option, Some, arith, subst, sym, ◌^◌, ◌∙◌, ◌≡◌, ◌≤◌}
 use Rattle.job_protocol.specs.Operations as operations
 
--- the store has drawn fewer ids than there are
+-- The store has given out fewer upload ids than there are.
 pub few_now : (g : Setting) (opening : Content) (x : Play) (a : Actor) (work : Act) → (at : IsAt IsOf running_of g opening x a work)
     → (stand g opening x at.legal at.opens at.happened).seen.scene.content.next ≤ 2 ^ 64
 few_now g opening x a work at = subst (λ (s : Scene). s.content.next ≤ 2 ^ 64) (sym (scene_is g opening x at.legal at.opens at.happened))
     at.few
 
--- the job's commit, with all that is asked of it
+-- The job's commit, with all the facts that it requires.
 pub commit_at : (g : Setting) (opening : Content) (x : Play) (a : Actor) (c : Committing)
     → (at : IsAt IsOf running_of g opening x a (Commit c))
     → let s = stand g opening x at.legal at.opens at.happened in CommitNow g s.seen s.told c.operation
 commit_at g opening x a c at = commit_now g opening x at.legal at.opens at.happened c.operation
     (driver_is g opening x at.legal at.opens at.happened a (running_of (knows_now g x a) (Commit c)) at.goes_by.0 at.at)
 
--- behind its check the commit is at what it is at without one
+-- After its check, the commit is in the same state as without one.
 pub behind : (g : Setting) (opening : Content) (x : Play) (a : Actor) (c : Committing)
     → IsAt IsOf running_of g opening x a (Checked (record { check = None; commit = c })) → IsAt IsOf running_of g opening x a (Commit c)
 behind g opening x a c at = record {
@@ -68,7 +68,7 @@ pub asks : (g : Setting) (opening : Content) (x : Play) (a : Actor) (work : Act)
     → wants_of work ≡ operations.wants g a (running_of (knows_now g x a) work)
 asks g opening x a work at = actors_go.wants g a (knows_now g x a) work at.goes_by (asks_so g opening x a work at)
 
--- what may be sent of an actor is what it asks
+-- A request that an actor may send is the one that its operation sends.
 pub asked_of : (g : Setting) (opening : Content) (x : Play) (a : Actor) (work : Act) → IsAt IsOf running_of g opening x a work → (e : Entry)
     → e.actor ≡ a → MaySend g opening x e → wants_of work ≡ Some e.request
 asked_of g opening x a work h e f p = grind (arith, asks)

@@ -1,4 +1,4 @@
--- Until the driver cleans up each task has a last publisher where the driver's commit reads sets.
+-- Until the driver cleans up, each task has a last publisher while the driver's commit reads sets.
 use Rattle.job_facts.specs.Standing.{HasPublished}
 use Rattle.job_facts.specs.Told.{strange_entry}
 use Rattle.job_model.specs.JobScript.{Script}
@@ -35,7 +35,7 @@ use Rattle.job_model.specs.declared.events.Op.TheVariants as ops
 
 -- ---- the driver's commit
 
--- while it reads sets, and during the check before, each task has a last publisher
+-- While the commit reads sets, each task has a last publisher.
 abbrev pub AllRead : Script → Seen → Commit → Type 0
 AllRead w s (Fetching sets n) = AllPublished w s
 AllRead w s _ = Unit {0}
@@ -121,7 +121,7 @@ module _ (g : Setting) (opening : Content) (j : IsLegal g.script) (is_opening : 
             (sym (put_other y.running e.actor then Driver ne)) before
       ]
 
-  -- while the driver's commit reads sets, and it has not cleaned up, each task has a last publisher
+  -- While the driver's commit reads sets and the driver has not cleaned up, each task has a last publisher.
   pub driver_reads : (x : Play) → Reachable g opening x → Ahead x all_ends → Unclean g opening j is_opening all_ends x
       → DriverReads w (seen_by x) (operation_of (x.running Driver))
   driver_reads x (nothing_happened) ahead clean = tt

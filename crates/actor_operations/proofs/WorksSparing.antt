@@ -1,4 +1,4 @@
--- Each answer that is due to a sparing abort or clean fits: a set that it reads names no more uploads than the job has files.
+-- Each answer that S3 must give to a sparing abort or clean fits: a set that it reads names at most as many uploads as the job has files.
 use Rattle.actor_operations.proofs.Checking.{sparing_asks_same}
 use Rattle.actor_operations.proofs.WorksFew.{commits_few}
 use Rattle.basics.proofs.Members.{some_is}
@@ -36,7 +36,7 @@ use Rattle.pending_json.specs.Reading as reading
 
 module _ (w : Script) (minimum : ℕ) (s : Scene) (last : ℕ → Option ℕ) (m : Told) (j : IsLegal w) (facts : Facts w minimum s last m)
     (few : s.content.next ≤ 2 ^ 64) where
-  -- of the set of an attempt
+  -- The set of an attempt names few uploads.
   set_few : (a : Who) (cs : List File) → AreCommits w minimum (m.drawn a) a cs → (bytes : List ℕ)
       → reading.set_of bytes ≡ Ok (files_set w a cs (knowing (m.drawn a))) → NamesFew (ClusterBytes bytes)
   set_few a cs are bytes e =
@@ -47,7 +47,7 @@ module _ (w : Script) (minimum : ℕ) (s : Scene) (last : ℕ → Option ℕ) (m
       subst (λ n. n ≤ most_commits) (sym same) most
 
   module _ (filed : Filed w s) where
-    -- of a file of the job in the cluster
+    -- A file of the job in the cluster names few uploads.
     path_few : is_staging w.committer ≡ true → (p : List ℕ) → begins (cluster_prefix w.job) p ≡ true → NamesFew (answer s (ClusterGet p))
     path_few staging p b = by (fin.get s.files p) refl
       where
@@ -63,7 +63,7 @@ module _ (w : Script) (minimum : ℕ) (s : Scene) (last : ℕ → Option ℕ) (m
               set_few x.by x.commits x.are bytes (ap reading.set_of x.text ∙ set_read j facts few x.by x.commits d x.are)
         ])
 
-    -- of an object, whatever it is
+    -- An object names few uploads, whatever it is.
     object_few : (p : List ℕ) → NamesFew (answer s (GetObject w.dest.bucket p))
     object_few p = grind arith
 

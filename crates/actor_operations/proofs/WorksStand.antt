@@ -1,4 +1,4 @@
--- What the actors of a job are at, request by request: as far as what has happened says.
+-- The operations of a job's actors, request by request, as far as the entries tell.
 use Rattle.actor_operations.proofs.WorksReported.{AllRead, DriverReads, driver_reads}
 use Rattle.actor_operations.proofs.WorksTasks.{OwnTask, own_task}
 use Rattle.basics.proofs.Members.{none_some}
@@ -38,7 +38,7 @@ no_replacing : {X : Type 0} (front : List X) (p : X) (ps : List X) → front ++ 
 no_replacing [] p ps e = cc
 no_replacing (x ∷ front) p ps e = cc
 
--- the job's commit, with all that is asked of it
+-- The job's commit, with all the facts that it requires.
 pub record CommitNow (g : Setting) (s : Seen) (m : Told) (c : Commit) : Type 0 where
   pub commits : Commits g.script g.minimum s m c
   pub stands : SetStands g.script s c
@@ -70,7 +70,7 @@ module _ (g : Setting) (opening : Content) (x : Play) (j : IsLegal g.script) (is
   good_now : Early g opening stand ⊎ Late g opening stand
   good_now = good g event opening j is_opening x.journal stand run.runs
 
-  -- where an attempt is at something the set-up is done
+  -- If an attempt runs an operation, the set-up is done.
   pub late_by : (b : Who) (op : Operation) → stand.attempts b ≡ Some op → Late g opening stand
   late_by b op at = elim good_now [ inl e ↦ absurd (none_some (e.none b) at) | inr l ↦ l ]
 
@@ -85,7 +85,7 @@ module _ (g : Setting) (opening : Content) (x : Play) (j : IsLegal g.script) (is
   setup_is : {t u : Retried Setup} → Some (TheSetup t) ≡ Some (TheSetup u) → t ≡ u
   setup_is e = cc
 
-  -- it is over, or nobody else has begun anything
+  -- The set-up is over, or nobody else has begun anything.
   pub setup_now : (t : Retried Setup) → stand.driver ≡ Some (TheSetup t) → (t.operation ≡ SetupOver setups.Done)
       ⊎ (SetsUp w stand.seen.scene.content t.operation × ((b : Who) → stand.attempts b ≡ None))
   setup_now t h = grind (arith, good_now, setup_is, At)

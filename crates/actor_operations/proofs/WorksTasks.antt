@@ -1,4 +1,4 @@
--- What attempts are at in a run: a task's commit reads records of its own files alone.
+-- The operations of attempts in a run: a task commit reads only records of its own files.
 use Rattle.basics.proofs.Members.{none_some}
 use Rattle.job_facts.proofs.Whose.{put_at}
 use Rattle.job_facts.specs.Told.{known}

@@ -1,4 +1,4 @@
--- What holds of every operation of a job's actors.
+-- Laws of every operation of a job's actors.
 use Rattle.actor_operations.specs.Acts.{FitsAct, FitsChecked, checked_end, checked_left, checked_rise, checked_told, checked_wants, end_of}
 use Rattle.actor_operations.specs.Acts.{is_clear, left_of, rise_of, sendings_left, stepped, tells_of, wants_of}
 use Rattle.actor_operations.specs.Falls.{sending_falls, sending_rises}
@@ -42,7 +42,7 @@ use Rattle.job_protocol.specs.Cleanups as cleans
 use Rattle.job_protocol.specs.Rechecks as checks
 use Rattle.job_protocol.specs.Sparing as sparings
 
--- ---- it asks exactly until it has ended
+-- ---- it has a request to send exactly until it has ended
 
 setup_goes_on : (m : Driving setups.Setup) (o : setups.Setup)
     → is_some (setup_wants (record { plan = m.plan; operation = o })) ≡ not (is_some (setups.setup_over o))
@@ -104,12 +104,12 @@ goes_on (Checked x) = checked_goes_on x.check x.commit
 
 -- ---- what is left
 
--- an honest answer is the one that is due
+-- An honest answer is the one that S3 must give.
 due_is : (o : Outcome) (due : Reply) → IsHonestOutcome o due → (a : Reply) → o ≡ Answered a → a ≡ due
 due_is (Answered b) due h a e = let k : b ≡ a = cc in sym k ∙ h
 due_is _ due h a e = absurd (cc)
 
--- a check only reads
+-- A check only reads.
 check_reads : (m : PlannedCheck) (o : checks.Check) (r : Request) → check_wants (record { plan = m.plan; operation = o }) ≡ Some r
     → only_reads r ≡ true
 check_reads m (checks.CheckOver end) r e = absurd (none_some refl e)
@@ -120,7 +120,7 @@ reads_leave s r h Slow = refl
 reads_leave s r h RequestLost = refl
 reads_leave s r h _ = reads_nothing s r h
 
--- once the check is clear only the commit is left
+-- After the check is clear, only the commit is left.
 past_check : (b : Bool) (u : Retrying PlannedCheck) (c : Committing) (s : Scene) (n : ℕ) → sendings_left check_left u s < n
     → checked_left (cond b None (Some u)) c s < n + left most_commits c s
 past_check true u c s n h = omega (arith, h)

@@ -1,4 +1,4 @@
--- What an actor of a job is at, whichever operation it is.
+-- The operation of an actor of a job, whichever it is.
 use Rattle.actor_operations.specs.declared.act.Act.{Act}
 use Rattle.actor_operations.specs.declared.act.Act.TheVariants.{AbortTask, Clean, Commit, CommitTask, Setup, Sparing, Write}
 use Rattle.actor_operations.specs.declared.checked.Checked.{Checked}
@@ -41,64 +41,64 @@ use Rattle.task_requests.specs.Writing.{write_fits, write_left}
 use Rattle.job_model.specs.declared.ends.OpEnd.TheVariants as ends
 use Rattle.actor_operations.specs.declared.act.Act.TheVariants as acts
 
--- ---- a machine under its retries
+-- ---- a machine with its retries
 
--- a machine under its retries
+-- A machine with its retries.
 abbrev pub under : {M : Type 0} → ℕ → Retried M → Retrying M
 under retries x = record { machine = x.operation; retries = retries; spare = x.spare; repeated = x.repeated }
 
--- where an outcome leads
+-- The machine after an outcome.
 abbrev pub stepped : {M : Type 0} → (M → Item → M) → Retrying M → Outcome → Retrying M
 stepped after t o = under t.retries (step t.retries after (retried t) o)
 
--- at most so many sendings are to come: each answer and each worn request may take all its sendings
+-- A bound on the sends still to come: each reply and each exhausted request may take all sends of a request.
 abbrev pub sendings_left : {M : Type 0} → (M → Scene → ℕ) → Retrying M → Scene → ℕ
 sendings_left left t s = left t.machine s * (t.retries + 1) + t.spare
 
--- ---- a job's commit behind its check, which goes on while there is one
+-- ---- a job's commit after its check
 
--- the check ended clear
+-- True if the check ended with Clear.
 abbrev pub is_clear : Option CheckEnd → Bool
 is_clear (Some Clear) = true
 is_clear _ = false
 
--- a check that is clear is no more
+-- The check, or None if it ended with Clear.
 abbrev pub until_clear : Retrying PlannedCheck → Option (Retrying PlannedCheck)
 until_clear t = cond (is_clear (check_over t.machine.operation)) None (Some t)
 
--- the request that is asked next, if one is
+-- The request that is sent next, if there is one.
 abbrev pub checked_wants : Option (Retrying PlannedCheck) → Committing → Option Request
 checked_wants (Some t) c = check_wants t.machine
 checked_wants None c = commit_wants c
 
--- where the outcome of a sending leads
+-- The operation after the outcome of a send.
 abbrev pub checked_told : Option (Retrying PlannedCheck) → Committing → Outcome → Checked
 checked_told (Some t) c o = record { check = until_clear (stepped check_told t o); commit = c }
 checked_told None c o = record { check = None; commit = commit_told c o }
 
--- an outcome that may be told
+-- An outcome that the operation may receive.
 abbrev pub FitsChecked : Option (Retrying PlannedCheck) → Committing → Outcome → Type 0
 FitsChecked (Some t) c o = FitsOutcome check_fits t o
 FitsChecked None c o = FitsFew most_commits c o
 
--- how it ended, if it did
+-- How the operation ended, if it did.
 abbrev pub checked_end : Option (Retrying PlannedCheck) → Committing → Option OpEnd
 checked_end (Some t) c = option_map ends.Check (check_over t.machine.operation)
 checked_end None c = option_map ends.Commit (commit_over c.operation)
 
--- at most so many sendings are to come: those of the check, and all of the commit
+-- A bound on the sends still to come: those of the check, and all of the commit.
 abbrev pub checked_left : Option (Retrying PlannedCheck) → Committing → Scene → ℕ
 checked_left (Some t) c s = sendings_left check_left t s + left most_commits c s
 checked_left None c s = left most_commits c s
 
--- by how much a request of another actor may raise this
+-- By how much a request of another actor may raise the bound.
 abbrev pub checked_rise : Option (Retrying PlannedCheck) → Committing → Request → ℕ
 checked_rise (Some t) c r = 1 * (t.retries + 1) + commit_rise most_commits c * one_if (adds_key r)
 checked_rise None c r = commit_rise most_commits c * one_if (adds_key r)
 
 -- ---- any operation
 
--- the request that it asks, if it does
+-- The request that the operation sends next, if there is one.
 abbrev pub wants_of : Act → Option Request
 wants_of (Setup t) = setup_wants t.machine
 wants_of (Write t) = write_wants t.machine
@@ -109,7 +109,7 @@ wants_of (Clean t) = clean_wants t.machine
 wants_of (Sparing t) = sparing_wants t.machine
 wants_of (acts.Checked x) = checked_wants x.check x.commit
 
--- where the outcome of a sending leads
+-- The operation after the outcome of a send.
 abbrev pub tells_of : Act → Outcome → Act
 tells_of (Setup t) o = Setup (stepped setup_told t o)
 tells_of (Write t) o = Write (stepped write_told t o)
@@ -120,7 +120,7 @@ tells_of (Clean t) o = Clean (stepped clean_told t o)
 tells_of (Sparing t) o = Sparing (stepped sparing_told t o)
 tells_of (acts.Checked x) o = acts.Checked (checked_told x.check x.commit o)
 
--- an outcome that an actor may be told of its operation
+-- An outcome that an actor may receive for its operation.
 abbrev pub FitsAct : Act → Outcome → Type 0
 FitsAct (Setup t) o = FitsOutcome setup_fits t o
 FitsAct (Write t) o = FitsOutcome write_fits t o
@@ -131,7 +131,7 @@ FitsAct (Clean t) o = FitsOutcome clean_fits t o
 FitsAct (Sparing t) o = FitsOutcome sparing_fits t o
 FitsAct (acts.Checked x) o = FitsChecked x.check x.commit o
 
--- how it ended, if it did
+-- How the operation ended, if it did.
 abbrev pub end_of : Act → Option OpEnd
 end_of (Setup t) = option_map ends.Setup (setup_over t.machine.operation)
 end_of (Write t) = option_map ends.Task (write_over t.machine.operation)
@@ -142,7 +142,7 @@ end_of (Clean t) = option_map ends.Clean (clean_over t.machine.operation)
 end_of (Sparing t) = option_map ends.Clean (sparing_over t.machine.operation)
 end_of (acts.Checked x) = checked_end x.check x.commit
 
--- at most so many sendings of it are to come where nobody else sends
+-- A bound on the sends that the operation has left while nobody else sends.
 abbrev pub left_of : Act → Scene → ℕ
 left_of (Setup t) s = sendings_left setup_left t s
 left_of (Write t) s = sendings_left write_left t s
@@ -153,7 +153,7 @@ left_of (Clean t) s = sendings_left clean_left t s
 left_of (Sparing t) s = sendings_left sparing_left t s
 left_of (acts.Checked x) s = checked_left x.check x.commit s
 
--- by how much a request of another actor may raise what is left
+-- By how much a request of another actor may raise the bound.
 abbrev pub rise_of : Act → Request → ℕ
 rise_of (Setup t) r = 2 * (t.retries + 1)
 rise_of (Write t) r = 0

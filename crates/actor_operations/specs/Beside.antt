@@ -1,4 +1,4 @@
--- What an attempt has left beside others that put nothing below its directory.
+-- The requests that an attempt has left, among others that put nothing below its directory.
 use Rattle.actor_operations.specs.Acts.{left_of}
 use Rattle.actor_operations.specs.declared.act.Act.TheVariants.{AbortTask, CommitTask, Write}
 use Rattle.basics.specs.Members.{IsIn}
@@ -16,15 +16,15 @@ use Rattle.s3_types.specs.declared.request.Request.{Request}
 use Rattle.std.specs.Prelude.{List, false, true, ℕ, ◌≡◌, ◌≤◌}
 use Rattle.store_frame.specs.Frame.{changed_keys}
 
--- no key that the request may add begins so
+-- No key that the request may add begins with `p`.
 abbrev pub PutsNone : List ℕ → Request → Type 0
 PutsNone p r = adds_key r ≡ true → (k : List ℕ) → IsIn k (changed_keys r) → begins p k ≡ false
 
--- how the keys of an attempt's directory begin
+-- The prefix of the keys of an attempt's directory.
 abbrev pub below : Task → List ℕ
 below t = attempt_prefix (task_script t) (who_of t)
 
--- such a request raises nothing of what an attempt's operation has left
+-- Such a request does not raise the bound on the sends that an attempt's operation has left.
 pub record AttemptsStay : Type 0 where
   pub writes : (t : Retrying (Attempting Writing)) (s : Scene) (r : Request) → left_of (Write t) (apply s r) ≤ left_of (Write t) s
   pub commits : (t : Retrying (Attempting TaskCommit)) (s : Scene) (r : Request) → PutsNone (below t.machine.plan) r

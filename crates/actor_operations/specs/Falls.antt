@@ -1,4 +1,4 @@
--- What a machine under its retries has left, among others that send.
+-- The sends that a machine with its retries has left, among other actors that send.
 use Rattle.actor_operations.specs.Acts.{sendings_left, stepped, under}
 use Rattle.basics.proofs.Naturals.{more_times, no_more_times}
 use Rattle.job_protocol.specs.Measures.{FallsAmong}
@@ -24,7 +24,7 @@ spread a b k n h =
     let e : (b + k) * (n + 1) ≡ b * (n + 1) + k * (n + 1) = add-mul b k (n + 1) in
     omega (arith, no_more_times a (b + k) n h, e)
 
--- a sending got no answer, and the scene is t
+-- The bound falls with a send that got no answer, after which the scene is `t`.
 unanswered_falls : {M : Type 0} {wants : M → Option Request} {after : M → Item → M} {fits : M → Reply → Bool → Type 0}
     {left : M → Scene → ℕ} {rise : ℕ} → FallsAmong wants after fits left rise
     → (retries : ℕ) (m : M) (spare : ℕ) (repeated : Bool) (s t : Scene) (r : Request) → wants m ≡ Some r → left m t ≤ left m s
@@ -33,7 +33,7 @@ unanswered_falls {after = after} {left = left} h retries m zero repeated s t r w
     retries 0 (let k = h.falls_worn m t r w in omega (arith, k, le))
 unanswered_falls {left = left} h retries m (suc n) repeated s t r w le = omega (arith, no_more_times (left m t) (left m s) retries le)
 
--- it falls with each sending of its own
+-- The bound falls with each send of the machine.
 pub sending_falls : {M : Type 0} {wants : M → Option Request} {after : M → Item → M} {fits : M → Reply → Bool → Type 0}
     {left : M → Scene → ℕ} {rise : ℕ} → FallsAmong wants after fits left rise
     → (t : Retrying M) (s : Scene) (r : Request) (o : Outcome) → wants t.machine ≡ Some r → FitsOutcome fits t o
@@ -49,7 +49,7 @@ sending_falls {left = left} h t s r Slow w f e = unanswered_falls h t.retries t.
 sending_falls h t s r RequestLost w f e = unanswered_falls h t.retries t.machine t.spare true s s r w (omega arith)
 sending_falls h t s r ReplyLost w f e = unanswered_falls h t.retries t.machine t.spare true s (apply s r) r w (h.no_rise t.machine s r w)
 
--- and rises by a request of another actor by no more than this
+-- A request of another actor raises the bound by no more than this.
 pub sending_rises : {M : Type 0} {wants : M → Option Request} {after : M → Item → M} {fits : M → Reply → Bool → Type 0}
     {left : M → Scene → ℕ} {rise : ℕ} → FallsAmong wants after fits left rise
     → (t : Retrying M) (s : Scene) (r : Request) → sendings_left left t (apply s r) ≤ sendings_left left t s + rise * (t.retries + 1)

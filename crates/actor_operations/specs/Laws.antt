@@ -36,60 +36,60 @@ use Rattle.job_actor.specs.declared.plan.Plan.TheVariants as plans
 
 -- ---- how they go on
 
--- the operations of a job's actors go on as the script says
+-- The operations of a job's actors go on as the script says.
 pub record ActorsGo : Type 0 where
-  -- by its plan it asks what the script's operation asks, and goes where that goes, in what is known too
+  -- With its plan, the operation sends what the script's operation sends, and goes on as that does; what is known goes on so too.
   pub wants : (g : Setting) (a : Actor) (k : Known) (act : Act) → IsOf g a act → AsksSo g.script act
       → wants_of act ≡ wants g a (running_of k act)
   pub goes : (g : Setting) (a : Actor) (k : Known) (act : Act) (o : Outcome) → IsOf g a act → AsksSo g.script act → GoesSo g.script act o
       → running_of (advance g a (running_of k act) o).known (tells_of act o) ≡ advance g a (running_of k act) o
   pub stays : (g : Setting) (a : Actor) (act : Act) (o : Outcome) → IsOf g a act → IsOf g a (tells_of act o)
-  -- it ends as that does
+  -- It ends as the script's operation does.
   pub ends : (k : Known) (act : Act) → end_of act ≡ over (running_of k act).operation
-  -- once it asks nothing more, its plan is that which the script gives one who knows this
+  -- After it has no more requests, its plan is the one that the script gives an actor who knows this.
   pub plans : (g : Setting) (a : Actor) (k : Known) (act : Act) → IsOf g a act → wants_of act ≡ None
       → IsPlanOf g a (running_of k act).known (plan_of act)
 
 -- ---- how they begin
 
--- a machine of which nothing was sent yet
+-- A machine that has sent nothing yet.
 abbrev pub unsent : {M : Type 0} → ℕ → M → Retrying M
 unsent retries m = under retries (fresh retries m)
 
--- a set-up of which nothing was sent yet
+-- A set-up that has sent nothing yet.
 abbrev pub setup_of : Job → Act
 setup_of j = Setup (unsent j.retries (record { plan = j; operation = setup_start }))
 
--- a write of which nothing was sent yet
+-- A write that has sent nothing yet.
 abbrev pub write_of : Task → Act
 write_of t = Write (unsent t.job.retries (record { plan = t; operation = write_start (task_script t) (who_of t) }))
 
--- a task's commit of which nothing was sent yet
+-- A task commit that has sent nothing yet.
 abbrev pub commit_task_of : Task → Act
 commit_task_of t = CommitTask (unsent t.job.retries (record { plan = t; operation = task_commit_start (task_script t) (who_of t) }))
 
--- a task's abort of which nothing was sent yet
+-- A task abort that has sent nothing yet.
 abbrev pub abort_task_of : Task → Act
 abort_task_of t = AbortTask (unsent t.job.retries (record { plan = t; operation = task_abort_start (task_script t) t.known }))
 
--- a job's commit of which nothing was sent yet, where these tasks are reported
+-- A job's commit that has sent nothing yet; `reported` holds the tasks that reported a successful commit.
 abbrev pub commit_of : Job → List ℕ → Act
 commit_of j reported = Commit (start j (least_missing j.tasks reported))
 
--- a check before a job's commit that goes by these partitions, of which nothing was sent yet
+-- A check of these partitions before a job's commit, which has sent nothing yet.
 abbrev pub check_of : Job → List (List ℕ) → Retrying PlannedCheck
 check_of j dirs = unsent j.retries (check_begun (record { job = j; partitions = dirs }))
 
--- a job's commit behind its check, of which nothing was sent yet
+-- A job's commit after its check, which has sent nothing yet.
 abbrev pub checked_of : Job → List ℕ → List (List ℕ) → Act
 checked_of j reported dirs = Checked (record { check = until_clear (check_of j dirs); commit = start j (least_missing j.tasks reported) })
 
--- a task is missing
+-- True if the commit ended because a task is missing.
 abbrev pub is_missing : Option CommitEnd → Bool
 is_missing (Some (ends.Missing t)) = true
 is_missing _ = false
 
--- the driver's commit: behind its check where partitions are reported and the mode is fail, unless a task is missing
+-- The driver's commit. It first runs its check if partitions are reported, the mode is fail, and no task is missing.
 abbrev pub commit_by : Job → List ℕ → Option (List (List ℕ)) → Mode → Option ℕ → Act
 commit_by j reported (Some dirs) Fail None = checked_of j reported dirs
 commit_by j reported dirs mode missing = commit_of j reported
@@ -97,48 +97,48 @@ commit_by j reported dirs mode missing = commit_of j reported
 abbrev pub driver_commit : Job → Reported → Act
 driver_commit j x = commit_by j x.tasks x.partitions j.mode (least_missing j.tasks x.tasks)
 
--- an abort or clean of which nothing was sent yet
+-- An abort or clean that has sent nothing yet.
 abbrev pub clean_of : Job → Act
 clean_of j = Clean (unsent j.retries (record { plan = j; operation = clean_start }))
 
--- one that spares what is another's
+-- An abort or clean that spares what is not the job's own, and has sent nothing yet.
 abbrev pub sparing_of : Job → Act
 sparing_of j = Sparing (unsent j.retries (record { plan = j; operation = sparing_start j.committer }))
 
--- the driver's abort or clean, which spares where partitions are reported
+-- The driver's abort or clean, which spares what is not the job's own if partitions are reported.
 abbrev pub clean_by : Job → Option (List (List ℕ)) → Act
 clean_by j (Some dirs) = sparing_of j
 clean_by j None = clean_of j
 
--- it is this operation of the actor as the script begins it, where the actor knows k and the driver these reports
+-- This is the actor's operation as the script begins it, if the actor knows `k` and the driver has these reports.
 pub record Begun (g : Setting) (a : Actor) (op : Op) (reports : Reports) (k : Known) (act : Act) : Type 0 where
   pub is_of : IsOf g a act
   pub starts : start_of g a op reports k ≡ Some (running_of k act).operation
   pub known : (running_of k act).known ≡ k
 
--- whoever has this attempt's plan begins it so, in any script that gives it
+-- An attempt with this plan begins its operation so, for any script that gives the plan.
 abbrev pub BeginsTask : Op → Task → Act → Type 0
 BeginsTask op t act = (g : Setting) (a : Actor) (r : Reports) (k : Known) → IsPlanOf g a k (plans.Task t) → Begun g a op r k act
 
--- whoever has this plan of a job, which is the driver, begins its set-up so
+-- The driver with this plan of a job begins its set-up so.
 abbrev pub BeginsSetup : Job → Act → Type 0
 BeginsSetup j act = (g : Setting) (a : Actor) (r : Reports) (k : Known) → IsPlanOf g a k (plans.Job j) → Begun g a ops.Setup r k act
 
--- and where this is reported another operation
+-- The driver with this plan of a job and these reports begins another operation so.
 abbrev pub BeginsJob : Op → Job → Reported → Act → Type 0
 BeginsJob op j x act = (g : Setting) (a : Actor) (r : Reports) (k : Known) → IsReport g a op x r → IsPlanOf g a k (plans.Job j)
     → Begun g a op r k act
 
--- a job's commit begins as by the script, before it read a set
+-- Before it has read a set, a job's commit begins as the script says.
 abbrev pub StartsSo : Script → Option ℕ → Type 0
 StartsSo w missing = commit_start (read_script (job_of w) []) missing ≡ commit_start w missing
 
--- the driver's commit
+-- The driver with this plan of a job and these reports begins its commit so.
 abbrev pub BeginsCommit : Job → Reported → Act → Type 0
 BeginsCommit j x act = (g : Setting) (a : Actor) (r : Reports) (k : Known) → IsReport g a ops.Commit x r → IsPlanOf g a k (plans.Job j)
     → StartsSo g.script r.missing → Begun g a ops.Commit r k act
 
--- the driver's clean, and its abort
+-- The driver with this plan of a job and these reports begins its clean and its abort so.
 pub record BeginsClean (j : Job) (x : Reported) (act : Act) : Type 0 where
   pub clean : BeginsJob ops.Clean j x act
   pub abort : BeginsJob ops.Abort j x act

@@ -1,4 +1,4 @@
--- What the operations of a job's actors go by, and which the script gives.
+-- The plans of the operations of a job's actors, which the script gives.
 use Rattle.actor_operations.specs.declared.act.Act.{Act}
 use Rattle.actor_operations.specs.declared.act.Act.TheVariants.{AbortTask, Checked, Clean, Commit, CommitTask, Setup, Sparing, Write}
 use Rattle.conflict.specs.Rechecks.{PlannedCheck}
@@ -22,7 +22,7 @@ use Rattle.s3_types.specs.declared.request.Request.{Request}
 use Rattle.std.specs.Prelude.{Bool, List, None, Option, Some, cond, nat_lt, ℕ, ◌≡◌, ◌≤◌}
 use Rattle.job_actor.specs.declared.plan.Plan.TheVariants as plans
 
--- the plan, with what an attempt knows as the operation leaves it
+-- The plan of an operation, with what an attempt knows at this point of the operation.
 abbrev pub plan_of : Act → Plan
 plan_of (Setup t) = plans.Job t.machine.plan
 plan_of (Write t) = plans.Task t.machine.plan
@@ -33,7 +33,7 @@ plan_of (Clean t) = plans.Job t.machine.plan
 plan_of (Sparing t) = plans.Job t.machine.plan
 plan_of (Checked x) = plans.Job x.commit.plan
 
--- the attempts whose sets a job's commit has read
+-- The attempts whose sets a job's commit has read.
 abbrev pub picks_of : Act → Option (List Pick)
 picks_of (Commit c) = Some (picks_from 0 c.picked)
 picks_of (Checked x) = Some (picks_from 0 x.commit.picked)
@@ -41,22 +41,22 @@ picks_of _ = None
 
 -- ---- the operation in the table of operations
 
--- the counter of a machine's sendings
+-- An operation with the count of its machine's sends.
 abbrev pub counted : {O : Type 0} → ℕ → Bool → O → Retried O
 counted spare repeated o = record { operation = o; spare = spare; repeated = repeated }
 
--- What an attempt knows. Its plan is told when its request is answered or wears out; what a sending that got no answer teaches, as that the
--- publishing request was sent, holds from that sending on.
+-- What an attempt knows. Its plan learns from a request that is answered or exhausts its retries. An unanswered send teaches at once, for
+-- example that the publishing request was sent.
 abbrev pub known_now : {O : Type 0} → (Attempting O → Option Request) → Retrying (Attempting O) → Known
 known_now wants t = cond (nat_lt t.spare t.retries) (learn_of (task_script t.machine.plan) (who_of t.machine.plan) t.machine.plan.known
     (wants t.machine) RequestLost) t.machine.plan.known
 
--- a job's commit behind its check: the check, while there is one
+-- The operation of a job's commit after its check: the check, while there is one.
 abbrev pub checked_at : Option (Retrying PlannedCheck) → Committing → Operation
 checked_at (Some t) c = TheCheck (counted t.spare t.repeated t.machine.operation)
 checked_at None c = TheCommit c.operation
 
--- the operation with what its actor knows; of the driver, of whose knowledge nothing is asked, that is k
+-- The operation with what its actor knows. The driver's knowledge does not matter, and is `k`.
 abbrev pub running_of : Known → Act → Running
 running_of k (Setup t) = record { operation = TheSetup (counted t.spare t.repeated t.machine.operation); known = k }
 running_of k (Write t) = record { operation = TheWrite (counted t.spare t.repeated t.machine.operation); known = known_now write_wants t }
@@ -77,28 +77,28 @@ running_of k (Checked x) = record { operation = checked_at x.check x.commit; kno
 
 -- ---- the plans that a script gives
 
--- the actor is an attempt
+-- The actor is an attempt.
 abbrev pub IsAttempt : Actor → Type 0
 IsAttempt a = (task : ℕ) × (attempt : ℕ) × (a ≡ Attempt task attempt)
 
--- the driver's, by the plan of the job
+-- The operation is the driver's, with the plan of the job.
 pub record OfDriver {O : Type 0} (w : Script) (a : Actor) (t : Retrying (Driving O)) : Type 0 where
   pub actor : a ≡ Driver
   pub plan : t.machine.plan ≡ job_of w
   pub retries : t.retries ≡ w.retries
 
--- an attempt's, by its own plan
+-- The operation is an attempt's, with its own plan.
 pub record OfAttempt {O : Type 0} (g : Setting) (a : Actor) (t : Retrying (Attempting O)) : Type 0 where
   pub actor : IsAttempt a
   pub plan : t.machine.plan ≡ task_of g.script g.minimum (who a) t.machine.plan.known
   pub retries : t.retries ≡ g.script.retries
   pub spare : t.spare ≤ t.retries
 
--- the job's commit, by the plan of the job
+-- The job's commit is the driver's, with the plan of the job.
 abbrev pub OfCommit : Script → Actor → Committing → Type 0
 OfCommit w a c = (a ≡ Driver) × (c.plan ≡ job_of w)
 
--- a check before the job's commit, by the plan of the job, with that commit as it begins
+-- The check before the job's commit is the driver's, with the plan of the job and with that commit as it begins.
 pub record OfCheck (w : Script) (a : Actor) (t : Retrying PlannedCheck) (c : Committing) : Type 0 where
   pub actor : a ≡ Driver
   pub plan : t.machine.plan.job ≡ job_of w
@@ -106,12 +106,12 @@ pub record OfCheck (w : Script) (a : Actor) (t : Retrying PlannedCheck) (c : Com
   pub commit : c.plan ≡ job_of w
   pub begins : c.operation ≡ commit_start w None
 
--- the job's commit behind its check
+-- The job's commit after its check is the driver's, with the plan of the job.
 abbrev pub OfChecked : Script → Actor → Option (Retrying PlannedCheck) → Committing → Type 0
 OfChecked w a (Some t) c = OfCheck w a t c
 OfChecked w a None c = OfCommit w a c
 
--- the operation goes by the plan that the script gives this actor
+-- The operation has the plan that the script gives this actor.
 abbrev pub IsOf : Setting → Actor → Act → Type 0
 IsOf g a (Setup t) = OfDriver g.script a t
 IsOf g a (Write t) = OfAttempt g a t
@@ -122,11 +122,11 @@ IsOf g a (Clean t) = OfDriver g.script a t
 IsOf g a (Sparing t) = OfDriver g.script a t
 IsOf g a (Checked x) = OfChecked g.script a x.check x.commit
 
--- by the sets that it read a job's commit asks what the script asks
+-- By the sets that it read, a job's commit sends what the script says.
 abbrev pub CommitAsksSo : Script → Committing → Type 0
 CommitAsksSo w c = commit_asks (read_script (job_of w) (sets_in c.operation)) c.operation ≡ commit_asks w c.operation
 
--- once its check is clear
+-- The same for a commit after its check, once the check is clear.
 abbrev pub CheckedAsksSo : Script → Option (Retrying PlannedCheck) → Committing → Type 0
 CheckedAsksSo w (Some t) c = Unit {0}
 CheckedAsksSo w None c = CommitAsksSo w c
@@ -136,11 +136,11 @@ AsksSo w (Commit c) = CommitAsksSo w c
 AsksSo w (Checked x) = CheckedAsksSo w x.check x.commit
 AsksSo w _ = Unit {0}
 
--- by the sets that it read a job's commit goes where the script goes
+-- By the sets that it read, a job's commit goes on as the script says.
 abbrev pub CommitGoesSo : Script → Committing → Outcome → Type 0
 CommitGoesSo w c o = commit_tells (read_script (job_of w) (sets_after c.operation o)) c.operation o ≡ commit_tells w c.operation o
 
--- once its check is clear
+-- The same for a commit after its check, once the check is clear.
 abbrev pub CheckedGoesSo : Script → Option (Retrying PlannedCheck) → Committing → Outcome → Type 0
 CheckedGoesSo w (Some t) c o = Unit {0}
 CheckedGoesSo w None c o = CommitGoesSo w c o

@@ -23,23 +23,24 @@ use s3_types::{Outcome, Request};
 use std::alloc::AllocError;
 use task_machines::{ByCommitter, TaskMachine, TheAbort, TheCommit, TheWrite};
 
-/// An attempt's write of its files, by the committer of its job.
+/// An attempt's write of its files, for the committer of its job.
 pub type WriteFiles = TaskMachine<
     TheWrite,
     ByCommitter<task_magic::Writing, task_staging::Keeping>,
 >;
 
-/// An attempt's commit of its task, by the committer of its job.
+/// An attempt's commit of its task, for the committer of its job.
 pub type CommitTask = TaskMachine<
     TheCommit,
     ByCommitter<task_magic::Committing, task_staging::Staging>,
 >;
 
-/// An attempt's abort of its task, by the committer of its job.
+/// An attempt's abort of its task, for the committer of its job.
 pub type AbortTask = TaskMachine<TheAbort, ByCommitter<task_magic::Undoing, task_staging::Undoing>>;
 
-/// What an actor of a job is at. A job's clean and its abort send the same. Where another job shares the destination
-/// they spare what is not the job's own, and a commit stands behind its check.
+/// The operation that an actor of a job is running. A job's clean and its abort send the same
+/// requests. If another job shares the destination, they spare what is not the job's own, and a
+/// commit first runs a check.
 #[derive(Drop)]
 pub enum Act {
     Setup(Retrying<SetupJob>),
@@ -52,7 +53,7 @@ pub enum Act {
     Checked(Checked),
 }
 
-/// Tells a machine the outcome of a sending.
+/// Gives a machine the outcome of a send.
 #[tactic(auto, using(crate::proofs::Telling::whole, crate::proofs::Telling::machine_of))]
 pub fn told<M: Machine>(machine: &mut Retrying<M>, outcome: &Outcome) -> Result<(), AllocError>
     requires asked { IsSome (M.wants machine.old.machine) }
@@ -66,7 +67,7 @@ pub fn told<M: Machine>(machine: &mut Retrying<M>, outcome: &Outcome) -> Result<
     }
 }
 
-/// Tells a job's commit the outcome of a sending.
+/// Gives a job's commit the outcome of a send.
 pub fn told_commit(commit: &mut CommitJob, outcome: &Outcome) -> Result<(), AllocError>
     requires asked { IsSome (commit_wants commit.old) }
     requires fits { FitsFew most_commits commit.old outcome.now }

@@ -20,7 +20,7 @@ use machine::{Machine, Retrying};
 use s3_types::{Mode, TextList, let_go};
 use std::alloc::{AllocError, Global};
 
-/// A machine under its retries, of which nothing was sent yet.
+/// Returns a machine with its retries that has sent nothing yet.
 #[tactic(auto, using(crate::proofs::Telling::whole))]
 fn unsent<M: Machine>(machine: M, retries: u32) -> Retrying<M>
     ensures { result ≡ unsent retries machine }
@@ -28,8 +28,8 @@ fn unsent<M: Machine>(machine: M, retries: u32) -> Retrying<M>
     Retrying::new(machine, retries)
 }
 
-/// Begins a set-up of a job. AllocError comes where memory ran out alone; the plan is lost
-/// then, with the actor.
+/// Begins a set-up of a job. Fails with AllocError only if memory runs out; the plan is lost then,
+/// with the actor.
 #[tactic(auto, using(crate::proofs::Beginnings::setup_begun))]
 pub fn begin_setup(alloc: Global, plan: JobPlan) -> Result<Act, AllocError>
     ensures act { IfOk result (λ act. act ≡ setup_of plan) }
@@ -42,8 +42,8 @@ pub fn begin_setup(alloc: Global, plan: JobPlan) -> Result<Act, AllocError>
     }
 }
 
-/// Begins an attempt's write of its files. AllocError comes where memory ran out alone; the plan is lost then,
-/// with the actor.
+/// Begins an attempt's write of its files. Fails with AllocError only if memory runs out; the plan
+/// is lost then, with the actor.
 pub fn begin_write(alloc: Global, plan: TaskPlan) -> Result<Act, AllocError>
     ensures act { IfOk result (λ act. act ≡ write_of plan) }
     ensures begins { IfOk result (λ act. BeginsTask ops.Write plan act) }
@@ -55,8 +55,8 @@ pub fn begin_write(alloc: Global, plan: TaskPlan) -> Result<Act, AllocError>
     }
 }
 
-/// Begins an attempt's commit of its task. AllocError comes where memory ran out alone; the plan is lost then,
-/// with the actor.
+/// Begins an attempt's commit of its task. Fails with AllocError only if memory runs out; the plan
+/// is lost then, with the actor.
 pub fn begin_commit_task(alloc: Global, plan: TaskPlan) -> Result<Act, AllocError>
     ensures act { IfOk result (λ act. act ≡ commit_task_of plan) }
     ensures begins { IfOk result (λ act. BeginsTask ops.Commit plan act) }
@@ -68,8 +68,8 @@ pub fn begin_commit_task(alloc: Global, plan: TaskPlan) -> Result<Act, AllocErro
     }
 }
 
-/// Begins an attempt's abort of its task. AllocError comes where memory ran out alone; the plan is lost then,
-/// with the actor.
+/// Begins an attempt's abort of its task. Fails with AllocError only if memory runs out; the plan
+/// is lost then, with the actor.
 pub fn begin_abort_task(alloc: Global, plan: TaskPlan) -> Result<Act, AllocError>
     ensures act { IfOk result (λ act. act ≡ abort_task_of plan) }
     ensures begins { IfOk result (λ act. BeginsTask ops.Abort plan act) }
@@ -81,7 +81,8 @@ pub fn begin_abort_task(alloc: Global, plan: TaskPlan) -> Result<Act, AllocError
     }
 }
 
-/// Begins a job's commit without a check, where these tasks reported that they committed.
+/// Begins a job's commit without a check. `reported` holds the tasks that reported a successful
+/// commit.
 fn begin_alone(alloc: Global, plan: JobPlan, reported: &TaskSet) -> Result<Act, AllocError>
     ensures { IfOk result (λ act. act ≡ commit_of plan reported.now) }
 {
@@ -91,7 +92,7 @@ fn begin_alone(alloc: Global, plan: JobPlan, reported: &TaskSet) -> Result<Act, 
     }
 }
 
-/// The check before a job's commit, which looks at these partitions.
+/// Returns the check before a job's commit that looks at these partitions.
 fn begun_check(
     alloc: Global,
     plan: &JobPlan,
@@ -107,14 +108,14 @@ fn begun_check(
     }
 }
 
-/// Whether a task is missing, and the commit over at once.
+/// Returns whether a task is missing, so that the commit is over already.
 fn misses(commit: &CommitJob) -> bool
     ensures { result ≡ is_missing (commit_over commit.now.operation) }
 {
     matches!(commit.end(), Some(CommitEnd::Missing(_)))
 }
 
-/// A commit behind its check, unless a task is missing.
+/// Returns the commit after its check, or without the check if a task is missing.
 #[tactic(auto, using(crate::proofs::Beginnings::alone_missing, crate::proofs::Beginnings::checked_whole))]
 fn behind(check: Retrying<Recheck>, commit: CommitJob) -> Act
     ensures { (j : Job) (reported : List ℕ) (dirs : List (List ℕ)) → check ≡ check_of j dirs
@@ -128,7 +129,7 @@ fn behind(check: Retrying<Recheck>, commit: CommitJob) -> Act
     }
 }
 
-/// Begins a job's commit behind its check.
+/// Begins a job's commit after its check.
 fn begin_checked(
     alloc: Global,
     plan: JobPlan,
@@ -147,7 +148,7 @@ fn begin_checked(
     }
 }
 
-/// Begins a job's commit, where another job shares the destination.
+/// Begins a job's commit at a destination that another job shares.
 fn begin_shared(
     alloc: Global,
     plan: JobPlan,
@@ -162,9 +163,9 @@ fn begin_shared(
     }
 }
 
-/// Begins a job's commit, where this is reported: behind its check where another job shares the destination and the
-/// mode is `fail`, unless a task is missing. AllocError comes where memory ran out alone; the plan is lost then, with
-/// the actor.
+/// Begins a job's commit with these reports. The commit first runs its check if another job shares
+/// the destination, the mode is `fail`, and no task is missing. Fails with AllocError only if
+/// memory runs out; the plan is lost then, with the actor.
 #[tactic(auto, using(crate::proofs::Beginnings::commit_begun))]
 pub fn begin_commit(alloc: Global, plan: JobPlan, reported: Reported) -> Result<Act, AllocError>
     ensures act { IfOk result (λ act. act ≡ driver_commit plan reported) }
@@ -177,7 +178,7 @@ pub fn begin_commit(alloc: Global, plan: JobPlan, reported: Reported) -> Result<
     }
 }
 
-/// Begins a clean of a job, or its abort, which sends the same, at a destination that is the job's alone.
+/// Begins a clean or abort of a job at a destination that no other job uses.
 fn clean(alloc: Global, plan: JobPlan) -> Result<Act, AllocError>
     ensures { IfOk result (λ act. act ≡ clean_of plan) }
 {
@@ -188,7 +189,7 @@ fn clean(alloc: Global, plan: JobPlan) -> Result<Act, AllocError>
     }
 }
 
-/// Begins one that spares what is not the job's own.
+/// Begins a clean or abort of a job that spares what is not the job's own.
 fn spare(alloc: Global, plan: JobPlan) -> Result<Act, AllocError>
     ensures { IfOk result (λ act. act ≡ sparing_of plan) }
 {
@@ -199,8 +200,9 @@ fn spare(alloc: Global, plan: JobPlan) -> Result<Act, AllocError>
     }
 }
 
-/// Begins a clean of a job, or its abort, which sends the same: one that spares what is not the job's own where another
-/// job shares the destination. AllocError comes where memory ran out alone; the plan is lost then, with the actor.
+/// Begins a clean of a job, or its abort, which sends the same requests. It spares what is not the
+/// job's own if another job shares the destination. Fails with AllocError only if memory runs out;
+/// the plan is lost then, with the actor.
 #[tactic(auto, using(crate::proofs::Beginnings::clean_begun))]
 pub fn begin_clean(alloc: Global, plan: JobPlan, reported: Reported) -> Result<Act, AllocError>
     ensures act { IfOk result (λ act. act ≡ clean_by plan reported.partitions) }

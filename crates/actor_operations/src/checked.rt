@@ -17,23 +17,23 @@ use machine::Retrying;
 use s3_types::{Outcome, Request, let_go, put};
 use std::alloc::AllocError;
 
-/// A job's commit behind its check. While there is a check it asks what that asks; where the check ends clear there is
-/// none any more, and it goes on as the commit, which was begun with it. (Hadoop, S3A committers:
-/// fs.s3a.committer.staging.conflict-mode.)
+/// A job's commit after its check. While there is a check, it sends the requests of the check.
+/// After the check has ended with Clear, there is none any more, and the commit goes on. (Hadoop,
+/// S3A committers: fs.s3a.committer.staging.conflict-mode.)
 #[derive(Drop)]
 pub struct Checked {
     pub check: Option<Retrying<Recheck>>,
     pub commit: CommitJob,
 }
 
-/// Whether a check ended clear.
+/// Returns whether a check ended with Clear.
 fn clear(check: &Retrying<Recheck>) -> bool
     ensures { result ≡ is_clear (check_over check.now.machine.operation) }
 {
     matches!(check.machine().end(), Some(CheckEnd::Clear))
 }
 
-/// The check, or none where it is clear.
+/// Returns the check, or None if it ended with Clear.
 #[tactic(auto, using(crate::proofs::Telling::past_clear, crate::proofs::Telling::not_clear))]
 fn unless_clear(check: Retrying<Recheck>) -> Option<Retrying<Recheck>>
     ensures { result ≡ until_clear check }
@@ -46,7 +46,7 @@ fn unless_clear(check: Retrying<Recheck>) -> Option<Retrying<Recheck>>
     }
 }
 
-/// Tells a check the outcome of a sending. Says whether it is clear then.
+/// Gives a check the outcome of a send. Returns whether it has then ended with Clear.
 fn told_check(check: &mut Retrying<Recheck>, outcome: &Outcome) -> Result<bool, AllocError>
     requires asked { IsSome (check_wants check.old.machine) }
     requires fits { FitsOutcome FitsCheck check.old outcome.now }
@@ -61,7 +61,7 @@ fn told_check(check: &mut Retrying<Recheck>, outcome: &Outcome) -> Result<bool, 
 }
 
 impl Checked {
-    /// A commit behind a check of which nothing was sent yet. Takes no memory.
+    /// Returns a commit after a check that has sent nothing yet. Takes no memory.
     pub fn new(check: Retrying<Recheck>, commit: CommitJob) -> Checked
         ensures { result ≡ record { check = until_clear check; commit = commit } }
     {
@@ -69,7 +69,7 @@ impl Checked {
         Checked { check, commit }
     }
 
-    /// The request that it asks, or None where it has ended. Takes no memory.
+    /// Returns the request to send now, or None if the operation has ended. Takes no memory.
     pub fn request(&self) -> Option<&Request>
         ensures { option_copied result ≡ checked_wants self.now.check self.now.commit }
     {
@@ -79,7 +79,8 @@ impl Checked {
         }
     }
 
-    /// Takes the outcome of a sending of its request. After want of memory it asks nothing more.
+    /// Takes the outcome of a send of the current request. After memory runs out the operation
+    /// sends nothing more.
     #[tactic(auto, using(crate::proofs::Telling::past_clear, crate::proofs::Telling::not_clear, crate::proofs::Telling::check_wanting, crate::proofs::Telling::behind_wanting))]
     pub fn tell(&mut self, outcome: &Outcome) -> Result<(), AllocError>
         requires asked { IsSome (checked_wants self.old.check self.old.commit) }
@@ -100,8 +101,8 @@ impl Checked {
         }
     }
 
-    /// How it ended, or None while it asks a request. A path in the end is shared, and not copied; an error comes only
-    /// where there is one.
+    /// Returns how the operation ended, or None while it has a request to send. A path in the end
+    /// is shared, not copied; an error comes only if there is one.
     pub fn end(&self) -> Result<Option<OpEnd>, AllocError>
         ensures ok { IfOk result (λ end. end ≡ checked_end self.now.check self.now.commit) }
         ensures err { OnErr result (ends_with_path (checked_end self.now.check self.now.commit) ≡ true) }
@@ -112,14 +113,14 @@ impl Checked {
         }
     }
 
-    /// The attempts whose sets its commit has read. Takes no memory.
+    /// Returns the attempts whose sets the commit has read. Takes no memory.
     pub fn picks(&self) -> &PickList
         ensures { result.now ≡ picks_from 0 self.now.commit.picked }
     {
         self.commit.picks()
     }
 
-    /// Gives the job's plan back. Takes no memory.
+    /// Consumes the operation and returns the job's plan. Takes no memory.
     pub fn into_plan(self) -> JobPlan
         ensures { result ≡ self.commit.plan }
     {
@@ -128,7 +129,8 @@ impl Checked {
         commit.into_plan()
     }
 
-    /// Gives the attempts whose sets its commit has read. Takes no memory.
+    /// Consumes the operation and returns the attempts whose sets the commit has read. Takes no
+    /// memory.
     pub fn into_picks(self) -> PickList
         ensures { result ≡ picks_from 0 self.commit.picked }
     {

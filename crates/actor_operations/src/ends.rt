@@ -5,7 +5,8 @@ ghost use Rattle.job_actor.specs.Acts.{names_path};
 use job_model::{CheckEnd, CommitEnd, SetupEnd, TaskEnd};
 use std::alloc::AllocError;
 
-/// The same end of a set-up; a path in it is shared, and an error comes only where there is one.
+/// Returns a copy of the end of a set-up. A path in it is shared, and an error comes only if there
+/// is one.
 pub fn setup_end(end: &SetupEnd) -> Result<SetupEnd, AllocError>
     ensures ok { IfOk result (λ copy. copy ≡ end.now) }
     ensures err { OnErr result (names_path (ends.Setup end.now) ≡ true) }
@@ -20,7 +21,8 @@ pub fn setup_end(end: &SetupEnd) -> Result<SetupEnd, AllocError>
     }
 }
 
-/// The same end of an attempt's operation; a path in it is shared, and an error comes only where there is one.
+/// Returns a copy of the end of an attempt's operation. A path in it is shared, and an error comes
+/// only if there is one.
 pub fn task_end(end: &TaskEnd) -> Result<TaskEnd, AllocError>
     ensures ok { IfOk result (λ copy. copy ≡ end.now) }
     ensures err { OnErr result (names_path (ends.Task end.now) ≡ true) }
@@ -35,7 +37,8 @@ pub fn task_end(end: &TaskEnd) -> Result<TaskEnd, AllocError>
     }
 }
 
-/// The same end of a job's commit; a path in it is shared, and an error comes only where there is one.
+/// Returns a copy of the end of a job's commit. A path in it is shared, and an error comes only if
+/// there is one.
 pub fn commit_end(end: &CommitEnd) -> Result<CommitEnd, AllocError>
     ensures ok { IfOk result (λ copy. copy ≡ end.now) }
     ensures err { OnErr result (names_path (ends.Commit end.now) ≡ true) }
@@ -57,7 +60,8 @@ pub fn commit_end(end: &CommitEnd) -> Result<CommitEnd, AllocError>
     }
 }
 
-/// The same end of a check before a job's commit; a path in it is shared, and an error comes only where there is one.
+/// Returns a copy of the end of a check before a job's commit. A path in it is shared, and an error
+/// comes only if there is one.
 pub fn check_end(end: &CheckEnd) -> Result<CheckEnd, AllocError>
     ensures ok { IfOk result (λ copy. copy ≡ end.now) }
     ensures err { OnErr result (names_path (ends.Check end.now) ≡ true) }

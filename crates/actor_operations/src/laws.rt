@@ -1,12 +1,13 @@
 ghost use Rattle.actor_operations.specs.Beside.{AttemptsStay};
 ghost use Rattle.actor_operations.specs.Laws.{ActorsGo};
 
-/// The operations of a job's actors go on as the script has it.
+/// The operations of a job's actors go on as the script says.
 pub fn actors_go()
     ensures { ActorsGo }
 {}
 
-/// What an attempt's operation has left is not raised by a request that puts nothing below its directory.
+/// A request that puts nothing below an attempt's directory does not raise the bound on the sends
+/// that the attempt's operation has left.
 pub fn attempts_stay()
     ensures { AttemptsStay }
 {}

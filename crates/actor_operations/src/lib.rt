@@ -1,14 +1,17 @@
-//! The operations of a job's actors, whichever an actor is at: begun from its plan, told the outcome of
-//! each sending, and the plan back from it.
+//! The operations of a job's actors as one type: it begins an operation from the actor's plan,
+//! takes the outcome of each send, and gives the plan back.
 //!
 //! # What is proved
 //!
-//! `Act`: The operations of a job's actors as one enum, of every committer, which keeps the laws of
-//! `job_actor`. What it begins from a plan is that operation as the script begins it, whether or not
-//! another job shares the destination: there a commit with the mode `fail` stands behind its check, and an
-//! abort or clean spares what is not the job's own. It asks, goes on and ends as the script's operation
-//! does, in what its attempt knows too (`ActorsGo`). What an attempt has left is not raised by a request
-//! that puts nothing below its directory (`AttemptsStay`).
+//! - `Act` is any operation of a job's actors, for every committer, and keeps the laws of
+//!   `job_actor`.
+//! - The operation that it begins from a plan is the one that the script begins, whether or not
+//!   another job shares the destination. At a shared destination, a commit in mode `fail` first
+//!   runs its check, and an abort or clean spares what is not the job's own.
+//! - It asks, goes on and ends as the script's operation does, and so does what its attempt knows
+//!   (`ActorsGo`).
+//! - A request that puts nothing below an attempt's directory does not raise the bound on the sends
+//!   that the attempt has left (`AttemptsStay`).
 #![tactic(auto)]
 
 mod act;

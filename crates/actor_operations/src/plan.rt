@@ -3,7 +3,8 @@ ghost use Rattle.std.specs.Prelude.{◌≡◌, IfOk};
 use job_model::JobPlan;
 use std::alloc::AllocError;
 
-/// The same plan of a job; its texts are shared. AllocError comes where memory ran out alone.
+/// Returns a copy of a job's plan, whose texts are shared. Fails with AllocError only if memory
+/// runs out.
 pub fn copied(plan: &JobPlan) -> Result<JobPlan, AllocError>
     ensures { IfOk result (λ copy. copy ≡ plan.now) }
 {

@@ -19,7 +19,7 @@ use job_model::{JobPlan, Op, PickList, TaskPlan};
 use s3_types::Actor;
 use std::alloc::{AllocError, Global};
 
-/// Begins an operation of the driver, which writes nothing.
+/// Begins an operation of the driver, which writes no files.
 fn begin_job(alloc: Global, plan: JobPlan, op: Op, reported: Reported) -> Result<Act, AllocError>
     ensures { (g : Setting) (a : Actor) (k : Known) (r : Reports) → IsReport g a op reported r → IsLegal g.script
         → IsPlanOf g a k (plans.Job plan) → HasOp a op

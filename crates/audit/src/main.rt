@@ -10,7 +10,8 @@ use std::process::ExitCode;
 use std::rt::Env;
 use std::{env, io};
 
-/// The words behind the program's name. Where the system does not give them as text, a word that is none of the program's.
+/// Returns the words after the program's name. If the system does not give them as text, returns a
+/// single word that is none of the program's.
 fn words(rt: &(impl Env + AllocGlobal)) -> Result<Vec<Text>, AllocError> {
     let alloc = rt.alloc();
     let mut words = Vec::new(alloc);
@@ -32,7 +33,7 @@ fn words(rt: &(impl Env + AllocGlobal)) -> Result<Vec<Text>, AllocError> {
     Ok(words)
 }
 
-/// Says that there is no memory for the words.
+/// Prints that there is no memory for the words.
 fn say_no_memory(rt: &impl Print) -> ExitCode {
     let status = match println!(rt; "no memory") {
         Ok(()) => Status::NoMemory,

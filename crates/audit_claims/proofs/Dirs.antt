@@ -71,7 +71,7 @@ longer : (x : ℕ) (xs : List ℕ) → with_byte x (xs ++ 47 ∷ []) ≡ x ∷ (
 longer x [] = refl
 longer x (y ∷ ys) = refl
 
--- A path that ends in `/` is its own.
+-- A path that ends in `/` is its own parent directory.
 pub dir_slash : (xs : List ℕ) → directory (xs ++ 47 ∷ []) ≡ xs ++ 47 ∷ []
 dir_slash [] = refl
 dir_slash (x ∷ xs) = ap (with_byte x) (dir_slash xs) ∙ longer x xs
@@ -92,14 +92,14 @@ dir_more x (y ∷ d) e = ap (with_byte x) e
 not_slash : (x : ℕ) → (x ≡ 47 → ⊥) → (x == 47) ≡ false
 not_slash x n = contrary (x == 47) (λ h. absurd (n (eqb-true x 47 h)))
 
--- A front part of a path that ends in `/`, where no `/` comes behind it.
+-- The front of a path up to a `/` is the path's parent directory, if no `/` comes after it.
 pub dir_found : (path dir front : List ℕ) (last : ℕ) → dir ≡ front ++ last ∷ [] → last ≡ 47 → directory dir ≡ directory path
     → dir ≡ directory path
 dir_found path dir front last e s h =
     let slash : dir ≡ front ++ 47 ∷ [] = e ∙ ap (λ (k : ℕ). front ++ k ∷ []) s in
     slash ∙ sym (dir_slash front) ∙ ap directory (sym slash) ∙ h
 
--- One byte less at the end, which is no `/`.
+-- Without its last byte, which is no `/`, a path has the same parent directory.
 pub dir_left : (path dir front : List ℕ) (last : ℕ) → dir ≡ front ++ last ∷ [] → (last ≡ 47 → ⊥) → directory dir ≡ directory path
     → directory front ≡ directory path
 dir_left path dir front last e n h = sym (dir_other front last (not_slash last n)) ∙ ap directory (sym e) ∙ h

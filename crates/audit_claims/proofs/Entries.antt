@@ -68,7 +68,7 @@ module _ {I : Type 0} where
   same_at (a ∷ rest) zero fs h = ap (λ (l : Files I). (a.0, l) ∷ rest) (sym (same_Some _ _ h))
   same_at (a ∷ rest) (suc i) fs h = ap (λ (l : Numbered I). a ∷ l) (same_at rest i fs h)
 
-  -- The last files as they were leave the attempts as they were.
+  -- Setting the last files to what they were does not change the attempts.
   pub kept_known : (es now : Numbered I) (fs more : Files I) → es ≡ now → Some fs ≡ slice_get (values_of es) (length es - 1) → more ≡ fs
       → set_value_at es (length es - 1) more ≡ now
   kept_known es now fs more e h m = ap (set_value_at es (length es - 1)) m ∙ same_at es (length es - 1) fs (sym h) ∙ e

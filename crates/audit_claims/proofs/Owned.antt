@@ -71,7 +71,7 @@ module _ {I : Type 0} where
       by true g ih = ap (λ (l : Numbered I). (x.0, with_last p v l) ∷ xs) (sym (some_is g))
       by false g ih = ap (λ (l : Listed I). x ∷ l) (ih g)
 
-  -- What a task has stays as it is.
+  -- Setting a task's attempts to what they were changes nothing.
   pub value_set : (t : ℕ) (es : Listed I) (ns : Numbered I) → lookup (nat_eq t) es ≡ Some ns → set_value (nat_eq t) es ns ≡ es
   value_set t [] ns h = refl
   value_set t (x ∷ xs) ns h = by (nat_eq t x.0) h (value_set t xs ns)

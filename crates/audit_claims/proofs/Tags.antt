@@ -7,6 +7,6 @@ use Rattle.basics.specs.Order.{text_eq}
 use Rattle.audit_claims.specs.Claims.{Tags}
 use Rattle.audit_claims.specs.Etags.{tags_eq}
 
--- What `==` of two contents answers decides whether they have the same tags.
+-- The result of `==` of two contents decides whether they have the same tags.
 pub tags_decide : (a b : Tags) (same : Bool) → same ≡ tags_eq a b → Decides same (a ≡ b)
 tags_decide = slice_eq-Decides (λ x y. slice_eq-Decides Decides-eqb x y (text_eq x y) refl)

@@ -22,16 +22,16 @@ last_has c p = is_some (file_at (last_files (numbered c.current c.listed)) p)
 abbrev pub with_next : ℕ → ℕ → Claimed → Claimed
 with_next t a c = record { listed = with_attempt t a c.listed; current = t }
 
--- Every number below this is the number of a task with an attempt.
+-- Each task below this number has an attempt.
 abbrev pub AllListed : Listed Tags → ℕ → Type 0
 AllListed listed tasks = (t : ℕ) → t < tasks → 0 < length (numbered t listed)
 
--- The task of this number has no attempt, and each one before it has some.
+-- The task with this number has no attempt, and each one before it has one.
 pub record IsFirstMissing (listed : Listed Tags) (t : ℕ) : Type 0 where
   pub missing : numbered t listed ≡ []
   pub before : AllListed listed t
 
--- The index names for each path the task that owns it, and where attempts are listed, the task of the last one has some.
+-- The index maps each path to the task that owns it. If attempts are listed, the task of the last one has an attempt.
 pub record IsIndexed (listed : Listed Tags) (index : List (List ℕ × ℕ)) (current : ℕ) : Type 0 where
   pub owners : (p : List ℕ) → lookup (text_eq p) index ≡ owner p listed
   pub some : 0 < length listed → 0 < length (numbered current listed)

@@ -17,7 +17,7 @@ tags_equiv = lists_equiv text_equiv
 pub tags_per : IsPartialEquivalence tags_eq
 tags_per = partial_equiv_from_equiv tags_equiv
 
--- Paths with the tags of their contents.
+-- Paths with the tags of their contents, as a finite map.
 abbrev pub TagMap : Type 0
 TagMap = map.FinMap text_cmp Tags
 

@@ -25,7 +25,7 @@ impl Model for Attempts {
 }
 
 impl Attempts {
-    /// No attempts. Takes no memory.
+    /// Returns an empty list of attempts. Takes no memory.
     pub fn new(alloc: Global) -> Attempts
         ensures empty { result ≡ [] }
     {
@@ -34,22 +34,22 @@ impl Attempts {
         }
     }
 
-    /// Whether there is no attempt.
+    /// Returns whether there is no attempt.
     pub fn is_empty(&self) -> bool
         ensures none { IsTrue result ↔ (length self.now ≡ 0) }
     {
         self.attempts.is_empty()
     }
 
-    /// Whether there is an attempt of this number.
+    /// Returns whether there is an attempt with this number.
     pub fn has(&self, attempt: u32) -> bool
         ensures found { result ≡ is_some (lookup (nat_eq attempt) self.now) }
     {
         self.attempts.contains_key(&attempt)
     }
 
-    /// Adds an attempt of another number behind the others, with no file yet. Fails only if memory runs out; the
-    /// attempts are then as before.
+    /// Adds an attempt with another number after the others, with no file yet. Fails only if memory
+    /// runs out; the attempts are then unchanged.
     pub fn add(&mut self, alloc: Global, attempt: u32) -> Result<(), AllocError>
         requires other { is_some (lookup (nat_eq attempt) self.old) ≡ false }
         ensures ok { OnOk result (self.new ≡ self.old ++ (attempt, []) ∷ []) }
@@ -61,7 +61,7 @@ impl Attempts {
         }
     }
 
-    /// Whether the last attempt has a file at this path.
+    /// Returns whether the last attempt has a file at this path.
     pub fn last_has(&self, path: &Text) -> bool
         ensures found { result ≡ is_some (file_at (last_files self.now) path.now) }
     {
@@ -71,8 +71,8 @@ impl Attempts {
         }
     }
 
-    /// Adds a file to the last attempt; does nothing if there is no attempt. Fails only if memory runs out; the
-    /// attempts are then as before.
+    /// Adds a file to the last attempt, or does nothing if there is no attempt. Fails only if
+    /// memory runs out; the attempts are then unchanged.
     pub fn add_file(&mut self, path: Text, etags: Etags) -> Result<(), AllocError>
         requires other { is_some (file_at (last_files self.old) path) ≡ false }
         ensures ok { OnOk result (self.new ≡ with_last path etags self.old) }
@@ -84,7 +84,7 @@ impl Attempts {
         files.add(path, etags)
     }
 
-    /// The attempts' numbers and files, in the order of the trace.
+    /// Returns the attempts' numbers and files, in the order of the trace.
     pub fn held(&self) -> &IndexMap<u32, TagFiles>
         ensures entries { result.now.entries ≡ self.now }
     {

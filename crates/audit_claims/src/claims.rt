@@ -15,10 +15,10 @@ use s3_types::Text;
 use std::alloc::{AllocError, Global};
 use std::marker::Model;
 
-/// What became of a file that a line lists.
+/// The result of listing a file.
 #[derive(Clone, Copy, Debug, PartialEq, Eq)]
 pub enum FileFit {
-    /// It is a file of the last attempt now.
+    /// The file is a file of the last attempt now.
     Added,
     /// The last attempt has a file at its path already.
     Repeated,
@@ -26,8 +26,8 @@ pub enum FileFit {
     SamePath,
 }
 
-/// What the first lines of a trace claim: the attempts of each task with their files. An index tells in O(1) which
-/// task writes a path.
+/// The claim in the first lines of a trace: the attempts of each task with their files. An index
+/// finds in O(1) which task writes a path.
 #[derive(Drop)]
 pub struct Claims {
     alloc: Global,
@@ -136,7 +136,7 @@ fn put_file(
 }
 
 impl Claims {
-    /// No attempts. Takes no memory.
+    /// Returns a claim without attempts. Takes no memory.
     pub fn new(alloc: Global) -> Claims
         ensures listed { result.listed ≡ [] }
         ensures current { result.current ≡ 0 }
@@ -149,14 +149,14 @@ impl Claims {
         }
     }
 
-    /// Whether no attempt is listed.
+    /// Returns whether no attempt is listed.
     pub fn is_empty(&self) -> bool
         ensures none { IsTrue result ↔ (length self.now.listed ≡ 0) }
     {
         self.tasks.is_empty()
     }
 
-    /// Whether the task has an attempt of this number.
+    /// Returns whether the task has an attempt with this number.
     pub fn has_attempt(&self, task: u32, attempt: u32) -> bool
         ensures found { result ≡ has_attempt task attempt self.now.listed }
     {
@@ -166,9 +166,9 @@ impl Claims {
         }
     }
 
-    /// Lists an attempt of a task, with no file yet; the files that are added next are its files. Returns false and
-    /// lists nothing if the task has an attempt of this number already. Fails only if memory runs out; the claim is
-    /// then as before.
+    /// Lists an attempt of a task, with no file yet; the files that are added next are its files.
+    /// Returns false and lists nothing if the task has an attempt with this number already. Fails
+    /// only if memory runs out; the claim is then unchanged.
     pub fn add_attempt(&mut self, task: u32, attempt: u32) -> Result<bool, AllocError>
         ensures is_new { IfOk result (λ is_new. is_new ≡ not (has_attempt task attempt self.old.listed)) }
         ensures after { IfOk result (λ is_new. self.new ≡ cond is_new (with_next task attempt self.old) self.old) }
@@ -191,7 +191,7 @@ impl Claims {
         }
     }
 
-    /// The task of which an attempt has a file at this path, if there is one, in O(1).
+    /// Returns the task of which an attempt has a file at this path, if there is one, in O(1).
     pub fn owner(&self, path: &Text) -> Option<u32>
         ensures owner { result ≡ owner path.now self.now.listed }
     {
@@ -208,7 +208,7 @@ impl Claims {
         }
     }
 
-    /// What becomes of a file at this path if it is added next.
+    /// Returns the result of adding a file at this path next.
     pub fn fit(&self, path: &Text) -> FileFit
         ensures fit { result ≡ fit_of self.now path.now }
     {
@@ -221,9 +221,9 @@ impl Claims {
         }
     }
 
-    /// Adds a file to the attempt that was listed last. Adds nothing if that attempt has a file at this path
-    /// (`Repeated`), or an attempt of another task has one (`SamePath`). Fails only if memory runs out; the claim is
-    /// then as before.
+    /// Adds a file to the attempt that was listed last. Adds nothing if that attempt has a file at
+    /// this path (`Repeated`), or an attempt of another task has one (`SamePath`). Fails only if
+    /// memory runs out; the claim is then unchanged.
     pub fn add_file(&mut self, path: Text, etags: Etags) -> Result<FileFit, AllocError>
         requires some { 0 < length self.old.listed }
         ensures fit { IfOk result (λ fit. fit ≡ fit_of self.old path) }
@@ -239,14 +239,14 @@ impl Claims {
         Ok(FileFit::Added)
     }
 
-    /// The attempts of a task, if it has some.
+    /// Returns the attempts of a task, if it has any.
     pub fn attempts(&self, task: u32) -> Option<&Attempts>
         ensures found { option_copied result ≡ lookup (nat_eq task) self.now.listed }
     {
         self.tasks.get(&task)
     }
 
-    /// The attempts by task, in the order in which the tasks got their first one.
+    /// Returns the attempts by task, in the order of the tasks' first attempts.
     pub fn held(&self) -> &IndexMap<u32, Attempts>
         ensures entries { result.now.entries ≡ self.now.listed }
     {
@@ -262,8 +262,9 @@ impl Claims {
         }
     }
 
-    /// The least number below `tasks` of a task that has no attempt, or None if each one has some. Looks at no more
-    /// than one number beyond how many tasks are listed, and takes no memory.
+    /// Returns the least number below `tasks` of a task that has no attempt, or None if each one
+    /// has an attempt. Checks at most one number more than there are listed tasks, and takes no
+    /// memory.
     pub fn missing(&self, tasks: u32) -> Option<u32>
         ensures below { IfSome result (λ task. task < tasks) }
         ensures first { IfSome result (IsFirstMissing self.now.listed) }

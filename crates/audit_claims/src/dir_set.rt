@@ -25,7 +25,7 @@ impl Model for DirSet {
     ghost invariant = { λ s. AreDirectories (map (λ d. d.items) s.dirs.keys) };
 }
 
-/// The parent directory of a path, up to and with its last `/`.
+/// Returns the parent directory of a path, up to and with its last `/`.
 pub(crate) fn directory(path: &[u8]) -> &[u8]
     ensures directory { result.now ≡ directory path.now }
 {
@@ -40,7 +40,7 @@ pub(crate) fn directory(path: &[u8]) -> &[u8]
 }
 
 impl DirSet {
-    /// No directories. Takes no memory.
+    /// Returns a set without directories. Takes no memory.
     pub(crate) fn new(alloc: Global) -> DirSet
         ensures empty { result ≡ [] }
     {
@@ -59,7 +59,7 @@ impl DirSet {
         Ok(())
     }
 
-    /// Whether it has this directory.
+    /// Returns whether the set has this directory.
     pub(crate) fn has(&self, dir: &[u8]) -> bool
         ensures has { result ≡ has_dir dir.now self.now }
     {
@@ -74,7 +74,8 @@ impl DirSet {
         path[n] == b'/' && self.has(&path[..n + 1])
     }
 
-    /// Whether a path is below one of the directories. Looks for the prefixes of the path that end in `/`.
+    /// Returns whether a path is below one of the directories. Looks up the prefixes of the path
+    /// that end in `/`.
     pub(crate) fn reaches(&self, path: &[u8]) -> bool
         ensures below { result ≡ list_any (λ d. is_below d path.now) self.now }
     {
@@ -97,7 +98,7 @@ impl DirSet {
         Ok(())
     }
 
-    /// The directories that another set has too. Fails only if memory runs out.
+    /// Returns the directories that another set has too. Fails only if memory runs out.
     pub(crate) fn shared(&self, alloc: Global, other: &DirSet) -> Result<DirSet, AllocError>
         ensures both { IfOk result (λ s. (d : List ℕ) → has_dir d s ≡ (has_dir d self.now && has_dir d other.now)) }
     {

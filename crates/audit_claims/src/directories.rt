@@ -39,7 +39,7 @@ fn add_files(alloc: Global, dirs: &mut DirSet, files: &TagFiles) -> Result<(), A
     Ok(())
 }
 
-/// The directories that an attempt writes into.
+/// Returns the directories that an attempt writes into.
 fn written(alloc: Global, files: &TagFiles) -> Result<DirSet, AllocError>
     ensures dirs { IfOk result (λ s. (d : List ℕ) → has_dir d s ≡ writes_into d files.now) }
 {
@@ -59,7 +59,7 @@ fn add_attempts(alloc: Global, dirs: &mut DirSet, attempts: &Attempts) -> Result
     Ok(())
 }
 
-/// The directories that every attempt of a task writes into; none if there is no attempt.
+/// Returns the directories that every attempt of a task writes into; none if there is no attempt.
 fn common(alloc: Global, attempts: &Attempts) -> Result<DirSet, AllocError>
     ensures all { IfOk result (λ s. (d : List ℕ) → has_dir d s ≡ all_write d (files_of attempts.now)) }
 {
@@ -76,8 +76,8 @@ fn common(alloc: Global, attempts: &Attempts) -> Result<DirSet, AllocError>
 }
 
 impl Directories {
-    /// The directories of the claimed files. Looks at each file twice, in O(log n) for n files. Fails only if memory
-    /// runs out.
+    /// Returns the directories of the claimed files. Visits each file twice, in O(log n) for n
+    /// files. Fails only if memory runs out.
     pub fn of(alloc: Global, claims: &Claims) -> Result<Directories, AllocError>
         ensures all { IfOk result (AreOf claims.now.listed) }
     {
@@ -91,15 +91,16 @@ impl Directories {
         Ok(Directories { some, always })
     }
 
-    /// Whether a path is below a directory that some attempt writes into. Looks for each prefix of the path that ends
-    /// in `/`, in O(log n).
+    /// Returns whether a path is below a directory that some attempt writes into. Looks up each
+    /// prefix of the path that ends in `/`, in O(log n).
     pub fn is_reached(&self, path: &Text) -> bool
         ensures reached { (listed : Listed Tags) → AreOf listed self.now → result ≡ some_reaches path.now listed }
     {
         self.some.reaches(path.as_bytes())
     }
 
-    /// Whether a path is below a directory that every attempt of some task writes into, at the same cost.
+    /// Returns whether a path is below a directory that every attempt of some task writes into, at
+    /// the same cost.
     pub fn is_always_reached(&self, path: &Text) -> bool
         ensures reached { (listed : Listed Tags) → AreOf listed self.now → result ≡ some_always_reaches path.now listed }
     {

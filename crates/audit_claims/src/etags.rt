@@ -22,7 +22,8 @@ impl Model for Etags {
 }
 
 impl Etags {
-    /// The tags of a list, which is kept and not copied. Fails only if memory runs out.
+    /// Returns the identity with the tags of a list, which is kept and not copied. Fails only if
+    /// memory runs out.
     pub fn new(alloc: Global, tags: TextList) -> Result<Etags, AllocError>
         ensures kept { IfOk result (λ e. e ≡ tags) }
     {
@@ -31,7 +32,7 @@ impl Etags {
         })
     }
 
-    /// The tags.
+    /// Returns the tags.
     pub fn as_slice(&self) -> &[Text]
         ensures tags { result.now ≡ self.now }
     {

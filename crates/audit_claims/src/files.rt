@@ -23,7 +23,7 @@ impl Model for TagFiles {
 }
 
 impl TagFiles {
-    /// No files. Takes no memory.
+    /// Returns an empty list of files. Takes no memory.
     pub fn new(alloc: Global) -> TagFiles
         ensures empty { result ≡ [] }
     {
@@ -32,28 +32,29 @@ impl TagFiles {
         }
     }
 
-    /// Whether there is no file.
+    /// Returns whether there is no file.
     pub fn is_empty(&self) -> bool
         ensures none { IsTrue result ↔ (length self.now ≡ 0) }
     {
         self.files.is_empty()
     }
 
-    /// Whether a file has this path.
+    /// Returns whether a file has this path.
     pub fn has(&self, path: &Text) -> bool
         ensures found { result ≡ is_some (file_at self.now path.now) }
     {
         self.files.contains_key(path)
     }
 
-    /// The tags of the file at this path, if there is one.
+    /// Returns the tags of the file at this path, if there is one.
     pub fn get(&self, path: &Text) -> Option<&Etags>
         ensures found { option_copied result ≡ file_at self.now path.now }
     {
         self.files.get(path)
     }
 
-    /// Adds a file of another path behind the others. Fails only if memory runs out; the files are then as before.
+    /// Adds a file with another path after the others. Fails only if memory runs out; the files are
+    /// then unchanged.
     pub fn add(&mut self, path: Text, etags: Etags) -> Result<(), AllocError>
         requires other { is_some (file_at self.old path) ≡ false }
         ensures ok { OnOk result (self.new ≡ self.old ++ (path, etags) ∷ []) }
@@ -65,7 +66,7 @@ impl TagFiles {
         }
     }
 
-    /// The files' paths and tags, in the order of the trace.
+    /// Returns the files' paths and tags, in the order of the trace.
     pub fn held(&self) -> &IndexMap<Text, Etags>
         ensures entries { result.now.entries ≡ self.now }
     {

@@ -1,19 +1,22 @@
-//! What a trace claims: the attempts of each task and their files, each by the tags of its parts.
+//! The claim of a trace: the attempts of each task and their files, each with the tags of its
+//! parts.
 //!
 //! # What is proved
 //!
-//! `Claims`: Attempts and files are listed one after the other. An attempt that is listed already, a path that the attempt has already,
-//! and a path that an attempt of another task has are not added. `owner` is the task whose attempts write a path, and `missing` the
-//! first task that has no attempt.
+//! - `Claims`: attempts and files are listed one after the other. It does not add an attempt that
+//!   is listed already, a path that the attempt has already, or a path that an attempt of another
+//!   task has. `owner` returns the task whose attempts write a path, and `missing` the first task
+//!   that has no attempt.
+//! - `Directories`: a path is reached exactly if it is below a directory that some attempt writes
+//!   into. It is always reached exactly if it is below one that every attempt of some task writes
+//!   into.
+//! - `Etags`: two are equal exactly if they have the same tags in the same order.
+//! - `TagFiles`, `Attempts`, `PathTags`: a value that is added or put is found again, in the order
+//!   of adding or in that of the paths.
+//! - After an error all is unchanged.
 //!
-//! `Directories`: A path is reached exactly if it is below a directory that some attempt writes into, and always reached exactly if it is
-//! below one that every attempt of some task writes into.
-//!
-//! `Etags`: Two are equal exactly if they have the same tags in the same order. `TagFiles`, `Attempts`, `PathTags`: What is added or put
-//! is found again, in the order in which it was added or in that of the paths.
-//!
-//! After an error all is as before. Left open: that an error comes only if memory runs out, and that `missing` looks at no more numbers
-//! than there are listed tasks, and one more.
+//! Left open: that an error comes only if memory runs out, and that `missing` checks at most one
+//! number more than there are listed tasks.
 #![tactic(auto)]
 
 mod attempts;

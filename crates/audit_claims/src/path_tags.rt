@@ -8,8 +8,8 @@ use std::alloc::{AllocError, Global};
 use std::collections::BTreeMap;
 use std::marker::Model;
 
-/// Paths with the tags of their contents, which clauses see as a finite map. The paths are ordered by their bytes.
-/// Each call costs O(log n) for n paths.
+/// Paths with the tags of their contents, which contracts see as a finite map. The paths are
+/// ordered by their bytes. Each call costs O(log n) for n paths.
 #[derive(Drop)]
 pub struct PathTags {
     tags: BTreeMap<Text, Etags>,
@@ -27,7 +27,7 @@ impl Model for PathTags {
 }
 
 impl PathTags {
-    /// No paths. Takes no memory.
+    /// Returns a map without paths. Takes no memory.
     pub fn new(alloc: Global) -> PathTags
         ensures empty { result ≡ map.empty }
     {
@@ -36,14 +36,15 @@ impl PathTags {
         }
     }
 
-    /// The tags at a path, if it has some.
+    /// Returns the tags at a path, if it has any.
     pub fn get(&self, path: &Text) -> Option<&Etags>
         ensures found { option_copied result ≡ map.get self.now path.now }
     {
         self.tags.get(path)
     }
 
-    /// Gives a path these tags, in place of those that it has. Fails only if memory runs out; all is then as before.
+    /// Gives a path these tags, in place of those that it has. Fails only if memory runs out; all
+    /// is then unchanged.
     pub fn put(&mut self, path: Text, etags: Etags) -> Result<(), AllocError>
         ensures ok { OnOk result (self.new ≡ map.insert self.old path etags) }
         ensures err { OnErr result (self.new ≡ self.old) }
@@ -52,14 +53,14 @@ impl PathTags {
         Ok(())
     }
 
-    /// Takes a path out with its tags, if it has some.
+    /// Removes a path with its tags, if it has any.
     pub fn remove(&mut self, path: &Text)
         ensures gone { self.new ≡ map.remove self.old path.now }
     {
         let _ = self.tags.remove(path);
     }
 
-    /// The paths and their tags, in the order of the paths.
+    /// Returns the paths and their tags, in the order of the paths.
     pub fn held(&self) -> &BTreeMap<Text, Etags>
         ensures entries { result.now.entries ≡ map.entries self.now }
     {

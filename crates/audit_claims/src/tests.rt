@@ -1,9 +1,9 @@
-//! A claim beside what is expected of it.
+//! Compares a claim with what is expected of it.
 use crate::{Claims, Directories, Etags, FileFit, PathTags};
 use s3_types::{Text, TextList};
 use std::alloc::{AllocError, Global};
 
-/// A line that lists a file of an attempt, and what becomes of it.
+/// A line that lists a file of an attempt, and the expected results.
 #[derive(Clone, Copy)]
 struct Row {
     task: u32,
@@ -19,7 +19,7 @@ fn etags(alloc: Global, tag: &str) -> Result<Etags, AllocError> {
     Etags::new(alloc, tags)
 }
 
-/// Lists a row's attempt and file, and tells whether that came out as the row says.
+/// Lists a row's attempt and file, and returns whether the results are those of the row.
 fn add(alloc: Global, claims: &mut Claims, row: &Row) -> Result<bool, AllocError> {
     let is_new = claims.add_attempt(row.task, row.attempt)?;
     if claims.is_empty() {
@@ -40,7 +40,7 @@ fn line(task: u32, attempt: u32, path: &'static str, is_new: bool, fit: FileFit)
     }
 }
 
-/// Lists some lines, and tells whether each came out as expected.
+/// Lists some lines, and returns whether each had its expected results.
 fn list(alloc: Global, claims: &mut Claims) -> Result<bool, AllocError> {
     let lines = [
         line(0, 0, "a/x", true, FileFit::Added),
@@ -57,7 +57,8 @@ fn list(alloc: Global, claims: &mut Claims) -> Result<bool, AllocError> {
     Ok(same)
 }
 
-/// Whether a path is below a directory that some attempt writes into, and one that all of some task do.
+/// Returns whether a path is below a directory that some attempt writes into, and whether it is
+/// below one that all attempts of some task write into.
 fn reached(
     alloc: Global,
     directories: &Directories,
@@ -99,7 +100,7 @@ fn is_copied(tags: &Etags) -> Result<bool, AllocError> {
     Ok(copy == *tags)
 }
 
-/// Gives a path tags, and tells whether it has them then.
+/// Gives a path tags, and returns whether it has them then.
 fn has_tags(alloc: Global, paths: &mut PathTags, path: &Text) -> Result<bool, AllocError> {
     put(alloc, paths, path)?;
     match paths.get(path) {

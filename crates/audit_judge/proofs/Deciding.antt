@@ -1,4 +1,4 @@
--- A judge decides rightly: from what the tests answer to the first reason, or to what is known afterwards.
+-- A judge decides rightly: the results of the tests give the first reason, or the judge's knowledge afterwards.
 use Rattle.audit_claims.specs.Etags.{TagMap}
 use Rattle.audit_claims.specs.Claims.{AllListed, IsFirstMissing, Tags}
 use Rattle.basics.specs.Order.{text_cmp, text_ties}
@@ -59,7 +59,7 @@ new_or_not markers.Absent = inr (λ e. cc)
 new_or_not markers.Old = inr (λ e. cc)
 new_or_not markers.New = inl refl
 
--- there are flags for each attempt
+-- There are flags for each attempt.
 pub fitting_of : (D : Attempts Tags → Files Tags → Type 0) (listed : Listed Tags) (rows : List (List Bool)) → TellsOfAll D listed rows
     → Fitting listed rows
 fitting_of D [] [] h = tt
@@ -136,7 +136,7 @@ module _
     abbrev pub paths : List (List ℕ)
     paths = paths_of changes
 
-    -- the moment after the changes
+    -- The moment after the changes.
     abbrev pub n : Moment Tags
     n = record { begun = begun; marker = marker; shown = λ p. fin.get s.shown p }
 
@@ -146,7 +146,7 @@ module _
     c : Turned
     c = turn b moments f s.shown marker paths rise (differ_changed b changes marker s.shown is old)
 
-    -- the bench afterwards
+    -- The judge's knowledge afterwards.
     abbrev pub after : Bool → List (List Bool) → Bench
     after need flags = bench_of s begun marker need flags s.shown
 
@@ -171,7 +171,7 @@ module _
     calm_right h = still_calm s.keeps s.tasks s.claimed.listed (opened b) moments (now b) n paths c
         (λ e. sym (ap (λ d. early_of d (find (shows_sign signs.Differs s) paths)) e) ∙ h)
 
-    -- no choice is needed
+    -- No choice is needed.
     pub unneeded_right : needed ≡ false → marker ≢ markers.New → find (shows_sign signs.Differs s) paths ≡ None → Right None needed rows
     unneeded_right none unmarked same = follows_calm b moments f s.shown marker needed rows none none refl (record {
       shows = same_next s.keeps s.tasks s.claimed.listed (opened b) moments (now b) n paths c same (last_calm b moments f none).shows;
@@ -240,7 +240,7 @@ module _
           stay : NoLost s.keeps s.tasks s.claimed.listed (opened b) moments (now b) n paths c
           stay = no_lost s.keeps s.tasks s.claimed.listed (opened b) moments (now b) n paths c kept
 
-          -- the flags once the attempts that do not fit are ruled out
+          -- The flags after the attempts that do not fit are ruled out.
           abbrev pub parts : List (List Bool)
           parts = narrow_all (meets demands.Part s) s.claimed.listed paths rows
 
@@ -281,7 +281,7 @@ module _
               new : NoStale s.keeps s.tasks s.claimed.listed (opened b) moments (now b) n paths c
               new = no_stale s.keeps s.tasks s.claimed.listed (opened b) moments (now b) n paths c calm_old
 
-              -- without a new marker that is all
+              -- Without a new marker, these flags are the result.
               pub unmarked_right : marker ≢ markers.New → Right None true parts
               unmarked_right unmarked = follows_chosen b moments f s.shown marker true parts refl tasks calm calm_old
                   (unmarked_told s.keeps s.tasks s.claimed.listed (opened b) moments (now b) n paths c calm calm_old unmarked parts
@@ -289,7 +289,7 @@ module _
                   full_parts (others_next s.keeps s.tasks s.claimed.listed (opened b) moments (now b) n paths c calm calm_old ours stay
                   (λ e. absurd (unmarked e)))
 
-              -- the same of flags that are these
+              -- The same for flags that are equal to these.
               pub unmarked_from : (next : List (List Bool)) → next ≡ parts → marker ≢ markers.New → Right None true next
               unmarked_from next same unmarked = subst (Right None true) (sym same) (unmarked_right unmarked)
 
@@ -324,7 +324,7 @@ module _
                 least_wholes = least_all (meets demands.Whole s) looked s.claimed.listed parts None
                     (none_least s.claimed.listed parts full_parts)
 
-                -- the first task of which readers see the whole of no attempt
+                -- The first task that has no attempt whose whole readers see.
                 half_right : (t : ℕ) (flags : List (List Bool))
                     → least_from (meets demands.Whole s) s.claimed.listed looked parts None ≡ Some t
                     → Right (Some (told.Half t)) true flags
@@ -337,7 +337,7 @@ module _
                     → EmptyIn (λ t. ⊥) s.claimed.listed wholes
                 full_wholes h = subst (λ o. EmptyIn (AtLeast o) s.claimed.listed wholes) h least_wholes.each
 
-                -- the paths with files left
+                -- The paths with files left.
                 abbrev pub leftover : List (List ℕ)
                 leftover = left_paths was s.shown paths
 
@@ -400,7 +400,7 @@ module _
                     same)
                     (after ∙ ap (narrow_all (meets demands.Whole s) s.claimed.listed looked) same)
 
--- ---- from what a judge knows before a change, and back
+-- ---- from a judge's knowledge before a change, and back
 
 module _
     (b : Bench) (k s : Scene) (begun : Bool) (was : Marker) (needed : Bool) (rows : List (List Bool)) (shows changes items : List Change)
@@ -425,9 +425,9 @@ module _
         seen (subst (λ (l : List Change). IsFirst (claim_of s.keeps s.tasks s.claimed.listed) (λ p. fin.get s.opening p) moments (now after)
         (paths_of l) r) second h))
 
--- ---- what a reason tells of a run
+-- ---- what a reason shows of a run
 
--- a reason that holds tells that the run is not sound with one more moment
+-- A reason that holds shows that the run is not sound with one more moment.
 pub unsound : (b : Bench) (moments : List (Moment Tags)) (m : Moment Tags) (changed : List (List ℕ)) (r : Reason)
     → GoodList b.tasks b.claimed.listed → IsFirst (claim b) (opened b) moments m changed r
     → Sound (claim b) (opened b) (moments ++ m ∷ []) → ⊥

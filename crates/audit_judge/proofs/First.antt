@@ -11,7 +11,7 @@ use Rattle.std.specs.declared.cmp.Ordering.TheVariants.{Less}
 use Rattle.std.specs.Ordering.{ordering_reverse}
 use Rattle.std.proofs.lemmas.Map.Keys.{sorted_head, sorted_tail}
 
--- the path is one of these
+-- The path is one of these.
 abbrev pub is_in : List ℕ → List (List ℕ) → Bool
 is_in q ps = list_any (bytes_eq q) ps
 
@@ -30,7 +30,7 @@ of_at P (p ∷ ps) h = (
   of_at P ps (λ q i. h q (or_right (bytes_eq q p) (is_in q ps) i)),
 )
 
--- no path is before and behind another
+-- No path is both before and after another.
 less_less : (p q : List ℕ) → text_cmp p q ≡ Less → text_cmp q p ≡ Less → ⊥
 less_less p q a b = cc (a, text_total.antisymm p q ∙ ap ordering_reverse b)
 
@@ -50,7 +50,7 @@ module _ (test : List ℕ → Bool) where
   pub none_at : (ps : List (List ℕ)) → find test ps ≡ None → (q : List ℕ) → is_in q ps ≡ true → test q ≡ false
   none_at ps h = at_of (λ p. test p ≡ false) ps (none_of ps h)
 
-  -- the test holds at the first path
+  -- The test holds at the first path.
   pub passes : (ps : List (List ℕ)) (p : List ℕ) → find test ps ≡ Some p → test p ≡ true
   passes [] p h = absurd (cc h)
   passes (x ∷ ps) p h = by (test x) refl h (passes ps p)
@@ -59,7 +59,7 @@ module _ (test : List ℕ → Bool) where
       by true e h later = subst (λ q. test q ≡ true) (cc h) e
       by false e h later = later h
 
-  -- it is one of the list
+  -- The first path is one of the list.
   pub stands : (ps : List (List ℕ)) (p : List ℕ) → find test ps ≡ Some p → is_in p ps ≡ true
   stands [] p h = absurd (cc h)
   stands (x ∷ ps) p h = by (test x) h (stands ps p)
@@ -68,7 +68,7 @@ module _ (test : List ℕ → Bool) where
       by true h later = or_left (bytes_eq p x) (is_in p ps) ((bytes_eq-Decides p x).1 (cc h))
       by false h later = or_right (bytes_eq p x) (is_in p ps) (later h)
 
-  -- it fails at each lesser one
+  -- The test fails at each lesser path.
   pub least : (ps : List (List ℕ)) (p : List ℕ) → IsStrictlySortedBy text_cmp ps → find test ps ≡ Some p → (q : List ℕ)
       → text_cmp q p ≡ Less → is_in q ps ≡ true → test q ≡ false
   least [] p s h q l i = absurd (cc h)

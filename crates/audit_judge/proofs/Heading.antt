@@ -1,4 +1,4 @@
--- What holds of a claim as its attempts and files are listed.
+-- The facts that hold of a claim while its attempts and files are listed.
 use Rattle.audit_claims.proofs.Owned.{may_add, owner_attempt, owner_file}
 use Rattle.audit_claims.specs.Fits.{after_fit, fit_of}
 use Rattle.audit_claims.specs.declared.claims.FileFit.{FileFit}
@@ -244,7 +244,7 @@ up_all (x ∷ xs) = (refl, up_all xs)
 pub follows_start : (b : Bench) → Waits b → Follows (record b { started = true; candidates = rows_up b.claimed.listed }) []
 follows_start b h = follows_first b h (rows_up b.claimed.listed) (up_all b.claimed.listed)
 
--- nothing is known of directories yet
+-- No directories are known yet.
 pub not_known : (listed : Listed Tags) (o : Option Reached) → is_some o ≡ false → AreKnown listed o
 not_known listed None h = tt
 not_known listed (Some r) h = absurd (true≢false h)

@@ -1,4 +1,4 @@
--- Steps of loops over attempts, changes and paths, and what is known of directories.
+-- Steps of loops over attempts, changes and paths, and the known directories.
 use Rattle.audit_claims.specs.Claims.{Tags}
 use Rattle.judging.specs.Listed.{Listed, ListedOnce, Numbered, by_task, owner, writes_among}
 use Rattle.soundness.specs.Claims.{Files, always_reaches, file_at, reaches}
@@ -78,7 +78,7 @@ narrow_step suits p a rest k flags l =
     (drop n (lowered (suits (file_at a.1 p)) k flags))
     ≡ take k flags ++ narrow_task suits p (a ∷ rest) (drop k flags)) e (step_suc suits p a rest k flags l)
 
--- one more attempt of a loop
+-- One more attempt of a loop.
 pub rest_more : (suits : Option Tags → Bool) (p : List ℕ) (flags next end : List Bool) (k : ℕ) (left rest : Numbered Tags)
     (a : ℕ × Files Tags) (met : Bool) → k + length left ≡ length flags
     → take k flags ++ narrow_task suits p left (drop k flags) ≡ end → left ≡ a ∷ rest → met ≡ suits (file_at a.1 p)
@@ -115,7 +115,7 @@ module _ (suits : List ℕ → Option Tags → Bool) (listed : Listed Tags) wher
   least_from-append (p ∷ ps) qs rows o = least_from-append ps qs (narrow suits listed p rows)
       (lesser o (empty_at listed p (narrow suits listed p rows)))
 
-  -- one more part of the paths
+  -- One more part of the paths.
   pub narrowed_more : (ps qs left : List (List ℕ)) (rows next end : List (List Bool)) → left ≡ ps ++ qs
       → next ≡ narrow_all suits listed ps rows
       → narrow_all suits listed left rows ≡ end → narrow_all suits listed qs next ≡ end
@@ -160,7 +160,7 @@ key_is t k (x ∷ xs) h = by (nat_eq t x.0) refl h (key_is t k xs)
     by true e h later = let here : x.0 ≡ k = cc h in sym here ∙ sym (eqb-true t x.0 e)
     by false e h later = later h
 
--- a path without an owner
+-- A path without an owner.
 pub free_narrow : (suits : List ℕ → Option Tags → Bool) (p : List ℕ) (listed : Listed Tags) (rows : List (List Bool))
     → owner p listed ≡ None
     → narrow suits listed p rows ≡ rows
@@ -183,7 +183,7 @@ free_empty p (x ∷ xs) (row ∷ rows) h = by (writes_among p x.1) h (free_empty
     by true h later = absurd (cc h)
     by false h later = later h
 
--- the owner is listed
+-- The owner is listed.
 pub owner_listed : (p : List ℕ) (t : ℕ) (listed : Listed Tags) → owner p listed ≡ Some t → lookup (nat_eq t) listed ≡ None → ⊥
 owner_listed p t [] h none = cc h
 owner_listed p t (x ∷ xs) h none = by (writes_among p x.1) h (nat_eq t x.0) refl (owner_listed p t xs)
@@ -210,7 +210,7 @@ found_there t attempts (x ∷ xs) i there none = by i there (nat_eq t x.0) refl 
         true≢false (sym (eq-eqb t x.0 (sym number)) ∙ e)
     by (suc i) there false e later = later i there (sym (ap (λ s. cond s (Some x.1) (lookup (nat_eq t) xs)) e) ∙ none)
 
--- where it stands, none of the tasks in front of it writes the path
+-- None of the tasks in front of the owner writes the path.
 module _ (suits : List ℕ → Option Tags → Bool) (p : List ℕ) (t : ℕ) (attempts : Numbered Tags) where
   first_writes : (x : ℕ × Numbered Tags) (xs : Listed Tags) → ListedOnce (x ∷ xs) → x.0 ≡ t → owner p (x ∷ xs) ≡ Some t
       → writes_among p x.1 ≡ true
@@ -279,7 +279,7 @@ module _ (suits : List ℕ → Option Tags → Bool) (p : List ℕ) (t : ℕ) (a
       ap (λ b. cond b (cond (has_flag r) None (Some x.0)) (empty_at xs p (set rows i flags))) out.0
       ∙ empty_here xs rows i flags once.1 there out.1 h.1
 
--- ---- where the task of a path stands
+-- ---- the place of a path's task
 
 pub found_place : (t k i : ℕ) (attempts : Numbered Tags) (entries inside listed : Listed Tags) → Some k ≡ lookup_key (nat_eq t) entries
     → slice_get entries i ≡ Some (k, attempts) → entries ≡ inside → inside ≡ listed → slice_get listed i ≡ Some (t, attempts)

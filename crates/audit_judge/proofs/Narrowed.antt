@@ -1,4 +1,4 @@
--- What the flags of attempts say once those that do not suit at some paths are ruled out.
+-- What the flags of attempts say after those that do not suit at some paths are ruled out.
 use Rattle.audit_claims.specs.Claims.{Tags}
 use Rattle.judging.proofs.Owned.{either}
 use Rattle.judging.specs.Listed.{Listed, ListedOnce, Numbered, files_of, numbered, of_task, owner, writes_among}
@@ -35,7 +35,7 @@ tells_of_task D E on back (a ∷ attempts) [] h = absurd h
 tells_of_task D E on back (a ∷ attempts) (flag ∷ flags) h =
     (retell (D a.1) (E a.1) flag (on a.1) (back a.1) h.0, tells_of_task D E on back attempts flags h.1)
 
--- the same facts in other words
+-- The same facts in other words.
 pub tells_of_all : (D E : Attempts Tags → Files Tags → Type 0) → ((task : Attempts Tags) (files : Files Tags) → D task files → E task files)
     → ((task : Attempts Tags) (files : Files Tags) → E task files → D task files) → (listed : Listed Tags) (rows : List (List Bool))
     → TellsOfAll D listed rows → TellsOfAll E listed rows
@@ -47,7 +47,7 @@ tells_of_all D E on back (x ∷ xs) (row ∷ rows) h = (
   tells_of_all D E on back xs rows h.1,
 )
 
--- the same, where a fact of each listed task is known
+-- The same, if a fact of each listed task is known.
 pub tells_of_listed : (D E : Attempts Tags → Files Tags → Type 0) (P : ℕ × Numbered Tags → Type 0)
     → ((x : ℕ × Numbered Tags) (files : Files Tags) → P x → D (files_of x.1) files → E (files_of x.1) files)
     → ((x : ℕ × Numbered Tags) (files : Files Tags) → P x → E (files_of x.1) files → D (files_of x.1) files)
@@ -66,7 +66,7 @@ pub among : (p : List ℕ) (attempts : Numbered Tags) → writes (files_of attem
 among p [] = refl
 among p (a ∷ attempts) = ap (λ b. is_some (file_at a.1 p) || b) (among p attempts)
 
--- no path is written by two listed tasks
+-- No path is written by two listed tasks.
 abbrev pub Alone : Listed Tags → Type 0
 Alone [] = Unit {0}
 Alone (x ∷ xs) = ((p : List ℕ) → writes_among p x.1 ≡ true → AllByRecursion (λ y. writes_among p y.1 ≡ false) xs) × Alone xs
@@ -80,7 +80,7 @@ found_first t x xs e = ap (λ b. unwrap_or (cond b (Some x.1) (lookup (nat_eq t)
 found_later : (t : ℕ) (x : ℕ × Numbered Tags) (xs : Listed Tags) → nat_eq t x.0 ≡ false → numbered t (x ∷ xs) ≡ numbered t xs
 found_later t x xs e = ap (λ b. unwrap_or (cond b (Some x.1) (lookup (nat_eq t) xs)) []) e
 
--- what is looked up is none of the tasks where it is not found
+-- A task that is found is not one that is not found.
 not_later : (t u : ℕ) (attempts : Numbered Tags) (xs : Listed Tags) → lookup (nat_eq t) xs ≡ None → lookup (nat_eq u) xs ≡ Some attempts
     → nat_eq u t ≡ false
 not_later t u attempts [] none some = absurd (cc some)
@@ -89,7 +89,7 @@ not_later t u attempts (y ∷ ys) none some = elim (either (nat_eq u t)) [ inr n
     by : u ≡ t → ⊥
     by e = cc (none, subst (λ k. lookup (nat_eq k) (y ∷ ys) ≡ Some attempts) e some)
 
--- a task that writes a path is looked up and found
+-- A task that writes a path is found.
 looked_up : (t : ℕ) (p : List ℕ) (xs : Listed Tags) → writes (of_task t xs) p ≡ true
     → (attempts : Numbered Tags) × (lookup (nat_eq t) xs ≡ Some attempts)
 looked_up t p xs h = by (lookup (nat_eq t) xs) refl
@@ -146,7 +146,7 @@ alone (x ∷ xs) once own =
 module _ (suits : List ℕ → Option Tags → Bool) (S : List ℕ → Option Tags → Type 0)
     (is : (p : List ℕ) (f : Option Tags) → suits p f ≡ true → S p f) (isnt : (p : List ℕ) (f : Option Tags) → suits p f ≡ false → S p f → ⊥)
   where
-    -- at this path an attempt's file suits, if its task writes the path
+    -- At this path an attempt's file suits, if its task writes the path.
     abbrev pub SuitsAt : List ℕ → Attempts Tags → Files Tags → Type 0
     SuitsAt p task files = writes task p ≡ true → S p (file_at files p)
 
@@ -166,7 +166,7 @@ module _ (suits : List ℕ → Option Tags → Bool) (S : List ℕ → Option Ta
     task_told D p (a ∷ attempts) [] h = absurd h
     task_told D p (a ∷ attempts) (flag ∷ flags) h = (flag_told (D a.1) p (file_at a.1 p) flag h.0, task_told D p attempts flags h.1)
 
-    -- tasks that do not write the path are not touched
+    -- The flags of tasks that do not write the path do not change.
     rest_told : (D : Attempts Tags → Files Tags → Type 0) (p : List ℕ) (xs : Listed Tags) (rows : List (List Bool))
         → AllByRecursion (λ y. writes_among p y.1 ≡ false) xs → TellsOfAll D xs rows
         → TellsOfAll (λ task files. D task files × SuitsAt p task files) xs rows
@@ -203,7 +203,7 @@ module _ (suits : List ℕ → Option Tags → Bool) (S : List ℕ → Option Ta
           later,
         )
 
-    -- at one path after the other
+    -- The flags after one path after the other.
     pub all_told : (ps : List (List ℕ)) (D : Attempts Tags → Files Tags → Type 0) (listed : Listed Tags) (rows : List (List Bool))
         → Alone listed
         → TellsOfAll D listed rows
@@ -218,15 +218,15 @@ module _ (suits : List ℕ → Option Tags → Bool) (S : List ℕ → Option Ta
         (all_told ps (λ task files. D task files × SuitsAt p task files) listed (narrow suits listed p rows) lone
         (narrow_told D p listed rows lone h))
 
--- ---- tasks of which no attempt is left
+-- ---- tasks that have no attempt left
 
--- the first listed task of this number with no flag up, or a later one
+-- A listed task with this number has no flag up.
 abbrev pub EmptyOf : ℕ → Listed Tags → List (List Bool) → Type 0
 EmptyOf t [] rows = ⊥
 EmptyOf t (x ∷ xs) [] = ⊥
 EmptyOf t (x ∷ xs) (row ∷ rows) = ((x.0 ≡ t) × (has_flag row ≡ false)) ⊎ EmptyOf t xs rows
 
--- the tasks with no flag up are some of these
+-- Each task with no flag up is one of these.
 abbrev pub EmptyIn : (ℕ → Type 0) → Listed Tags → List (List Bool) → Type 0
 EmptyIn Q listed rows = AllZip (λ x row. has_flag row ≡ false → Q x.0) listed rows
 
@@ -234,7 +234,7 @@ abbrev pub AtLeast : Option ℕ → ℕ → Type 0
 AtLeast None u = ⊥
 AtLeast (Some t) u = t ≤ u
 
--- the number is that of the least task with no flag up, if there is one
+-- The number is that of the least task with no flag up, if there is one.
 pub record IsLeast (listed : Listed Tags) (rows : List (List Bool)) (o : Option ℕ) : Type 0 where
   pub each : EmptyIn (AtLeast o) listed rows
   pub found : (t : ℕ) → o ≡ Some t → EmptyOf t listed rows
@@ -267,7 +267,7 @@ lesser_is (Some a) (Some b) t h = by (nat_lt b a) h
     by false g = inl g
 
 module _ (suits : List ℕ → Option Tags → Bool) where
-  -- no flag goes up again
+  -- No flag goes up again.
   still_empty : (p : List ℕ) (attempts : Numbered Tags) (flags : List Bool) → has_flag flags ≡ false
       → has_flag (narrow_task (suits p) p attempts flags) ≡ false
   still_empty p [] flags h = h
@@ -289,7 +289,7 @@ module _ (suits : List ℕ → Option Tags → Bool) where
       by false (inl e) later = inl e
       by false (inr e) later = inr (later e)
 
-  -- the task that has just become empty
+  -- The task that has just lost its last attempt.
   empty_now : (p : List ℕ) (listed : Listed Tags) (rows : List (List Bool)) (t : ℕ)
       → empty_at listed p (narrow suits listed p rows) ≡ Some t → EmptyOf t listed (narrow suits listed p rows)
   empty_now p [] rows t h = absurd (cc h)
@@ -312,7 +312,7 @@ module _ (suits : List ℕ → Option Tags → Bool) where
           let rest = narrow suits xs p rows in
           inr (later (sym (ap (λ c. cond c (cond (has_flag row) None (Some x.0)) (empty_at xs p rest)) e) ∙ g))
 
-  -- besides those that were empty
+  -- The tasks without an attempt are that one and those that had none before.
   empty_others : (Q : ℕ → Type 0) (p : List ℕ) (listed : Listed Tags) (rows : List (List Bool)) → EmptyIn Q listed rows
       → ((t : ℕ) → empty_at listed p (narrow suits listed p rows) ≡ Some t → Q t) → EmptyIn Q listed (narrow suits listed p rows)
   empty_others Q p [] [] h new = tt
@@ -357,7 +357,7 @@ module _ (suits : List ℕ → Option Tags → Bool) where
   least_all (p ∷ ps) listed rows o h = least_all ps listed (narrow suits listed p rows)
       (lesser o (empty_at listed p (narrow suits listed p rows))) (least_step p listed rows o h)
 
--- ---- what they tell of a task by its number
+-- ---- what the flags say of a task by its number
 
 none_up : (D : Files Tags → Type 0) (attempts : Numbered Tags) (flags : List Bool) → AllZip (λ a flag. Tells (D a.1) flag) attempts flags
     → has_flag flags ≡ false → AllByRecursion (λ files. D files → ⊥) (files_of attempts)
@@ -366,7 +366,7 @@ none_up D (a ∷ attempts) [] h e = absurd h
 none_up D (a ∷ attempts) (true ∷ flags) h e = absurd (true≢false e)
 none_up D (a ∷ attempts) (false ∷ flags) h e = (h.0, none_up D attempts flags h.1 e)
 
--- some attempt by its place
+-- Some attempt of the list has this property.
 abbrev pub SomeOf : (Files Tags → Type 0) → Attempts Tags → Type 0
 SomeOf E [] = ⊥
 SomeOf E (files ∷ task) = E files ⊎ SomeOf E task
@@ -408,7 +408,7 @@ module _ (D : Attempts Tags → Files Tags → Type 0) where
         | inl s ↦ absurd (listed_one x.0 xs rows (subst (λ k. EmptyOf k xs rows) (eqb-true t x.0 s) e) once.0)
       ]
 
-  -- a listed task that is not among the empty ones has one
+  -- A listed task that is not among those without an attempt has one.
   pub alive : (Q : ℕ → Type 0) (t : ℕ) (listed : Listed Tags) (rows : List (List Bool)) → TellsOfAll D listed rows → EmptyIn Q listed rows
       → (Q t → ⊥) → of_task t listed ≢ [] → SomeOf (D (of_task t listed)) (of_task t listed)
   alive Q t [] rows h each other some = absurd (some refl)

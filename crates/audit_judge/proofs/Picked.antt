@@ -1,4 +1,4 @@
--- At a new marker a judge takes an attempt of each task.
+-- At a new marker a judge picks an attempt of each task.
 use Rattle.audit_judge.proofs.Narrowed.{SomeOf, alive}
 use Rattle.audit_judge.proofs.Steps.{full_in, last_calm, tasks_attempted}
 use Rattle.audit_judge.specs.Bench.{Bench, claim, opened}

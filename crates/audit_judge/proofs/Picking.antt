@@ -1,4 +1,4 @@
--- The attempt that a judge takes is the least that explains all moments.
+-- The attempt that a judge picks is the least that explains all moments.
 use Rattle.audit_claims.specs.Claims.{Tags}
 use Rattle.judging.specs.Judging.{StillExplains}
 use Rattle.judging.specs.Listed.{Listed, Numbered, files_of, numbered}
@@ -43,7 +43,7 @@ pick_more k flags left rest a o p end up places steps is next so_far =
     ap (λ j. least_up rest (drop j flags) p) e ∙ ap (least_up rest (drop (suc k) flags)) (next ∙ ap (λ u. with_number u a.0 o) is)
     ∙ ap (λ z. least_up (a ∷ rest) z o) (sym (drop_more k flags l)) ∙ ap (λ z. least_up z (drop k flags) o) (sym steps) ∙ so_far
 
--- ---- what it gives
+-- ---- the result
 
 module _ (E : Files Tags → Type 0) where
   old_least : (attempts : Numbered Tags) (flags : List Bool) (o : Option ℕ) (u : ℕ) → AtLeast o u → AtLeast (least_up attempts flags o) u
@@ -134,7 +134,7 @@ none_listed b moments t e =
     subst (λ (o : Option (Numbered Tags)). All (λ x. StillExplains (claim b) (opened b) moments (files_of (unwrap_or o [])) x.1 → ⊥)
     (unwrap_or o [])) (sym e) (λ k d l. absurd (omega (arith, l)))
 
--- ---- the same of the parts of a judge
+-- ---- the same for the parts of a judge
 
 module _
     (b : Bench) (k : Scene) (begun : Bool) (marker : Marker) (needed : Bool) (rows : List (List Bool)) (moments : List (Moment Tags))

@@ -1,4 +1,4 @@
--- What a judge knows from one moment to the next.
+-- A judge's knowledge from one moment to the next.
 use Rattle.audit_claims.specs.Claims.{Tags}
 use Rattle.basics.specs.Order.{text_cmp, text_eq, text_ties, text_total}
 use Rattle.judging.proofs.Owned.{either}
@@ -72,7 +72,7 @@ some_up D (a ∷ attempts) [] told all some = absurd told
 some_up D (a ∷ attempts) (true ∷ flags) told all some = refl
 some_up D (a ∷ attempts) (false ∷ flags) told all some = absurd (told.0 (all a.1))
 
--- where every attempt explains all, each listed task has a flag up
+-- If every attempt explains all moments, each listed task has a flag up.
 pub all_up : (D : Attempts Tags → Files Tags → Type 0) (listed : Listed Tags) (rows : List (List Bool)) → TellsOfAll D listed rows
     → ((task : Attempts Tags) (files : Files Tags) → D task files) → AllByRecursion (λ x. files_of x.1 ≢ []) listed
     → EmptyIn (λ t. ⊥) listed rows
@@ -84,7 +84,7 @@ all_up D (x ∷ xs) (row ∷ rows) told all some = (
   all_up D xs rows told.1 all some.1,
 )
 
--- each listed task has an attempt if each task does
+-- Each listed task has an attempt if each task has one.
 pub listed_some : (tasks : ℕ) (listed : Listed Tags) → GoodList tasks listed → ((t : ℕ) → t < tasks → of_task t listed ≢ [])
     → AllByRecursion (λ x. files_of x.1 ≢ []) listed
 listed_some tasks listed good some = recursion_from_All (λ x. files_of x.1 ≢ []) listed
@@ -92,7 +92,7 @@ listed_some tasks listed good some = recursion_from_All (λ x. files_of x.1 ≢ 
     (ap files_of ((listed_claims Tags).at listed good.once i d l) ∙ e))
 
 module _ (b : Bench) (moments : List (Moment Tags)) (f : Follows b moments) where
-  -- ---- the moment as it is now
+  -- ---- the current moment
 
   last_explained : (task : Attempts Tags) (files : Files Tags) → StillExplains (claim b) (opened b) moments task files
       → AttemptExplains (claim b) (opened b) task (now b) files
@@ -113,7 +113,7 @@ module _ (b : Bench) (moments : List (Moment Tags)) (f : Follows b moments) wher
     | inr calm ↦ calm
   ]
 
-  -- each task has an attempt
+  -- Each task has an attempt.
   pub tasks_attempted : b.needed ≡ true → (t : ℕ) → t < b.tasks → of_task t b.claimed.listed ≢ []
   tasks_attempted n t l e = f.attempted n t (of_task t b.claimed.listed)
       (subst (λ k. t < k) (sym ((listed_claims Tags).count b.tasks b.claimed.listed)) l) (at_task t l ∙ e)
@@ -125,7 +125,7 @@ module _ (b : Bench) (moments : List (Moment Tags)) (f : Follows b moments) wher
         (listed_claims Tags).task b.tasks b.claimed.listed t l,
       )
 
-  -- ---- what is known so far makes the run sound
+  -- ---- a run that the judge follows is sound
 
   apart : Apart (claim b).tasks
   apart = (listed_claims Tags).apart b.tasks b.claimed.listed f.good.own
@@ -152,9 +152,9 @@ module _ (b : Bench) (moments : List (Moment Tags)) (f : Follows b moments) wher
 
   -- ---- one more moment
 
-  -- the moment when the changes are seen, with what else is known then
+  -- The moment after the changes, with what else is then known.
   module _ (shown : TagMap) (marker : Marker) (needed : Bool) (rows : List (List Bool)) where
-    -- what a judge knows then
+    -- The judge's knowledge after the changes.
     abbrev pub later : Bench
     later = record b { shown = shown; marker = marker; needed = needed; candidates = rows }
 
@@ -167,7 +167,7 @@ module _ (b : Bench) (moments : List (Moment Tags)) (f : Follows b moments) wher
         → StillExplains (claim b) (opened b) moments task files × AttemptExplains (claim b) (opened b) task (now later) files)
     told_less task files h = ((where_changed Tags).one_more (claim b) (opened b) moments task files (now later)).0 h
 
-    -- a choice is needed, and each listed task has an attempt left
+    -- A choice is needed, and each listed task has an attempt left.
     pub follows_chosen : needed ≡ true → ((t : ℕ) → t < b.tasks → of_task t b.claimed.listed ≢ [])
         → (b.begun ≡ false → Same (now later).shown (opened b)) → (marker ≡ markers.Old → Same (now later).shown (opened b))
         → TellsOfAll (λ task files. StillExplains (claim b) (opened b) moments task files × AttemptExplains (claim b) (opened b) task
@@ -189,7 +189,7 @@ module _ (b : Bench) (moments : List (Moment Tags)) (f : Follows b moments) wher
       others = All-push (OthersFit (claim b) (opened b)) moments (now later) f.others others;
     }
 
-    -- no choice is needed
+    -- No choice is needed.
     pub follows_calm : b.needed ≡ false → needed ≡ false → rows ≡ b.candidates → Unchanged (opened b) (now later)
         → Follows later (moments ++ now later ∷ [])
     follows_calm was need same calm = record {
@@ -237,7 +237,7 @@ module _ (b : Bench) (moments : List (Moment Tags)) (f : Follows b moments) wher
         ((where_changed Tags).begins_others (claim b) (opened b) (now b) (now begun) (begins e) last_others);
   }
 
-  -- ---- what the laws on one more moment take
+  -- ---- what the laws on one more moment require
 
   pub turn : (shown : TagMap) (marker : Marker) (paths : List (List ℕ)) → IsStrictlySortedBy text_cmp paths
       → DifferAt paths (now b) (record { begun = b.begun; marker = marker; shown = λ p. fin.get shown p })
@@ -311,7 +311,7 @@ all_kept (c ∷ changes) m q out =
     ∙ one_kept c m q (λ e. true≢false (sym ((bytes_eq-Decides q c.path).1 (sym e))
     ∙ neither_first (bytes_eq q c.path) (is_in q (paths_of changes)) out))
 
--- what the laws take of a change
+-- A change satisfies what the laws require.
 pub differ_changed : (b : Bench) (changes : List Change) (marker : Marker) (shown : TagMap) → shown ≡ change_all changes b.shown
     → (marker ≡ markers.Old → b.marker ≡ markers.Old)
     → DifferAt (paths_of changes) (now b) (record { begun = b.begun; marker = marker; shown = λ p. fin.get shown p })

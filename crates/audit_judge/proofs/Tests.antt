@@ -1,4 +1,4 @@
--- The tests at one path answer what they are to.
+-- The tests at one path return what they should.
 use Rattle.audit_claims.specs.Claims.{Tags}
 use Rattle.audit_claims.specs.Etags.{tags_eq}
 use Rattle.basics.proofs.Members.{text_is, text_true}

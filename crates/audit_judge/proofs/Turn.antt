@@ -1,4 +1,4 @@
--- One more moment, at which some paths have changed: which reasons hold and which do not, by what the tests answer.
+-- One more moment, at which some paths have changed: the results of the tests decide which reasons hold.
 use Rattle.audit_claims.specs.Claims.{Tags}
 use Rattle.basics.specs.Order.{text_cmp}
 use Rattle.judging.proofs.Owned.{either}
@@ -52,7 +52,7 @@ is_less Greater h = absurd (false≢true h)
 lesser_task : (a b : ℕ) → nat_lt a b ≡ true → a < b
 lesser_task a b h = grind arith
 
--- where readers see the opening files, every file may be written
+-- If readers see the opening files, every file may be written.
 pub calm_may : (w : Claim Tags) (opening : Shown Tags) (m : Moment Tags) → Unchanged opening m → (p : List ℕ) (f : Option Tags)
     → MayShow w opening m p f
 calm_may w opening m calm p f = record {
@@ -62,7 +62,7 @@ calm_may w opening m calm p f = record {
   whole = λ e. absurd (calm.unmarked e);
 }
 
--- what readers may see fits, also before the commit begins
+-- What readers may see fits, also before the commit begins.
 pub fits_of : (w : Claim Tags) (opening : Shown Tags) (m : Moment Tags) (p : List ℕ) (f : Option Tags) → MayShow w opening m p f
     → Fits (is_kept w p) (opening p) f (m.shown p)
 fits_of w opening m p f h = elim (either m.begun) [
@@ -102,7 +102,7 @@ in_rest : (q : List ℕ) (x : ℕ × Numbered Tags) (xs : Listed Tags) → is_in
 in_rest q x xs h = list_any-append (bytes_eq q) (paths_of_task x.1) (paths_of_all xs)
     ∙ or_right (is_in q (paths_of_task x.1)) (is_in q (paths_of_all xs)) h
 
--- a moment and the next one, at which these paths have changed
+-- A moment and the next one, at which these paths have changed.
 pub record Turn
     (keeps : Keeps) (tasks : ℕ) (listed : Listed Tags) (opening : Shown Tags) (moments : List (Moment Tags)) (m n : Moment Tags)
     (paths : List (List ℕ)) : Type 0 where
@@ -130,7 +130,7 @@ module _
     pub elsewhere : (q : List ℕ) → is_in q paths ≡ false → n.shown q ≡ m.shown q
     elsewhere q h = c.differ.shown q (λ i. true≢false (sym ((among paths q).1 i) ∙ h))
 
-    -- what holds at the changed paths and at all others
+    -- A fact that holds at the changed paths and at all others.
     each_path : (P : List ℕ → Type 0) → ((q : List ℕ) → is_in q paths ≡ true → P q) → ((q : List ℕ) → is_in q paths ≡ false → P q)
         → (q : List ℕ) → P q
     each_path P here there q = elim (either (is_in q paths)) [ inl i ↦ here q i | inr o ↦ there q o ]
@@ -139,7 +139,7 @@ module _
     same_next h calm = each_path (λ q. n.shown q ≡ opening q)
         (λ q i. differs_not opening n.shown q (none_at (differs opening n.shown) paths h q i)) (λ q o. elsewhere q o ∙ calm q)
 
-    -- a lesser path than the first that differs does not
+    -- A path below the first that differs does not differ.
     no_lesser : (p q : List ℕ) → find (differs opening n.shown) paths ≡ Some p → Same m.shown opening → text_cmp q p ≡ Less
         → n.shown q ≡ opening q
     no_lesser p q h calm l = elim (either (is_in q paths)) [
@@ -162,7 +162,7 @@ module _
         lesser (Early q) l s = s.differs (no_lesser p q h (calm_before b) (is_less (text_cmp q p) l))
         lesser _ l s = false≢true l
 
-    -- no reason of a kind holds
+    -- No reason of the kind `Early` holds.
     abbrev pub NoEarly : Type 0
     NoEarly = (p : List ℕ) → reasons.Early opening n p → ⊥
 
@@ -184,7 +184,7 @@ module _
     abbrev pub NoHalf : Type 0
     NoHalf = (t : ℕ) → reasons.Half w opening moments n t → ⊥
 
-    -- before the commit readers see the opening
+    -- Before the commit readers see the opening.
     abbrev pub CalmBefore : Type 0
     CalmBefore = n.begun ≡ false → Same n.shown opening
 
@@ -196,7 +196,7 @@ module _
 
     -- ---- missing
 
-    -- the t-th task, if there are so many
+    -- The t-th task, if there is one.
     task_is : (t : ℕ) (task : Attempts Tags) → slice_get w.tasks t ≡ Some task → (t < tasks) × (task ≡ of_task t listed)
     task_is t task e =
         let l : t < tasks = subst (λ k. t < k) ((listed_claims Tags).count tasks listed) (slice_get_within w.tasks t task e) in
@@ -217,7 +217,7 @@ module _
         lesser (Missing u) h s = some u (lesser_task u t h) (sym (task_is u [] s.none).1)
         lesser _ h s = false≢true h
 
-    -- every task has an attempt
+    -- Every task has an attempt.
     abbrev pub Attempted : Type 0
     Attempted = (t : ℕ) → t < tasks → of_task t listed ≢ []
 
@@ -251,7 +251,7 @@ module _
         by true e later = absurd (h.0 (same_is (file_at a.1 p) (Some x) e))
         by false e later = later
 
-    -- an attempt with a file at the path is one of its owner's
+    -- An attempt with a file at the path belongs to the path's owner.
     no_content : (p : List ℕ) (x : Tags) → has_content p x (attempts_of listed (owner p listed)) ≡ false
         → (t : ℕ) → AllByRecursion (λ files. file_at files p ≢ Some x) (of_task t listed)
     no_content p x h t = elim (either (writes (of_task t listed) p)) [
@@ -302,7 +302,7 @@ module _
     is_foreign_at : (p : List ℕ) → reasons.Foreign w opening n paths p → foreign_at listed opening n.shown p ≡ true
     is_foreign_at p h = by (n.shown p) h.seen
       where
-        -- none of its owner's attempts has it
+        -- None of its owner's attempts has this content there.
         owned : (o : Option ℕ) → owner p listed ≡ o → has_content p h.content (attempts_of listed o) ≡ false
         owned None e = refl
         owned (Some t) e =
@@ -422,7 +422,7 @@ module _
         (λ p f. part_is w opening n.shown p f) (λ p f. part_not w opening n.shown p f) paths (StillExplains w opening moments) listed rows
         lone h)
 
-    -- a task with no flag up is one of the job's
+    -- A task with no flag up is one of the job's.
     empty_below : (t : ℕ) (xs : Listed Tags) (rows : List (List Bool)) → AllByRecursion (λ x. x.0 < tasks) xs → EmptyOf t xs rows
         → t < tasks
     empty_below t [] rows below e = absurd e
@@ -433,13 +433,13 @@ module _
     not_least : (t u : ℕ) → u < t → AtLeast (Some t) u → ⊥
     not_least t u l h = omega (arith, h)
 
-    -- among some attempts no other than those of which nothing holds
+    -- If some attempt has a property, not all attempts lack it.
     none_of_some : (E : Files Tags → Type 0) (task : Attempts Tags) → SomeOf E task → All (λ files. E files → ⊥) task → ⊥
     none_of_some E [] s none = s
     none_of_some E (files ∷ task) (inl e) none = none 0 files (omega arith) e
     none_of_some E (files ∷ task) (inr s) none = none_of_some E task s (λ k d l. none (suc k) d (omega (arith, l)))
 
-    -- what the task with no flag up is
+    -- No attempt of the task with no flag up has the property.
     empty_task : (D : Attempts Tags → Files Tags → Type 0) (t : ℕ) (rows : List (List Bool)) → TellsOfAll D listed rows
         → EmptyOf t listed rows
         → (t < tasks) × All (λ files. D (of_task t listed) files → ⊥) (of_task t listed)
@@ -503,7 +503,7 @@ module _
         lesser (Stale q) l s = s.differs (no_lesser p q h (old_before old) (is_less (text_cmp q p) l))
         lesser _ l s = false≢true l
 
-    -- while an old marker exists readers see the opening
+    -- While an old marker exists, readers see the opening.
     abbrev pub CalmOld : Type 0
     CalmOld = n.marker ≡ markers.Old → Same n.shown opening
 
@@ -515,14 +515,14 @@ module _
 
     -- ---- half
 
-    -- the attempt explained all moments before, and explains this one
+    -- The attempt explained all moments before, and explains this one.
     abbrev pub All_of : Attempts Tags → Files Tags → Type 0
     All_of task files = StillExplains w opening moments task files × AttemptExplains w opening task n files
 
     fits_all : (task : Attempts Tags) (files : Files Tags) → All_of task files → Part task files
     fits_all task files h = (h.0, λ q wr. fits_of w opening n q (file_at files q) (h.1 q wr))
 
-    -- where no new marker exists, an attempt that fits explains the moment
+    -- If no new marker exists, an attempt that fits explains the moment.
     unmarked_on : CalmBefore → CalmOld → n.marker ≢ markers.New → (task : Attempts Tags) (files : Files Tags) → Part task files
         → All_of task files
     unmarked_on calm old new task files h = (
@@ -539,7 +539,8 @@ module _
         → TellsOfAll All_of listed rows
     unmarked_told calm old new rows h = tells_of_all Part All_of (unmarked_on calm old new) fits_all listed rows h
 
-    -- the paths at which candidates are looked at where a new marker exists: the changed ones, and all of a task where it has just been put
+    -- The paths at which candidates are checked when a new marker exists: the changed ones, or all paths of a task if the marker has just
+    -- been put.
     abbrev pub Looked : List (List ℕ) → (ℕ × Numbered Tags) → Type 0
     Looked qs x = (q : List ℕ) → writes (files_of x.1) q ≡ true → is_in q qs ≡ false → (m.marker ≡ markers.New) × (n.shown q ≡ m.shown q)
 
@@ -613,12 +614,12 @@ module _
         (some t there.0))
         (subst (λ task. All (λ files. All_of task files → ⊥) task) there.1 (λ k d b p. s.none k d b p.0 p.1))
 
-    -- where a new marker was there before, the changed paths are enough
+    -- If a new marker existed before, the changed paths are enough.
     pub looked_changed : m.marker ≡ markers.New → (xs : Listed Tags) → AllByRecursion (Looked paths) xs
     looked_changed new [] = tt
     looked_changed new (x ∷ xs) = (λ q wr o. (new, elsewhere q o), looked_changed new xs)
 
-    -- else all paths of all tasks
+    -- Else all paths of all tasks are checked.
     pub looked_all : (xs : Listed Tags) (qs : List (List ℕ)) → ((q : List ℕ) → is_in q (paths_of_all xs) ≡ true → is_in q qs ≡ true)
         → AllByRecursion (Looked qs) xs
     looked_all [] qs sub = tt
@@ -649,7 +650,7 @@ module _
         (and_both (not (is_some (owner p listed)) && is_some (opening p)) (is_some (n.shown p))
         (and_both (not (is_some (owner p listed))) (is_some (opening p)) a h.existed) h.still) h.replaced
 
-    -- all paths at which the reason can hold are among these
+    -- All paths at which the reason can hold are among these.
     abbrev pub Covers : List (List ℕ) → Type 0
     Covers ps = (q : List ℕ) → reasons.Left w opening n q → is_in q ps ≡ true
 

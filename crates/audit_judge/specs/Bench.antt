@@ -1,4 +1,4 @@
--- What a judge knows at a point of a run.
+-- The knowledge of a judge at a point of a run.
 use Rattle.std.specs.Prelude.{ℕ, List, Bool}
 use Rattle.std.specs.FinMap as fin
 use Rattle.basics.specs.Order.{text_cmp}
@@ -13,23 +13,23 @@ use Rattle.audit_claims.specs.Claims.{Claimed, Tags}
 abbrev pub Paths : Type 0
 Paths = fin.FinMap text_cmp Tags
 
--- What a judge knows.
+-- The knowledge of a judge.
 pub record Bench : Type 0 where
-  -- the claim of the job
+  -- The claim of the job.
   pub keeps : Keeps
   pub tasks : ℕ
   pub claimed : Claimed
-  -- what readers saw when the run began, and see now
+  -- What readers saw when the run began, and what they see now.
   pub opening : Paths
   pub shown : Paths
-  -- whether the commit has begun, and which success marker exists
+  -- Whether the commit has begun, and which success marker exists.
   pub begun : Bool
   pub marker : Marker
-  -- no more attempts, files and opening files can come
+  -- Whether the run has begun, so that no more attempts, files and opening files can come.
   pub started : Bool
-  -- a moment needed a choice
+  -- Whether a moment needed a choice.
   pub needed : Bool
-  -- of each listed task in its place, of each attempt in its place: whether it explains all moments so far
+  -- For each listed task and each of its attempts, in their order: whether the attempt explains all moments so far.
   pub candidates : List (List Bool)
 
 -- The claim.

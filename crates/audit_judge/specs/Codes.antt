@@ -11,7 +11,7 @@ use Rattle.judging.specs.Listed.{Listed}
 use Rattle.audit_judge.specs.Bench.{Bench}
 use Rattle.audit_judge.specs.Scene.{Scene}
 
--- How much is kept, as two bits.
+-- The rule for opening files, as two bits.
 abbrev pub keeps_bits : Keeps → Bool × Bool
 keeps_bits Everything = (true, true)
 keeps_bits Partitions = (true, false)

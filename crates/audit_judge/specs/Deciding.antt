@@ -1,4 +1,4 @@
--- What a judge decides of one more moment.
+-- The decisions of a judge about one more moment.
 use Rattle.std.specs.Prelude.{ℕ, ◌<◌, List, [], ◌∷◌, ◌++◌, Bool, true, false, Option, Some, None, map, ◌≡◌, ◌≢◌, ◌⊎◌}
 use Rattle.std.specs.FinMap as fin
 use Rattle.std.specs.List.{find}
@@ -21,7 +21,7 @@ use Rattle.audit_judge.specs.declared.reason.Reason.{Reason}
 use Rattle.audit_judge.specs.declared.reason.Reason.TheVariants as told
 use Rattle.audit_judge.specs.declared.signs.Sign.TheVariants as signs
 
--- What a judge knows, by its parts.
+-- The knowledge of a judge, from its parts.
 abbrev pub bench_of : Scene → (begun : Bool) → Marker → (needed : Bool) → List (List Bool) → TagMap → Bench
 bench_of s begun marker needed rows shown = record {
   keeps = s.keeps;
@@ -36,7 +36,7 @@ bench_of s begun marker needed rows shown = record {
   candidates = rows;
 }
 
--- What was known before these changes follows the moments so far.
+-- The knowledge before these changes follows the moments so far.
 pub record Followed
     (s : Scene) (begun : Bool) (was : Marker) (needed : Bool) (rows : List (List Bool)) (changes : List Change)
     (moments : List (Moment Tags)) : Type 0 where
@@ -44,36 +44,37 @@ pub record Followed
   pub follows : Follows (bench_of s begun was needed rows before) moments
   pub shown : s.shown ≡ change_all changes before
 
--- It follows the moments of some run.
+-- The knowledge before these changes follows the moments of some run.
 abbrev pub FollowedSome :
     Scene → (begun : Bool) → Marker → (needed : Bool) → List (List Bool) → List Change → Type 0
 FollowedSome s begun was needed rows changes =
     (moments : List (Moment Tags)) × Followed s begun was needed rows changes moments
 
--- A path that differs is told before the commit,
+-- The path that differs, if the commit has not begun.
 abbrev pub early_of : (begun : Bool) → Option (List ℕ) → Option (List ℕ)
 early_of true o = None
 early_of false o = o
 
--- and while an old marker exists.
+-- The path that differs, if an old marker exists.
 abbrev pub stale_of : Marker → Option (List ℕ) → Option (List ℕ)
 stale_of markers.Absent o = None
 stale_of markers.Old o = o
 stale_of markers.New o = None
 
--- Where a new marker exists, candidates are looked at where readers see a change, and at all their paths if it has just been put.
+-- The paths at which candidates are checked when a new marker exists: the changed ones, or all paths of the attempts if the marker has
+-- just been put.
 abbrev pub whole_paths : Marker → Listed Tags → List (List ℕ) → List (List ℕ)
 whole_paths markers.Absent listed changed = paths_of_all listed
 whole_paths markers.Old listed changed = paths_of_all listed
 whole_paths markers.New listed changed = changed
 
--- Files that are left are looked for there, and everywhere if it has just been put.
+-- The paths at which files that are left are looked for: the changed ones, or all that readers see if the marker has just been put.
 abbrev pub left_paths : Marker → TagMap → List (List ℕ) → List (List ℕ)
 left_paths markers.Absent shown changed = map (λ e. e.0) (fin.entries shown)
 left_paths markers.Old shown changed = map (λ e. e.0) (fin.entries shown)
 left_paths markers.New shown changed = changed
 
--- What a new marker tells, by the least task with no attempt left and the first path with a file left.
+-- The reason that a new marker gives, by the least task without an attempt left and the first path with a file left.
 abbrev pub marked_of : Option ℕ → Option (List ℕ) → Option Reason
 marked_of (Some t) o = Some (told.Half t)
 marked_of None (Some p) = Some (told.Left p)
@@ -88,7 +89,7 @@ IsNeed s marker needed changed (needs.Missing t) =
     × IsFirstMissing s.claimed.listed t
 IsNeed s marker needed changed needs.Choice = (needed ≡ true) ⊎ AllListed s.claimed.listed s.tasks
 
--- A judge answers rightly: nothing as long as the run is sound, and else the first reason why it is not.
+-- The right answer of a judge: None as long as the run is sound, else the first reason why it is not.
 abbrev pub Answers : Bench → List (Moment Tags) → (changed : List (List ℕ)) → Option Reason → Bench → Type 0
 Answers b moments changed None after = Follows after (moments ++ now after ∷ [])
 Answers b moments changed (Some reason) after = IsFirst (claim b) (opened b) moments (now after) changed reason

@@ -1,4 +1,4 @@
--- What a judge knows of the moments of a run, as long as the run is sound for readers.
+-- The knowledge of a judge about the moments of a run, as long as the run is sound for readers.
 use Rattle.std.specs.FinMap as fin
 use Rattle.std.specs.Prelude.{ℕ, ◌<◌, List, [], Bool, true, false, Some, length, map, replicate, ◌≡◌, ◌⊎◌, ◌≢◌}
 use Rattle.std.specs.List.{All, Contains}
@@ -12,23 +12,23 @@ use Rattle.audit_claims.specs.Claims.{Tags}
 use Rattle.audit_judge.specs.Bench.{Bench, claim, now, opened}
 use Rattle.audit_judge.specs.Narrowed.{TellsOfAll, has_flag}
 
--- Each listed task is one of so many and listed once, and each task that writes a path is its owner.
+-- Each listed task is below the number of tasks and listed once, and each task that writes a path is its owner.
 pub record GoodList (tasks : ℕ) (listed : Listed Tags) : Type 0 where
   pub below : ListedBelow tasks listed
   pub once : ListedOnce listed
   pub own : (t : ℕ) (p : List ℕ) → writes (of_task t listed) p ≡ true → owner p listed ≡ Some t
 
--- What holds before the run begins: no more is known than the claim and the opening.
+-- Before the run begins, only the claim and the opening are known.
 pub record Waits (b : Bench) : Type 0 where
   pub good : GoodList b.tasks b.claimed.listed
-  -- where attempts are listed, the task of the last one has some
+  -- If attempts are listed, the task of the last one has an attempt.
   pub last : 0 < length b.claimed.listed → 0 < length (numbered b.claimed.current b.claimed.listed)
   pub shows : b.shown ≡ b.opening
   pub early : b.begun ≡ false
   pub unmarked : b.marker ≢ markers.New
   pub unneeded : b.needed ≡ false
 
--- The bench of a judge that knows nothing yet.
+-- The knowledge of a new judge.
 abbrev pub new_bench : Keeps → (tasks : ℕ) → Bench
 new_bench keeps tasks = record {
   keeps = keeps;
@@ -47,17 +47,17 @@ new_bench keeps tasks = record {
 abbrev pub rows_up : Listed Tags → List (List Bool)
 rows_up listed = map (λ x. replicate (length x.1) true) listed
 
--- What holds as long as the run is sound.
+-- The judge's knowledge fits these moments. It holds as long as the run is sound.
 pub record Follows (b : Bench) (moments : List (Moment Tags)) : Type 0 where
   pub good : GoodList b.tasks b.claimed.listed
-  -- The moment as it is now is one of the moments, or needs no choice.
+  -- The current moment is one of the moments, or needs no choice.
   pub last : Contains moments (now b) ⊎ Unchanged (opened b) (now b)
   -- Before the commit, and while an old marker exists, readers see the opening.
   pub before : b.begun ≡ false → Same (now b).shown (opened b)
   pub stale : b.marker ≡ markers.Old → Same (now b).shown (opened b)
   -- Until a choice is needed, each moment was unchanged.
   pub unneeded : b.needed ≡ false → All (Unchanged (opened b)) moments
-  -- From then on each task has an attempt, and of each listed task one explains all moments.
+  -- From then on each task has an attempt, and each listed task has one that explains all moments.
   pub attempted : b.needed ≡ true → All (λ task. task ≢ []) (claim b).tasks
   pub explained : b.needed ≡ true → All (λ flags. has_flag flags ≡ true) b.candidates
   -- The flags tell which attempts explain all moments.
@@ -65,6 +65,6 @@ pub record Follows (b : Bench) (moments : List (Moment Tags)) : Type 0 where
   -- At the paths that no attempt writes, what readers saw fits.
   pub others : All (OthersFit (claim b) (opened b)) moments
 
--- What a judge knows follows the moments of some run.
+-- The judge's knowledge follows the moments of some run.
 abbrev pub FollowsSome : Bench → Type 0
 FollowsSome b = (moments : List (Moment Tags)) × Follows b moments

@@ -1,4 +1,4 @@
--- Which attempt of a task a judge takes.
+-- The attempt of a task that a judge picks.
 use Rattle.std.specs.Prelude.{ℕ, ◌≤◌, List, [], ◌∷◌, Bool, Option, Some, cond, ◌≡◌}
 use Rattle.std.specs.List.{All, Any}
 use Rattle.soundness.specs.Moments.{Moment}

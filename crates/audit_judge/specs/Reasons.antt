@@ -20,7 +20,7 @@ rank (Stale p) = 5
 rank (Half t) = 6
 rank (Left p) = 7
 
--- The path that a reason tells, if it tells one.
+-- The path of a reason, or an empty one.
 abbrev pub path_of : Reason → List ℕ
 path_of (Early p) = p
 path_of (Missing t) = []
@@ -31,7 +31,7 @@ path_of (Stale p) = p
 path_of (Half t) = []
 path_of (Left p) = p
 
--- The task that a reason tells, if it tells one.
+-- The task of a reason, or 0.
 abbrev pub task_of : Reason → ℕ
 task_of (Early p) = 0
 task_of (Missing t) = t
@@ -42,13 +42,13 @@ task_of (Stale p) = 0
 task_of (Half t) = t
 task_of (Left p) = 0
 
--- A reason is looked for before another: by its kind, then by the bytes of its path, or by its task.
+-- True if a reason is checked before another: by its kind, then by the bytes of its path, or by its task.
 abbrev pub precedes : Reason → Reason → Bool
 precedes r s =
     nat_lt (rank r) (rank s)
     || ((rank r == rank s) && (is_lt (text_cmp (path_of r) (path_of s)) || nat_lt (task_of r) (task_of s)))
 
--- It is a reason why a run with these moments is not sound with one more, at which these paths have changed.
+-- This is a reason why a run with these moments is not sound with one more, at which these paths have changed.
 abbrev pub Holds : Claim Tags → Shown Tags → List (Moment Tags) → Moment Tags → (changed : List (List ℕ)) → Reason → Type 0
 Holds w opening moments m changed (Early p) = reasons.Early opening m p
 Holds w opening moments m changed (Missing t) = reasons.Missing w opening m t
@@ -59,7 +59,7 @@ Holds w opening moments m changed (Stale p) = reasons.Stale opening m p
 Holds w opening moments m changed (Half t) = reasons.Half w opening moments m t
 Holds w opening moments m changed (Left p) = reasons.Left w opening m p
 
--- It is the first reason that holds.
+-- This is the first reason that holds.
 pub record IsFirst
     (w : Claim Tags) (opening : Shown Tags) (moments : List (Moment Tags)) (m : Moment Tags) (changed : List (List ℕ)) (r : Reason) : Type 0
   where

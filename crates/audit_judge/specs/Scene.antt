@@ -1,4 +1,4 @@
--- What a judge knows of the claim and of what readers see.
+-- The knowledge of a judge about the claim and about what readers see.
 use Rattle.std.specs.Prelude.{ℕ, List, Bool, Option, Some, None}
 use Rattle.std.specs.FinMap as fin
 use Rattle.soundness.specs.Claims.{Claim}
@@ -14,7 +14,7 @@ use Rattle.audit_judge.specs.declared.signs.Sign.TheVariants.{Differs, Foreign, 
 use Rattle.audit_judge.specs.declared.signs.Demand.{Demand}
 use Rattle.audit_judge.specs.declared.signs.Demand.TheVariants.{Part, Whole}
 
--- The claim, what readers saw when the run began and see now, and whether the run has begun.
+-- The claim, what readers saw when the run began, what they see now, and whether the run has begun.
 pub record Scene : Type 0 where
   pub keeps : Keeps
   pub tasks : ℕ
@@ -23,7 +23,7 @@ pub record Scene : Type 0 where
   pub shown : TagMap
   pub started : Bool
 
--- What a map shows.
+-- The files of a map as readers see them.
 abbrev pub seen : TagMap → Shown Tags
 seen m p = fin.get m p
 
@@ -36,14 +36,14 @@ abbrev pub AreKnown : Listed Tags → Option Reached → Type 0
 AreKnown listed None = Unit {0}
 AreKnown listed (Some reached) = AreOf listed reached
 
--- The path shows this sign.
+-- True if the path shows this sign.
 abbrev pub shows_sign : Sign → Scene → List ℕ → Bool
 shows_sign Differs s p = differs (seen s.opening) (seen s.shown) p
 shows_sign Foreign s p = foreign_at s.claimed.listed (seen s.opening) (seen s.shown) p
 shows_sign Lost s p = lost_at (claim_in s) s.claimed.listed (seen s.opening) (seen s.shown) p
 shows_sign Left s p = left_at (claim_in s) s.claimed.listed (seen s.opening) (seen s.shown) p
 
--- What readers see at the path meets the demand on an attempt that has this file there.
+-- True if what readers see at the path meets the demand on an attempt that has this file there.
 abbrev pub meets : Demand → Scene → List ℕ → Option Tags → Bool
 meets Part s p f = suits_part (claim_in s) (seen s.opening) (seen s.shown) p f
 meets Whole s p f = suits_whole (claim_in s) (seen s.opening) (seen s.shown) p f

@@ -7,7 +7,7 @@ use Rattle.judging.specs.Listed.{Listed, Numbered, numbered, owner}
 use Rattle.audit_claims.specs.Claims.{Tags}
 use Rattle.audit_claims.specs.Etags.{tags_eq}
 
--- Two paths have the same tags, or both have no file.
+-- True if two paths have the same tags, or both have no file.
 abbrev pub same_tags : Option Tags → Option Tags → Bool
 same_tags None None = true
 same_tags None (Some y) = false
@@ -19,18 +19,18 @@ abbrev pub fits_by : (kept : Bool) (o f v : Option Tags) → Bool
 fits_by kept o None v = same_tags v o || (not (is_some v) && not (kept && is_some o))
 fits_by kept o (Some x) v = same_tags v o || (not (is_some v) || same_tags v (Some x))
 
--- Whether `Whole` holds of them.
+-- Whether `Whole` holds: the opening has `o`, the chosen attempts write `f`, and readers see `v`.
 abbrev pub whole_by : (kept replaced : Bool) (o f v : Option Tags) → Bool
 whole_by kept replaced o (Some x) v = same_tags v (Some x)
 whole_by kept replaced None None v = not (is_some v)
 whole_by kept replaced (Some x) None None = not kept
 whole_by kept replaced (Some x) None (Some y) = tags_eq y x && not replaced
 
--- Readers see something else at the path than in the opening.
+-- True if readers see something else at the path than in the opening.
 abbrev pub differs : Shown Tags → Shown Tags → List ℕ → Bool
 differs opening shown p = not (same_tags (shown p) (opening p))
 
--- The attempts of a task that is told, if one is.
+-- The attempts of this task, if there is one.
 abbrev pub attempts_of : Listed Tags → Option ℕ → Numbered Tags
 attempts_of listed None = []
 attempts_of listed (Some t) = numbered t listed
@@ -62,6 +62,6 @@ left_at w listed opening shown p =
 abbrev pub suits_part : Claim Tags → Shown Tags → Shown Tags → List ℕ → Option Tags → Bool
 suits_part w opening shown p f = fits_by (is_kept w p) (opening p) f (shown p)
 
--- It is what the whole job leaves, if the chosen attempt has this file there.
+-- Readers see at the path what the whole job leaves, if the chosen attempt has this file there.
 abbrev pub suits_whole : Claim Tags → Shown Tags → Shown Tags → List ℕ → Option Tags → Bool
 suits_whole w opening shown p f = whole_by (is_kept w p) (is_replaced w p) (opening p) f (shown p)

@@ -19,7 +19,7 @@ impl Model for Flags {
 }
 
 impl Flags {
-    /// So many flags, all of them up. Fails only if memory runs out.
+    /// Returns `count` flags, all of them up. Fails only if memory runs out.
     pub(crate) fn all_up(alloc: Global, count: usize) -> Result<Flags, AllocError>
         ensures up { IfOk result (λ f. f ≡ replicate count true) }
     {
@@ -30,7 +30,7 @@ impl Flags {
         Ok(Flags { flags })
     }
 
-    /// Whether some flag is up.
+    /// Returns whether some flag is up.
     pub(crate) fn has_any(&self) -> bool
         ensures any { result ≡ has_flag self.now }
     {
@@ -47,7 +47,7 @@ impl Flags {
         }
     }
 
-    /// Whether a flag is up.
+    /// Returns whether a flag is up.
     pub(crate) fn is_up(&self, at: usize) -> bool
         requires within { at < length self.now }
         ensures up { result ≡ get_or self.now at false }

@@ -25,7 +25,7 @@ use soundness::{Keeps, Marker};
 use std::alloc::{AllocError, Global};
 use std::marker::Model;
 
-/// A judge of a job's run. Clauses see what it knows.
+/// A judge of a job's run. Contracts see what it knows.
 #[derive(Drop)]
 pub struct Judge {
     known: Known,
@@ -48,8 +48,8 @@ impl Model for Judge {
 }
 
 impl Judge {
-    /// A judge of a run of a job with so many tasks, which keeps so much; no attempt, file and opening file is known yet.
-    /// Takes no memory.
+    /// Returns a judge of a run of a job with this number of tasks, which keeps these opening
+    /// files. It knows no attempt, file or opening file yet. Takes no memory.
     pub fn new(alloc: Global, keeps: Keeps, tasks: u32) -> Judge
         ensures new { result ≡ new_bench keeps tasks }
         ensures waits { Waits result }
@@ -71,43 +71,44 @@ impl Judge {
         }
     }
 
-    /// How many tasks the job has.
+    /// Returns how many tasks the job has.
     pub fn tasks(&self) -> u32
         ensures tasks { result ≡ self.now.tasks }
     {
         self.known.tasks
     }
 
-    /// Whether some attempt is listed.
+    /// Returns whether some attempt is listed.
     pub fn has_attempts(&self) -> bool
         ensures some { result ≡ nat_lt 0 (length self.now.claimed.listed) }
     {
         !self.known.claims.is_empty()
     }
 
-    /// Whether the run has begun.
+    /// Returns whether the run has begun.
     pub fn has_started(&self) -> bool
         ensures started { result ≡ self.now.started }
     {
         self.known.directories.is_some()
     }
 
-    /// Whether the commit has begun.
+    /// Returns whether the commit has begun.
     pub fn has_begun(&self) -> bool
         ensures begun { result ≡ self.now.begun }
     {
         self.begun
     }
 
-    /// Which success marker exists.
+    /// Returns which success marker exists.
     pub fn marker(&self) -> Marker
         ensures marker { result ≡ self.now.marker }
     {
         self.marker
     }
 
-    /// Lists an attempt of a task, with no file yet; the files that are added next are its files. Returns false and lists
-    /// nothing if the task has an attempt of this number already. Fails only if memory runs out; all is then as before.
+    /// Lists an attempt of a task, with no file yet; the files that are added next are its files.
+    /// Returns false and lists nothing if the task has an attempt with this number already. Fails
+    /// only if memory runs out; all is then unchanged.
     pub fn add_attempt(&mut self, task: u32, attempt: u32) -> Result<bool, AllocError>
         requires waits { Waits self.old }
         requires early { self.old.started ≡ false }
@@ -122,8 +123,8 @@ impl Judge {
         Ok(is_new)
     }
 
-    /// Lists a file of the attempt that was listed last, as `Claims::add_file` does. Fails only if memory runs out; all is
-    /// then as before.
+    /// Lists a file of the attempt that was listed last, as `Claims::add_file` does. Fails only if
+    /// memory runs out; all is then unchanged.
     pub fn add_file(&mut self, path: Text, etags: Etags) -> Result<FileFit, AllocError>
         requires waits { Waits self.old }
         requires early { self.old.started ≡ false }
@@ -137,7 +138,8 @@ impl Judge {
         Ok(fit)
     }
 
-    /// Readers see a file at this path when the run begins. Fails only if memory runs out.
+    /// Notes that readers see a file at this path when the run begins. Fails only if memory runs
+    /// out.
     pub fn add_opening(&mut self, path: Text, etags: Etags) -> Result<(), AllocError>
         requires waits { Waits self.old }
         requires early { self.old.started ≡ false }
@@ -152,7 +154,7 @@ impl Judge {
         Ok(())
     }
 
-    /// An old success marker exists.
+    /// Notes that an old success marker exists.
     pub fn mark_old(&mut self)
         requires waits { Waits self.old }
         requires early { self.old.started ≡ false }
@@ -162,8 +164,8 @@ impl Judge {
         self.marker = Marker::Old;
     }
 
-    /// No more attempts, files and opening files can come, and the run begins. Looks at each file. Fails only if memory
-    /// runs out; all is then as before.
+    /// Begins the run, after which no more attempts, files and opening files can come. Visits each
+    /// file. Fails only if memory runs out; all is then unchanged.
     pub fn start(&mut self) -> Result<(), AllocError>
         requires waits { Waits self.old }
         requires early { self.old.started ≡ false }
@@ -178,7 +180,7 @@ impl Judge {
         Ok(())
     }
 
-    /// The commit begins.
+    /// Notes that the commit begins.
     pub fn begin(&mut self)
         requires early { self.old.begun ≡ false }
         ensures begun { self.new ≡ record self.old { begun = true } }
@@ -188,8 +190,9 @@ impl Judge {
         self.begun = true;
     }
 
-    /// Readers see these changes, whose paths rise strictly by their bytes, and this marker exists from now on. None: they
-    /// are safe still. Fails only if memory runs out.
+    /// Notes that readers see these changes and that this marker exists from now on. The paths of
+    /// the changes rise strictly by their bytes. Returns None if readers are still safe, else the
+    /// first reason why not. Fails only if memory runs out.
     pub fn change(
         &mut self,
         changes: Vec<Change>,
@@ -219,7 +222,8 @@ impl Judge {
         Ok(reason)
     }
 
-    /// The least number of an attempt of a task that explains all moments so far, if one does.
+    /// Returns the least number of an attempt of a task that explains all moments so far, if there
+    /// is one.
     pub fn pick(&self, task: u32) -> Option<u32>
         requires follows { FollowsSome self.now }
         ensures some { (moments : List (Moment Tags)) → Follows self.now moments → IfSome result (IsPick self.now moments task) }

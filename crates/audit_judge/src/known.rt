@@ -23,7 +23,7 @@ use soundness::Keeps;
 use std::alloc::{AllocError, Global};
 use std::marker::Model;
 
-/// The claim of a job, and what readers saw when its run began and see now.
+/// The claim of a job, what readers saw when its run began, and what they see now.
 #[derive(Drop)]
 pub(crate) struct Known {
     pub(crate) alloc: Global,
@@ -50,7 +50,7 @@ impl Model for Known {
 }
 
 impl Known {
-    /// Whether the path is below a directory that some attempt writes into.
+    /// Returns whether the path is below a directory that some attempt writes into.
     fn is_reached(&self, path: &Text) -> bool
         requires started { self.now.started ≡ true }
         requires good { GoodList self.now.tasks self.now.claimed.listed }
@@ -62,7 +62,7 @@ impl Known {
         }
     }
 
-    /// Whether it is below a directory that all attempts of some task write into.
+    /// Returns whether the path is below a directory that all attempts of some task write into.
     fn is_always_reached(&self, path: &Text) -> bool
         requires started { self.now.started ≡ true }
         requires good { GoodList self.now.tasks self.now.claimed.listed }
@@ -74,7 +74,7 @@ impl Known {
         }
     }
 
-    /// Whether an opening file at the path must stay.
+    /// Returns whether an opening file at the path must stay.
     pub(crate) fn is_kept(&self, path: &Text) -> bool
         requires started { self.now.started ≡ true }
         requires good { GoodList self.now.tasks self.now.claimed.listed }
@@ -87,7 +87,7 @@ impl Known {
         }
     }
 
-    /// Whether it must go.
+    /// Returns whether an opening file at the path must go.
     pub(crate) fn is_replaced(&self, path: &Text) -> bool
         requires started { self.now.started ≡ true }
         requires good { GoodList self.now.tasks self.now.claimed.listed }
@@ -100,7 +100,8 @@ impl Known {
         }
     }
 
-    /// Whether what readers see at a path meets a demand on an attempt that has this file there.
+    /// Returns whether what readers see at a path meets a demand on an attempt that has this file
+    /// there.
     pub(crate) fn meets(&self, demand: Demand, path: &Text, file: Option<&Etags>) -> bool
         requires started { self.now.started ≡ true }
         requires good { GoodList self.now.tasks self.now.claimed.listed }
@@ -115,7 +116,8 @@ impl Known {
         }
     }
 
-    /// The place and the number of the task that writes the path, with its attempts, if one does.
+    /// Returns the place and the number of the task that writes the path, with its attempts, if
+    /// there is one.
     pub(crate) fn place_of(&self, path: &Text) -> Option<(usize, u32, &Attempts)>
         ensures found { IfSome result (λ r. slice_get self.now.claimed.listed r.0 ≡ Some (r.1, r.2.now)) }
         ensures owner { IfSome result (λ r. owner path.now self.now.claimed.listed ≡ Some r.1) }
@@ -130,7 +132,7 @@ impl Known {
         }
     }
 
-    /// The place of a task with its attempts, if it has some.
+    /// Returns the place of a task with its attempts, if it has any.
     pub(crate) fn place_by(&self, task: u32) -> Option<(usize, &Attempts)>
         ensures found { IfSome result (λ r. slice_get self.now.claimed.listed r.0 ≡ Some (task, r.1.now)) }
         ensures none { IfNone result (lookup (nat_eq task) self.now.claimed.listed ≡ None) }
@@ -141,14 +143,14 @@ impl Known {
         }
     }
 
-    /// Whether no attempt writes the path.
+    /// Returns whether no attempt writes the path.
     fn is_free(&self, path: &Text) -> bool
         ensures free { result ≡ not (is_some (owner path.now self.now.claimed.listed)) }
     {
         self.claims.owner(path).is_none()
     }
 
-    /// Whether some attempt has this content at the path.
+    /// Returns whether some attempt has this content at the path.
     fn has_content(&self, path: &Text, content: &Etags) -> bool
         ensures has { result ≡ has_content path.now content.now
             (attempts_of self.now.claimed.listed (owner path.now self.now.claimed.listed)) }
@@ -204,7 +206,7 @@ impl Known {
             && self.is_replaced(path)
     }
 
-    /// Whether a path shows a sign against the run.
+    /// Returns whether a path shows a sign against the run.
     pub(crate) fn shows_sign(&self, sign: Sign, path: &Text) -> bool
         requires started { self.now.started ≡ true }
         requires good { GoodList self.now.tasks self.now.claimed.listed }
@@ -218,7 +220,7 @@ impl Known {
         }
     }
 
-    /// The first changed path that shows a sign.
+    /// Returns the first changed path that shows a sign.
     pub(crate) fn first_changed<'a>(&self, sign: Sign, changes: &'a [Change]) -> Option<&'a Text>
         requires started { self.now.started ≡ true }
         requires good { GoodList self.now.tasks self.now.claimed.listed }
@@ -232,7 +234,7 @@ impl Known {
         None
     }
 
-    /// The first path that readers see a file at and that shows a sign.
+    /// Returns the first path at which readers see a file and that shows a sign.
     pub(crate) fn first_shown(&self, sign: Sign) -> Option<&Text>
         requires started { self.now.started ≡ true }
         requires good { GoodList self.now.tasks self.now.claimed.listed }
@@ -247,14 +249,15 @@ impl Known {
         None
     }
 
-    /// Readers see these changes, one after the other. Fails only if memory runs out; some of them are then seen.
+    /// Notes that readers see these changes, one after the other. Fails only if memory runs out;
+    /// some of the changes are then noted.
     pub(crate) fn show(&mut self, changes: &[Change]) -> Result<(), AllocError>
         ensures ok { OnOk result (self.new ≡ record self.old { shown = change_all changes.now self.old.shown }) }
     {
         show_all(&mut self.shown, changes)
     }
 
-    /// Lists an attempt of a task. Fails only if memory runs out; all is then as before.
+    /// Lists an attempt of a task. Fails only if memory runs out; all is then unchanged.
     pub(crate) fn add_attempt(&mut self, task: u32, attempt: u32) -> Result<bool, AllocError>
         requires early { self.old.started ≡ false }
         ensures is_new { IfOk result (λ n. n ≡ not (has_attempt task attempt self.old.claimed.listed)) }
@@ -265,7 +268,8 @@ impl Known {
         self.claims.add_attempt(task, attempt)
     }
 
-    /// Lists a file of the attempt that was listed last. Fails only if memory runs out; all is then as before.
+    /// Lists a file of the attempt that was listed last. Fails only if memory runs out; all is then
+    /// unchanged.
     pub(crate) fn add_file(&mut self, path: Text, etags: Etags) -> Result<FileFit, AllocError>
         requires early { self.old.started ≡ false }
         requires some { 0 < length self.old.claimed.listed }
@@ -276,7 +280,7 @@ impl Known {
         self.claims.add_file(path, etags)
     }
 
-    /// Readers see a file in the opening. Fails only if memory runs out.
+    /// Notes that readers see a file in the opening. Fails only if memory runs out.
     pub(crate) fn add_opening(&mut self, path: Text, etags: Etags) -> Result<(), AllocError>
         ensures ok { OnOk result (self.new ≡ record self.old {
           opening = fin.insert self.old.opening path etags;
@@ -289,7 +293,8 @@ impl Known {
         self.shown.put(path, etags)
     }
 
-    /// No more attempts and files can come. Fails only if memory runs out; all is then as before.
+    /// Notes that no more attempts and files can come. Fails only if memory runs out; all is then
+    /// unchanged.
     pub(crate) fn start(&mut self) -> Result<(), AllocError>
         ensures ok { OnOk result (self.new ≡ record self.old { started = true }) }
         ensures err { OnErr result (self.new ≡ self.old) }
@@ -299,7 +304,8 @@ impl Known {
         Ok(())
     }
 
-    /// A flag for each attempt of each listed task, all of them up. Fails only if memory runs out.
+    /// Returns a flag for each attempt of each listed task, all of them up. Fails only if memory
+    /// runs out.
     pub(crate) fn all_up(&self) -> Result<Vec<Flags>, AllocError>
         ensures up { IfOk result (λ rows. rows.items ≡ rows_up self.now.claimed.listed) }
     {

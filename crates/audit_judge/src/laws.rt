@@ -9,8 +9,9 @@ ghost use Rattle.audit_judge.specs.Reasons.{IsFirst};
 
 use crate::reason::Reason;
 
-/// What a judge knows makes a run sound, and the reason that it gives tells that the run is not with one more moment. While a
-/// new success marker exists, no task lacks an attempt that explains all moments.
+/// If a judge follows a run, the run is sound; a reason that it gives shows that the run is not
+/// sound with one more moment. While a new success marker exists, each task has an attempt that
+/// explains all moments.
 pub fn judge_laws()
     ensures sound { (b : Bench) (moments : List (Moment Tags)) → Follows b moments → Sound (claim b) (opened b) moments }
     ensures unsound { (b : Bench) (moments : List (Moment Tags)) (m : Moment Tags) (changed : List (List ℕ)) (r : Reason)

@@ -1,13 +1,17 @@
-//! A judge of the moments of a run: it follows what readers see, change by change, and says when they are not safe, and why.
+//! A judge of the moments of a run. It follows what readers see, change by change, and reports when
+//! they are not safe, and why.
 //!
 //! # What is proved
 //!
-//! `Judge::change`: As long as the run is sound, the judge knows it (`Follows`); with the first moment at which it is not, it gives the first
-//! reason that holds (`IsFirst`). It looks at the changed paths alone, and at all paths where a new success marker has just been put.
-//! `pick`: The least attempt of a task that explains all moments so far. `judge_laws`: What a judge knows makes a run sound, its reasons tell
-//! that the run is not, and while a new marker exists each task has an attempt that explains all moments.
+//! - `Judge::change`: as long as the run is sound, the judge knows it (`Follows`). At the first
+//!   moment at which it is not, the judge returns the first reason that holds (`IsFirst`). It
+//!   checks the changed paths alone, but all paths if a new success marker has just been put.
+//! - `pick` returns the least attempt of a task that explains all moments so far.
+//! - `judge_laws`: if the judge follows a run, the run is sound, and its reasons show that a run is
+//!   not. While a new marker exists, each task has an attempt that explains all moments.
 //!
-//! After an error `change` and `add_opening` promise nothing. Left open: that an error comes only if memory runs out.
+//! Left open: the state after an error of `change` or `add_opening`, and that an error comes only
+//! if memory runs out.
 #![tactic(auto)]
 
 mod change;

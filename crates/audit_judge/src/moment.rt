@@ -26,15 +26,16 @@ use std::alloc::AllocError;
 /// Whether a moment needs a choice of attempts.
 #[derive(Clone, Copy, PartialEq, Eq, Debug)]
 pub enum Need {
-    /// It needs none, and neither did any before.
+    /// The moment needs no choice, and neither did any before.
     Calm,
-    /// It needs one, and this task has no attempt.
+    /// The moment needs a choice, and this task has no attempt.
     Missing(u32),
-    /// It needs one, or one before did, and each task has an attempt.
+    /// The moment needs a choice, or one before did, and each task has an attempt.
     Choice,
 }
 
-/// The first changed path where readers see something else than in the opening, before the commit.
+/// Returns the first changed path at which readers see something else than in the opening, if the
+/// commit has not begun.
 fn first_early<'a>(known: &Known, begun: bool, changes: &'a [Change]) -> Option<&'a Text>
     requires started { known.now.started ≡ true }
     requires good { GoodList known.now.tasks known.now.claimed.listed }
@@ -47,7 +48,8 @@ fn first_early<'a>(known: &Known, begun: bool, changes: &'a [Change]) -> Option<
     }
 }
 
-/// The first such path while an old marker exists.
+/// Returns the first changed path at which readers see something else than in the opening, if an
+/// old marker exists.
 fn first_stale<'a>(known: &Known, marker: Marker, changes: &'a [Change]) -> Option<&'a Text>
     requires started { known.now.started ≡ true }
     requires good { GoodList known.now.tasks known.now.claimed.listed }
@@ -59,7 +61,7 @@ fn first_stale<'a>(known: &Known, marker: Marker, changes: &'a [Change]) -> Opti
     }
 }
 
-/// Whether a choice becomes needed.
+/// Returns whether these changes or this marker need a choice.
 fn calls_for_choice(known: &Known, marker: Marker, changes: &[Change]) -> bool
     requires started { known.now.started ≡ true }
     requires good { GoodList known.now.tasks known.now.claimed.listed }
@@ -74,7 +76,7 @@ fn calls_for_choice(known: &Known, marker: Marker, changes: &[Change]) -> bool
     }
 }
 
-/// Whether a choice is needed, and which task has no attempt.
+/// Returns whether a choice is needed, and the task that has no attempt.
 fn find_need(known: &Known, marker: Marker, needed: bool, changes: &[Change]) -> Need
     requires started { known.now.started ≡ true }
     requires good { GoodList known.now.tasks known.now.claimed.listed }
@@ -92,7 +94,8 @@ fn find_need(known: &Known, marker: Marker, needed: bool, changes: &[Change]) ->
     }
 }
 
-/// Rules out the attempts of which readers do not see the whole. Gives the least task of which none is left by that.
+/// Rules out the attempts whose whole readers do not see. Returns the least task that has no
+/// attempt left after that.
 fn narrow_whole(
     known: &Known,
     was: Marker,
@@ -113,7 +116,7 @@ fn narrow_whole(
     }
 }
 
-/// The first path with a file that the job replaces and that is left.
+/// Returns the first path with a file that the job replaces and that is left.
 fn first_left<'a>(known: &'a Known, was: Marker, changes: &'a [Change]) -> Option<&'a Text>
     requires started { known.now.started ≡ true }
     requires good { GoodList known.now.tasks known.now.claimed.listed }
@@ -126,7 +129,7 @@ fn first_left<'a>(known: &'a Known, was: Marker, changes: &'a [Change]) -> Optio
     }
 }
 
-/// What a new marker tells.
+/// Returns the reason that a new marker gives against the run, if there is one.
 fn marked_reason(
     known: &Known,
     was: Marker,
@@ -153,7 +156,8 @@ fn marked_reason(
     }
 }
 
-/// What a moment tells that needs a choice of attempts, each task having some.
+/// Returns the reason against the run at a moment that needs a choice of attempts, if there is one.
+/// Each task must have an attempt.
 fn chosen_reason(
     known: &Known,
     begun: bool,
@@ -199,7 +203,8 @@ fn chosen_reason(
     }
 }
 
-/// What one more moment tells, at which readers see these changes.
+/// Returns the reason against the run at one more moment, at which readers see these changes, if
+/// there is one.
 pub(crate) fn find_reason(
     known: &Known,
     begun: bool,

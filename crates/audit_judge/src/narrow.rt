@@ -13,7 +13,7 @@ use crate::signs::Demand;
 use audit_claims::{Attempts, TagFiles};
 use s3_types::Text;
 
-/// The lesser of two numbers that may be there.
+/// Returns the lesser of two numbers, or the one that is there.
 fn lesser(a: Option<u32>, b: Option<u32>) -> Option<u32>
     ensures lesser { result ≡ lesser a b }
 {
@@ -34,7 +34,7 @@ fn with_number(up: bool, number: u32, least: Option<u32>) -> Option<u32>
     }
 }
 
-/// The least number of an attempt whose flag is up.
+/// Returns the least number of an attempt whose flag is up.
 pub(crate) fn least_up(attempts: &Attempts, flags: &Flags) -> Option<u32>
     requires places { length flags.now ≡ length attempts.now }
     ensures least { result ≡ least_up attempts.now flags.now None }
@@ -65,8 +65,8 @@ fn narrow_task(known: &Known, demand: Demand, path: &Text, attempts: &Attempts, 
     }
 }
 
-/// Rules out the attempts of a path's task that do not meet a demand there. Gives the task if none of its attempts is
-/// left.
+/// Rules out the attempts of a path's task that do not meet a demand there. Returns the task if
+/// none of its attempts is left.
 fn narrow_at(known: &Known, demand: Demand, path: &Text, rows: &mut Vec<Flags>) -> Option<u32>
     requires started { known.now.started ≡ true }
     requires good { GoodList known.now.tasks known.now.claimed.listed }
@@ -83,8 +83,8 @@ fn narrow_at(known: &Known, demand: Demand, path: &Text, rows: &mut Vec<Flags>) 
     if flags.has_any() { None } else { Some(task) }
 }
 
-/// Rules out the attempts that do not meet a demand at a changed path of their task. Gives the least task of which no
-/// attempt is left by that.
+/// Rules out the attempts that do not meet a demand at a changed path of their task. Returns the
+/// least task that has no attempt left after that.
 pub(crate) fn narrow_changes(
     known: &Known,
     demand: Demand,
@@ -155,8 +155,8 @@ fn narrow_attempts(
     least
 }
 
-/// Rules out the attempts that do not meet a demand at some path of their task. Gives the least task of which no
-/// attempt is left by that.
+/// Rules out the attempts that do not meet a demand at some path of their task. Returns the least
+/// task that has no attempt left after that.
 pub(crate) fn narrow_listed(known: &Known, demand: Demand, rows: &mut Vec<Flags>) -> Option<u32>
     requires started { known.now.started ≡ true }
     requires good { GoodList known.now.tasks known.now.claimed.listed }

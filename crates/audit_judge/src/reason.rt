@@ -1,7 +1,7 @@
 use s3_types::Text;
 
-/// Why a run is not sound up to a line, in the order in which they are looked for. A path is below the destination; a task is given by its
-/// number.
+/// Why a run is not sound up to a line. The reasons are checked in this order. A path is below the
+/// destination; a task is given by its number.
 #[derive(Drop)]
 pub enum Reason {
     /// Readers see something else than in the opening at this path, before the commit.
@@ -12,11 +12,12 @@ pub enum Reason {
     Foreign(Text),
     /// The line took away an opening file at this path, which is kept and which no attempt writes.
     Lost(Text),
-    /// What readers see fits none of this task's attempts that explained all before.
+    /// What readers see fits none of this task's attempts that explained all moments before.
     Torn(u32),
     /// An old marker exists, and readers see something else than in the opening at this path.
     Stale(Text),
-    /// A new marker exists, and readers see the whole of none of this task's attempts that explained all before.
+    /// A new marker exists, and readers see the whole of none of this task's attempts that
+    /// explained all moments before.
     Half(u32),
     /// A new marker exists, and a replaced opening file is still at this path, which no attempt writes.
     Left(Text),

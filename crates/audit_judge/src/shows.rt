@@ -5,7 +5,7 @@ use crate::change::Change;
 use audit_claims::PathTags;
 use std::alloc::AllocError;
 
-/// Readers see this change.
+/// Applies a change to what readers see.
 fn show_one(shown: &mut PathTags, change: &Change) -> Result<(), AllocError>
     ensures ok { OnOk result (shown.new ≡ change_one change.now shown.old) }
 {
@@ -22,7 +22,7 @@ fn show_one(shown: &mut PathTags, change: &Change) -> Result<(), AllocError>
     }
 }
 
-/// They see these, one after the other.
+/// Applies these changes to what readers see, one after the other.
 pub(crate) fn show_all(shown: &mut PathTags, changes: &[Change]) -> Result<(), AllocError>
     ensures ok { OnOk result (shown.new ≡ change_all changes.now shown.old) }
 {

@@ -5,12 +5,12 @@ ghost use Rattle.audit_judge.specs.Tests.{fits_by, has_content, same_tags, whole
 use audit_claims::{Attempts, Etags};
 use s3_types::Text;
 
-/// What a path may show against a run.
+/// A sign that a path may show against a run.
 #[derive(Clone, Copy, PartialEq, Eq, Debug)]
 pub enum Sign {
     /// Readers see something else there than in the opening.
     Differs,
-    /// They see a file there that is neither the opening's nor any attempt's.
+    /// Readers see a file there that is neither the opening's nor any attempt's.
     Foreign,
     /// A kept opening file, which no attempt writes, is gone.
     Lost,
@@ -18,16 +18,16 @@ pub enum Sign {
     Left,
 }
 
-/// What an attempt must be for what readers see at a path.
+/// A demand on an attempt, given what readers see at a path.
 #[derive(Clone, Copy, PartialEq, Eq, Debug)]
 pub enum Demand {
-    /// They may see it as a part of the job.
+    /// Readers may see it as a part of the job.
     Part,
-    /// They may see it as the whole job.
+    /// Readers may see it as the whole job.
     Whole,
 }
 
-/// Whether two paths have the same tags, or both have no file.
+/// Returns whether two paths have the same tags, or both have no file.
 pub(crate) fn same_tags(a: Option<&Etags>, b: Option<&Etags>) -> bool
     ensures same { result ≡ same_tags (option_copied a.entry) (option_copied b.entry) }
 {
@@ -38,7 +38,7 @@ pub(crate) fn same_tags(a: Option<&Etags>, b: Option<&Etags>) -> bool
     }
 }
 
-/// Whether what readers see fits.
+/// Returns whether what readers see fits (`Fits`).
 pub(crate) fn fits(
     kept: bool,
     opening: Option<&Etags>,
@@ -56,7 +56,7 @@ pub(crate) fn fits(
     }
 }
 
-/// Whether it is what the whole job leaves.
+/// Returns whether readers see what the whole job leaves (`Whole`).
 pub(crate) fn is_whole(
     kept: bool,
     replaced: bool,
@@ -75,7 +75,7 @@ pub(crate) fn is_whole(
     }
 }
 
-/// Whether some of these attempts has this content at the path.
+/// Returns whether some of these attempts has this content at the path.
 pub(crate) fn has_content(path: &Text, content: &Etags, attempts: &Attempts) -> bool
     ensures has { result ≡ has_content path.now content.now attempts.now }
 {

@@ -30,7 +30,7 @@ all_back (m ∷ ms) (n ∷ ns) h = (back_alike m n h.0, all_back ms ns h.1)
 pub back_same : {I : Type 0} (o p : Shown I) → Same o p → Same p o
 back_same o p h q = sym (h q)
 
--- what holds at each moment holds at each that is alike
+-- A fact that holds at each moment holds at each moment alike to it.
 by_turn : {I : Type 0} (P Q : Moment I → Type 0) → ((m n : Moment I) → Alike m n → P m → Q n) → (ms ns : List (Moment I)) → AllAlike ms ns
     → AllByRecursion P ms → AllByRecursion Q ns
 by_turn P Q on [] [] h all = tt

@@ -1,4 +1,4 @@
--- What a judge knows where the moment as it is now comes once more, and changes that give paths the same tags.
+-- A judge's knowledge after the current moment comes once more, and changes that give paths the same tags.
 use Rattle.std.proofs.Common.{List, None, Option, Some, [], false, inl, inr, refl, subst, sym, ℕ, ◌++◌, ◌∙◌, ◌∷◌, ◌≡◌}
 use Rattle.std.proofs.lemmas.Bool.{true≢false}
 use Rattle.std.proofs.lemmas.List.Elements.{All-contains, All-push, Contains-append_cases, Contains-append_left, Contains-append_right}

@@ -7,7 +7,7 @@ use Rattle.audit_model.specs.Moments.{moment_if, moments, moments_behind, said_b
 use Rattle.audit_model.specs.Recorded.{Recorded, read_after}
 use Rattle.audit_laws.specs.Laws.{OneMore}
 
--- What was said and the moments go on by one more line.
+-- The facts and the moments go on with one more line.
 abbrev GoesOn : List (List ℕ) → Option Recorded → List ℕ → Recorded → Type 0
 GoesOn lines start l next = (said_by (lines ++ l ∷ []) start ≡ Ok (Some next))
     × (moments (lines ++ l ∷ []) start ≡ moments lines start ++ moment_if next)

@@ -70,7 +70,7 @@ place_parts : (a b : Bool) → (a && b) ≡ true → (a ≡ true) × (b ≡ true
 place_parts true b h = (refl, h)
 place_parts false b h = absurd (false≢true h)
 
--- two places are the same exactly if their buckets and their keys are
+-- Two places are the same exactly if their buckets and their keys are the same.
 pub is_place : (b k c l : List ℕ) → same_place b k c l ≡ true → (b ≡ c) × (k ≡ l)
 is_place b k c l h = let r = place_parts (bytes_eq b c) (bytes_eq k l) h in (bytes_same b c r.0, bytes_same k l r.1)
 
@@ -80,7 +80,7 @@ place_is b k c l e f = ap (λ t. t && bytes_eq k l) (bytes_true b c e) ∙ bytes
 place_back : (b k c l : List ℕ) → same_place b k c l ≡ same_place c l b k
 place_back b k c l = ap (λ t. t && bytes_eq k l) (bytes_back b c) ∙ ap (λ t. bytes_eq c b && t) (bytes_back k l)
 
--- one of these keys of a bucket is at this place
+-- One of these keys of a bucket is at this place.
 pub is_among : (b c l : List ℕ) (keys : List (List ℕ)) → list_any (λ k. same_place b k c l) keys ≡ true → (b ≡ c) × Contains keys l
 is_among b c l keys h =
     let a = Any-from_list_any (λ k. same_place b k c l) keys h in
@@ -135,7 +135,7 @@ to_visible o p e v = subst (λ x. Contains (visible_in x) p) (sym e)
     (subst (λ b. Contains (cond b (p ∷ []) []) p) (sym v) (Contains-push [] p))
 
 module _ (dest : Path) (bucket : List ℕ) (keys : List (List ℕ)) (p : List ℕ) where
-  -- readers see files at the path, and its place is one of these
+  -- Readers see files at the path, and its place is one of these.
   abbrev Here : Type 0
   Here = (is_visible p ≡ true) × (bucket ≡ dest.bucket) × Contains keys (below dest.key p)
 
@@ -156,7 +156,7 @@ module _ (dest : Path) (bucket : List ℕ) (keys : List (List ℕ)) (p : List �
 
 -- ---- what readers see
 
--- where they see files, what they see changes with the object there
+-- At a path where readers may see a file, they see the object there.
 shown_seen : (dest : Path) (objects : Objects) (p : List ℕ) (o : Option Tags) → is_visible p ≡ true
     → objects dest.bucket (below dest.key p) ≡ o → shown_of dest objects p ≡ o
 shown_seen dest objects p o v e = ap (λ b. cond b (objects dest.bucket (below dest.key p)) None) v ∙ e

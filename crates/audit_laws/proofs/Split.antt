@@ -105,7 +105,7 @@ delete_outside places a b bucket keys out h c l i = by (list_any (λ key. same_p
         absurd (true≢false (sym (list_any_at (places bucket) keys r.1.0 l r.1.1 (ap (places bucket) r.1.2 ∙ there)) ∙ out))
     by false e = h c l i
 
--- the marker's place is one of them
+-- The marker's place is one of these places.
 outside_marker : (places : Places) (dest : Path) → Covers dest places → (bucket key : List ℕ) → places bucket key ≡ false
     → is_marker dest bucket key ≡ false
 outside_marker places dest covers bucket key out = elim (either (is_marker dest bucket key)) [
@@ -141,19 +141,19 @@ module _ (places : Places) where
 
   -- ---- one line
 
-  -- What a line that is kept makes of a recording that agrees.
+  -- A line that is kept, applied to a recording that agrees.
   record Next (r now s : Recorded) (l : TraceLine) : Type 0 where
     next : Recorded
     made : after (Some s) l ≡ Ok next
     agree : Agree places now next
-    -- it changes nothing, or there is a moment behind it
+    -- It changes nothing, or a moment follows it.
     same : (now ≡ r) ⊎ (next.running ≡ true)
     runs : (s.running ≡ true → r.running ≡ true) → next.running ≡ true → now.running ≡ true
-    -- the opening and the destination are as they were
+    -- The opening and the destination are unchanged.
     opening : now.opening ≡ r.opening
     dest : now.dest ≡ r.dest
 
-  -- What a line that is taken out leaves.
+  -- A recording after a line that is removed.
   record Passed (r now s : Recorded) : Type 0 where
     agree : Agree places now s
     runs : now.running ≡ true
@@ -320,7 +320,7 @@ module _ (places : Places) where
 
   -- ---- all lines
 
-  -- What the lines that are kept make of a recording that agrees, and which moments are known of both.
+  -- The lines that are kept, applied to a recording that agrees, and the moments that are known of both.
   record Walk (o : Shown Tags) (prior ms ns : List (Moment Tags)) (made : Result Recorded TraceFault) (end r : Recorded) : Type 0 where
     last : Recorded
     said : made ≡ Ok last
@@ -375,7 +375,7 @@ module _ (places : Places) where
     dest = w.dest ∙ dest;
   }
 
-  -- the moment behind a line that is kept is known
+  -- The moment after a line that is kept is known.
   known_next : (o : Shown Tags) (prior : List (Moment Tags)) (r now next : Recorded) → Known o prior (moment r)
       → Alike (moment now) (moment next) → (now ≡ r) ⊎ (next.running ≡ true) → Known o (prior ++ moment_if next) (moment now)
   known_next o prior r now next known alike (inl e) =
@@ -455,7 +455,7 @@ changes_split places lines r s end covers h waits others may e = record {
     w = walk places (opening r) [] lines r end s covers h (λ u. absurd (true≢false (sym u ∙ others.running)))
         (waits_known places r covers waits) (recursion_from_All (MayFollow places) lines may) e
 
-    -- what readers saw when the run began
+    -- What readers saw when the run began.
     opened : opening end ≡ opening r
     opened = ap (λ d. shown_of d end.opening) w.dest ∙ ap (shown_of r.dest) w.opening
 
@@ -483,7 +483,7 @@ changes_split places lines r s end covers h waits others may e = record {
 -- ---- before the run begins
 
 module _ (places : Places) where
-  -- What a line of the opening part that is kept makes of a recording that agrees.
+  -- A line of the opening part that is kept, applied to a recording that agrees.
   record Opened (r now s : Recorded) (l : TraceLine) : Type 0 where
     next : Recorded
     made : after (Some s) l ≡ Ok next
@@ -492,7 +492,7 @@ module _ (places : Places) where
     waits_next : Waits next
     dest : now.dest ≡ r.dest
 
-  -- What one that is taken out leaves.
+  -- A recording after a line of the opening part that is removed.
   record Left (r now s : Recorded) : Type 0 where
     agree : Agree places now s
     waits : Waits now
@@ -624,14 +624,14 @@ module _ (places : Places) where
   left (line.Delete bucket keys) r now s may h waits t e = absurd may
   left line.Still r now s may h waits t e = absurd (true≢false t)
 
-  -- What a run says of two lists of moments, and what the lines that are kept say.
+  -- The run is sound for one list of moments exactly if it is sound for the other, by the lines that are kept.
   record Told (ms ns : List (Moment Tags)) (made : Result Recorded TraceFault) (end : Recorded) : Type 0 where
     last : Recorded
     said : made ≡ Ok last
     agree : Agree places end last
     safe : Sound (claim end) (opening end) ms ↔ Sound (claim last) (opening last) ns
 
-  -- no moment is behind a line before the run begins
+  -- No moment follows a line before the run begins.
   no_moment : (r : Recorded) (ms : List (Moment Tags)) → r.running ≡ false → ms ≡ moment_if r ++ ms
   no_moment r ms e = ap (λ b. cond b (moment r ∷ []) [] ++ ms) (sym e)
 

@@ -1,4 +1,4 @@
--- Moments of which readers see the same.
+-- Moments at which readers see the same.
 use Rattle.std.specs.Prelude.{List, ◌≡◌}
 use Rattle.std.specs.List.{AllZip, Contains}
 use Rattle.soundness.specs.Moments.{Moment, Same}

@@ -21,23 +21,23 @@ use Rattle.audit_laws.specs.Alike.{Alike, AllAlike, SameElements}
 
 -- ---- one line more
 
--- Lines that have no fault, and one more.
+-- Lines that have no fault, and one more line.
 pub record OneMore : Type 0 where
-  -- Where it has no fault, what was said goes on by it, and so do the moments.
+  -- If the line has no fault, its facts and its moment are added.
   pub goes_on : (lines : List (List ℕ)) (start said : Option Recorded) (l : List ℕ) (next : Recorded)
       → said_by lines start ≡ Ok said → read_after said l ≡ Ok next
       → (said_by (lines ++ l ∷ []) start ≡ Ok (Some next)) × (moments (lines ++ l ∷ []) start ≡ moments lines start ++ moment_if next)
-  -- Where it has one, this is the first fault, whatever follows.
+  -- If the line has a fault, this is the first fault, whatever follows.
   pub fault : (lines rest : List (List ℕ)) (start said : Option Recorded) (l : List ℕ) (fault : TraceFault)
       → said_by lines start ≡ Ok said → read_after said l ≡ Err fault → said_by (lines ++ l ∷ rest) start ≡ Err fault
 
 -- ---- moments that are alike
 
--- Of moments that are alike, and openings that are the same, soundness says the same.
+-- If moments are alike and openings are the same, a run is sound for both or for neither.
 abbrev pub SoundAlike : Type 0
 SoundAlike = (w : Claim Tags) (o p : Shown Tags) (ms ns : List (Moment Tags)) → AllAlike ms ns → Same o p → Sound w o ms → Sound w p ns
 
--- So does the first reason, where the same paths have changed.
+-- The first reason against a run is the same too, if the same paths have changed.
 abbrev pub FirstAlike : Type 0
 FirstAlike = (w : Claim Tags) (o p : Shown Tags) (ms ns : List (Moment Tags)) (m n : Moment Tags) (changed other : List (List ℕ))
     (r : Reason) → AllAlike ms ns → Alike m n → Same o p → SameElements changed other → IsFirst w o ms m changed r
@@ -45,18 +45,18 @@ FirstAlike = (w : Claim Tags) (o p : Shown Tags) (ms ns : List (Moment Tags)) (m
 
 -- ---- what a change of objects does to what readers see
 
--- The paths that readers see of some keys, and what they see there when the objects at the keys are put or deleted.
+-- The paths of some keys at which readers see files, and what readers see there after the objects at the keys are put or deleted.
 pub record SeenLaws : Type 0 where
   -- A path is among those of some keys exactly if readers see files at it, and its key in the destination's bucket is one of them.
   pub seen : (dest : Path) (bucket : List ℕ) (keys : List (List ℕ)) (p : List ℕ) → Contains (seen_paths dest bucket keys) p
       ↔ ((is_visible p ≡ true) × (bucket ≡ dest.bucket) × Contains keys (below dest.key p))
-  -- At the path of a key that is put readers see its tags.
+  -- At the path of a key that was put, readers see its tags.
   pub put_seen : (dest : Path) (bucket key : List ℕ) (tags : Tags) (objects : Objects) (p : List ℕ)
       → Contains (seen_paths dest bucket (key ∷ [])) p → shown_of dest (put bucket key tags objects) p ≡ Some tags
   -- Elsewhere they see what they saw.
   pub put_other : (dest : Path) (bucket key : List ℕ) (tags : Tags) (objects : Objects) (p : List ℕ)
       → (Contains (seen_paths dest bucket (key ∷ [])) p → ⊥) → shown_of dest (put bucket key tags objects) p ≡ shown_of dest objects p
-  -- At the paths of keys that are deleted they see nothing.
+  -- At the paths of keys that were deleted, readers see nothing.
   pub delete_seen : (dest : Path) (bucket : List ℕ) (keys : List (List ℕ)) (objects : Objects) (p : List ℕ)
       → Contains (seen_paths dest bucket keys) p → shown_of dest (delete bucket keys objects) p ≡ None
   -- Elsewhere they see what they saw.
@@ -65,24 +65,24 @@ pub record SeenLaws : Type 0 where
 
 -- Whether the success marker exists after a change.
 pub record MarkerLaws : Type 0 where
-  -- It does if it has been put, or existed before.
+  -- It exists if it has been put, or existed before.
   pub marker_put : (dest : Path) (bucket key : List ℕ) (tags : Tags) (objects : Objects)
       → is_some (put bucket key tags objects dest.bucket (marker_key dest))
       ≡ (is_marker dest bucket key || is_some (objects dest.bucket (marker_key dest)))
-  -- It does if it existed before and has not been deleted.
+  -- It exists if it existed before and has not been deleted.
   pub marker_delete : (dest : Path) (bucket : List ℕ) (keys : List (List ℕ)) (objects : Objects)
       → is_some (delete bucket keys objects dest.bucket (marker_key dest))
       ≡ (not (list_any (λ key. is_marker dest bucket key) keys) && is_some (objects dest.bucket (marker_key dest)))
 
 -- ---- what a judge knows
 
--- What a judge knows stays so when the moment as it is now comes once more.
+-- The knowledge of a judge stays the same if the current moment comes once more.
 abbrev pub Again : Type 0
 Again = (b : Bench) (ms : List (Moment Tags)) → Follows b ms → Follows b (ms ++ now b ∷ [])
 
--- Changes that give all these paths the same tags, or take their files away.
+-- Changes that give all these paths the same tags, or remove their files.
 pub record ChangedAll : Type 0 where
-  -- Each of the paths has them then.
+  -- Afterwards each of the paths has these tags.
   pub there : (o : Option Tags) (ps : List (List ℕ)) (m : Paths) (q : List ℕ) → Contains ps q
       → fin.get (change_all (map (λ p. record { path = p; etags = o }) ps) m) q ≡ o
   -- Nothing else has changed.

@@ -19,22 +19,22 @@ use Rattle.audit_judge.specs.Reasons.{IsFirst}
 use Rattle.audit_model.specs.Recorded.{Recorded, after, read_after, stage_of}
 use Rattle.audit_judge.specs.declared.reason.Reason.{Reason}
 
--- Readers were safe at each moment behind these lines, by what the lines say.
+-- By what the lines say, readers were safe at each moment after them.
 abbrev pub IsSafe : List (List ℕ) → Recorded → Type 0
 IsSafe lines r = Sound (claim r) (opening r) (moments lines None)
 
 -- ---- the paths that a line changed
 
--- The path, if readers see a file at it.
+-- The path as a list, empty if readers see no file at it.
 abbrev pub visible_in : Option (List ℕ) → List (List ℕ)
 visible_in None = []
 visible_in (Some path) = cond (is_visible path) (path ∷ []) []
 
--- The path of a key below a destination, if readers see a file at it.
+-- The path of a key below a destination as a list, empty if readers see no file at it.
 abbrev pub seen_path : Path → List ℕ → List (List ℕ)
 seen_path dest key = visible_in (relative_in dest.key key)
 
--- The paths below a destination, that readers see, of these keys of a bucket.
+-- The paths of these keys of a bucket that are below a destination and at which readers see files.
 abbrev pub seen_paths : Path → (bucket : List ℕ) → (keys : List (List ℕ)) → List (List ℕ)
 seen_paths dest bucket keys = cond (bytes_eq bucket dest.bucket) (flat_map (seen_path dest) keys) []
 
@@ -47,31 +47,31 @@ changed_paths dest _ = []
 
 -- ---- the answers
 
--- The lines have no fault, and readers were safe behind each of them.
+-- The lines have no fault, and readers were safe after each of them.
 pub record IsSound (lines : List (List ℕ)) (r : Recorded) : Type 0 where
   pub said : said_by lines None ≡ Ok (Some r)
   pub safe : IsSafe lines r
 
--- Readers were safe up to the line before this one and not with it, for this reason.
+-- Readers were safe up to the line before this one but not with it, for this reason.
 pub record IsUnsound (lines : List (List ℕ)) (number : ℕ) (reason : Reason) : Type 0 where
-  -- the lines before it, its own bytes, and those behind it
+  -- The lines before it, its own bytes, and the lines after it.
   pub before : List (List ℕ)
   pub bytes : List ℕ
   pub behind : List (List ℕ)
   pub lines_are : lines ≡ before ++ bytes ∷ behind
   pub number_is : number ≡ length before + 1
-  -- readers were safe before
+  -- Readers were safe before.
   pub said : Recorded
   pub sound : IsSound before said
-  -- the line has no fault
+  -- The line has no fault.
   pub line : TraceLine
   pub read : line_of (stage_of (Some said)) bytes ≡ Ok line
   pub now : Recorded
   pub added : after (Some said) line ≡ Ok now
-  -- the first reason that holds
+  -- This is the first reason that holds.
   pub first : IsFirst (claim said) (opening said) (moments before None) (moment now) (changed_paths said.dest line) reason
 
--- The line of this number is the first with a fault, and readers were safe up to the line before it. A trace without a line is out of
+-- The line with this number is the first with a fault, and readers were safe up to the line before it. A trace without a line is out of
 -- order.
 pub record IsFaulty (lines : List (List ℕ)) (number : ℕ) (fault : TraceFault) : Type 0 where
   pub before : List (List ℕ)
@@ -88,7 +88,7 @@ pub record IsFaulty (lines : List (List ℕ)) (number : ℕ) (fault : TraceFault
 abbrev pub ExplainsAll : (lines : List (List ℕ)) → Recorded → (task : ℕ) → ℕ × Files Tags → Type 0
 ExplainsAll lines r task a = StillExplains (claim r) (opening r) (moments lines None) (of_task task r.claimed.listed) a.1
 
--- The least number of an attempt of this task that does.
+-- The least number of an attempt of this task that explains what readers saw at each moment.
 pub record IsLeast (lines : List (List ℕ)) (r : Recorded) (task attempt : ℕ) : Type 0 where
   pub explains : Any (λ a. (a.0 ≡ attempt) × ExplainsAll lines r task a) (numbered task r.claimed.listed)
   pub least : All (λ a. ExplainsAll lines r task a → attempt ≤ a.0) (numbered task r.claimed.listed)

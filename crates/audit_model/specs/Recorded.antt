@@ -1,4 +1,4 @@
--- What the lines of a trace say, one after the other.
+-- The facts that the lines of a trace state, one line after the other.
 use Rattle.std.specs.Prelude.{ℕ, ◌+◌, List, [], Bool, true, false, not, ◌||◌, Option, Some, None, Result, Ok, Err}
 use Rattle.std.specs.Prelude.{codes, is_none, length, nat_eq, nat_lt}
 use Rattle.basics.specs.Reading.{check, need, ◌>>=◌}
@@ -14,24 +14,24 @@ use Rattle.trace_reader.specs.declared.line.TraceLine.TheVariants as line
 use Rattle.trace_reader.specs.declared.stage.Stage.{Stage}
 use Rattle.trace_reader.specs.Reading.{line_of}
 
--- What the lines so far say.
+-- The facts that the lines so far state.
 pub record Recorded : Type 0 where
-  -- the job
+  -- The job.
   pub dest : Path
   pub keeps : Keeps
   pub tasks : ℕ
-  -- its attempts with their files
+  -- The job's attempts with their files.
   pub claimed : Claimed
-  -- the objects when the run began, and now
+  -- The objects when the run began, and now.
   pub opening : Objects
   pub objects : Objects
-  -- a change or the commit has come
+  -- Whether a change or the commit has come.
   pub running : Bool
-  -- the commit has begun
+  -- Whether the commit has begun.
   pub begun : Bool
-  -- a request put the success marker
+  -- Whether a request put the success marker.
   pub marked : Bool
-  -- how many requests changed something
+  -- How many requests changed something.
   pub changes : ℕ
 
 -- ---- the success marker
@@ -40,13 +40,13 @@ pub record Recorded : Type 0 where
 abbrev pub marker_key : Path → List ℕ
 marker_key dest = below dest.key (codes "_SUCCESS")
 
--- It is the place of the success marker.
+-- True if this is the place of the success marker.
 abbrev pub is_marker : Path → (bucket key : List ℕ) → Bool
 is_marker dest bucket key = same_place dest.bucket (marker_key dest) bucket key
 
 -- ---- one line after the other
 
--- The job's line has come.
+-- The facts after the job's line.
 abbrev pub begin : Path → Keeps → ℕ → Recorded
 begin dest keeps tasks = record {
   dest = dest;
@@ -61,47 +61,47 @@ begin dest keeps tasks = record {
   changes = 0;
 }
 
--- A request changed the objects.
+-- The facts after a request changed the objects.
 abbrev pub changed : Objects → (marked : Bool) → Recorded → Recorded
 changed objects marked r = record r { objects = objects; running = true; marked = r.marked || marked; changes = r.changes + 1 }
 
--- Another attempt.
+-- The facts after the line of another attempt.
 abbrev pub attempt_after : ℕ → ℕ → Recorded → Result Recorded TraceFault
 attempt_after task attempt r = do
   new ← check (not (has_attempt task attempt r.claimed.listed)) Repeated
   Ok (record r { claimed = record { listed = with_attempt task attempt r.claimed.listed; current = task } })
 
--- The path is free, or its files are of this task.
+-- True if no task owns the path, or this task does.
 abbrev pub is_own : ℕ → Option ℕ → Bool
 is_own task None = true
 is_own task (Some other) = nat_eq task other
 
--- Another file of the last attempt.
+-- The facts after another file of the last attempt.
 abbrev pub file_after : List ℕ → Tags → Recorded → Result Recorded TraceFault
 file_after path tags r = do
   new ← check (not (last_has r.claimed path)) Repeated
   own ← check (is_own r.claimed.current (owner path r.claimed.listed)) SamePath
   Ok (record r { claimed = record r.claimed { listed = with_file r.claimed.current path tags r.claimed.listed } })
 
--- Another object that existed when the run began.
+-- The facts after another object that existed when the run began.
 abbrev pub object_after : (bucket key : List ℕ) → Tags → Recorded → Result Recorded TraceFault
 object_after bucket key tags r = do
   new ← check (is_none (r.objects bucket key)) Repeated
   Ok (record r { opening = put bucket key tags r.opening; objects = put bucket key tags r.objects })
 
--- The commit begins.
+-- The facts after the commit began.
 abbrev pub commit_after : Recorded → Result Recorded TraceFault
 commit_after r = do
   new ← check (not r.begun) Repeated
   Ok (record r { running = true; begun = true })
 
--- A copy.
+-- The facts after a copy.
 abbrev pub copy_after : (bucket source key : List ℕ) → Recorded → Result Recorded TraceFault
 copy_after bucket source key r = do
   tags ← need (r.objects bucket source) NoSource
   Ok (changed (put bucket key tags r.objects) (is_marker r.dest bucket key) r)
 
--- What a line adds to what was said before it, or its fault.
+-- The facts of a line added to those before it, or its fault.
 abbrev pub after : Option Recorded → TraceLine → Result Recorded TraceFault
 after None (line.Job dest keeps tasks) = Ok (begin dest keeps tasks)
 after None _ = Err OutOfOrder
@@ -120,6 +120,6 @@ abbrev pub stage_of : Option Recorded → Stage
 stage_of None = record { tasks = None; attempted = false; running = false }
 stage_of (Some r) = record { tasks = Some r.tasks; attempted = nat_lt 0 (length r.claimed.listed); running = r.running }
 
--- What a line of bytes adds to what was said before it, or its fault.
+-- The facts of a line of bytes added to those before it, or its fault.
 abbrev pub read_after : Option Recorded → List ℕ → Result Recorded TraceFault
 read_after said bytes = line_of (stage_of said) bytes >>= after said

@@ -1,2 +1,3 @@
-//! What a trace says happened, and what an audit of it must answer: definitions, in `specs/`.
+//! Definitions, in `specs/`, of what a trace says happened, and of the answer that an audit of it
+//! must give.
 #![tactic(auto)]

@@ -1,4 +1,4 @@
--- Objects of which those of one bucket are changed.
+-- Objects after those of one bucket have changed.
 use Rattle.audit_claims.specs.Claims.{Tags}
 use Rattle.audit_claims.specs.Etags.{TagMap}
 use Rattle.audit_objects.specs.Objects.{ObjectMap, at, delete, put, same_place, tags_in}
@@ -31,11 +31,11 @@ alike q k =
     ∙ same_truth (text_eq q k) (bytes_eq k q) (λ h. (bytes_eq-Decides k q).1 (sym (text_is q k h)))
     (λ h. text_true q k (sym ((bytes_eq-Decides k q).0 h)))
 
--- It is one of these keys.
+-- True if the key is one of these.
 abbrev pub is_one_of : (keys : List (List ℕ)) → List ℕ → Bool
 is_one_of keys k = list_any (λ key. bytes_eq key k) keys
 
--- A test of the bucket and one of the key.
+-- A test of a bucket and one of a key.
 is_place : (keys : List (List ℕ)) (bucket b k : List ℕ)
     → list_any (λ key. same_place bucket key b k) keys ≡ (bytes_eq bucket b && is_one_of keys k)
 is_place keys bucket b k = by (bytes_eq bucket b) keys
@@ -54,7 +54,7 @@ one_put tags new key etags e k =
     ap (λ (m : TagMap). map.get m k) e ∙ map.get-insert text_total tags key etags k
     ∙ ap (λ b. cond b (Some etags) (map.get tags k)) (alike k key)
 
--- One key is put where none was.
+-- One key is put where there was none.
 pub first_put : (new : TagMap) (key : List ℕ) (etags : Tags) → new ≡ map.insert map.empty key etags → (k : List ℕ)
     → map.get new k ≡ cond (bytes_eq key k) (Some etags) None
 first_put new key etags e k =
@@ -64,7 +64,7 @@ or_none : (b : Bool) → b ≡ (b || false)
 or_none true = refl
 or_none false = refl
 
--- One key is taken out.
+-- One key is removed.
 pub one_removed : (tags new : TagMap) (key : List ℕ) → new ≡ map.remove tags key → (k : List ℕ)
     → map.get new k ≡ cond (is_one_of (key ∷ []) k) None (map.get tags k)
 one_removed tags new key e k =
@@ -77,7 +77,7 @@ removed_also true false o = refl
 removed_also false true o = refl
 removed_also false false o = refl
 
--- One more key of a list is taken out.
+-- One more key of a list is removed.
 pub next_removed : (old tags new : TagMap) (keys : List (List ℕ)) (i : ℕ) (key : List ℕ) → i < length keys → key ≡ get_or keys i key
     → ((k : List ℕ) → map.get tags k ≡ cond (is_one_of (take i keys) k) None (map.get old k)) → new ≡ map.remove tags key → (k : List ℕ)
     → map.get new k ≡ cond (is_one_of (take (i + 1) keys) k) None (map.get old k)
@@ -93,7 +93,7 @@ abbrev Rows : Type 0
 Rows = List (List ℕ × TagMap)
 
 module _ (es : Rows) (m : ObjectMap) (bucket : List ℕ) (is : map.from_entries {R = text_cmp} es ≡ m) where
-  -- What is at a bucket's name.
+  -- The keys and tags at a bucket's name.
   pub found : (o : Option TagMap) → o ≡ lookup (is_at (text_cmp bucket)) es → map.get m bucket ≡ o
   found o e = ap (λ (n : ObjectMap). map.get n bucket) (sym is) ∙ get_made text_total es bucket ∙ sym e
 
@@ -107,14 +107,14 @@ module _ (es : Rows) (m : ObjectMap) (bucket : List ℕ) (is : map.from_entries 
     written : map.from_entries {R = text_cmp} fs ≡ map.insert m bucket new
     written = made_insert text_total exact_bytes es fs bucket new h ∙ ap (λ (n : ObjectMap). map.insert n bucket new) is
 
-    -- The bucket is as it was.
+    -- The bucket is unchanged.
     pub unwritten : (old : TagMap) → Some old ≡ lookup (is_at (text_cmp bucket)) es → new ≡ old → map.from_entries {R = text_cmp} fs ≡ m
     unwritten old was e =
         written ∙ ap (map.insert m bucket) e ∙ insert_same text_total exact_bytes m bucket old (found (Some old) was)
 
     module _ (old : Option TagMap) (was : map.get m bucket ≡ old) (test : List ℕ → Bool) (o : Option Tags)
         (now : (k : List ℕ) → map.get new k ≡ cond (test k) o (tags_in old k)) where
-      -- What is at some keys of the bucket is new.
+      -- At some keys of the bucket the objects are new.
       changed : (b k : List ℕ) → at (map.from_entries {R = text_cmp} fs) b k ≡ cond (bytes_eq bucket b && test k) o (at m b k)
       changed b k =
           ap (λ (n : ObjectMap). at n b k) written
@@ -143,7 +143,7 @@ module _ (es : Rows) (m : ObjectMap) (bucket : List ℕ) (is : map.from_entries 
         changed (Some old) (found (Some old) was) (is_one_of keys) None now b k
         ∙ ap (λ c. cond c None (at m b k)) (sym (is_place keys bucket b k))
 
-  -- Nothing is deleted in a bucket that is not there.
+  -- Nothing is deleted in a bucket that does not exist.
   pub none_deleted : (fs : Rows) → fs ≡ es → None ≡ lookup (is_at (text_cmp bucket)) es → (keys : List (List ℕ)) (b k : List ℕ)
       → at (map.from_entries {R = text_cmp} fs) b k ≡ delete bucket keys (at m) b k
   none_deleted fs e none keys b k =

@@ -1,9 +1,10 @@
-//! The objects of all buckets that a trace tells of, each by the tags of its parts.
+//! The objects of all buckets that a trace mentions, each with the tags of its parts.
 //!
 //! # What is proved
 //!
-//! `Objects`: What is put at a key of a bucket is found there, until something else is put there or the key is deleted. Nothing
-//! changes at any other key, nor in any other bucket. If `put` fails, all is as before.
+//! - `Objects`: an object that is put at a key of a bucket is found there, until another is put
+//!   there or the key is deleted. Nothing changes at any other key, nor in any other bucket.
+//! - If `put` fails, all is unchanged.
 //!
 //! Left open: that an error comes only if memory runs out, and what each call costs.
 #![tactic(auto)]

@@ -11,8 +11,9 @@ use std::alloc::{AllocError, Global};
 use std::collections::BTreeMap;
 use std::marker::Model;
 
-/// The objects of all buckets, each by the tags of its parts. Clauses see a finite map from buckets to finite maps from
-/// keys to tags. Each call costs O(log b + log n) for b buckets and n keys of one, and `remove_all` O(log n) for each key.
+/// The objects of all buckets, each with the tags of its parts. Contracts see a finite map from
+/// buckets to finite maps from keys to tags. Each call costs O(log b + log n) for b buckets and n
+/// keys of one, and `remove_all` O(log n) for each key.
 #[derive(Drop)]
 pub struct Objects {
     alloc: Global,
@@ -40,7 +41,7 @@ fn remove_keys(held: &mut PathTags, keys: &[Text])
 }
 
 impl Objects {
-    /// No objects. Takes no memory.
+    /// Returns a map without objects. Takes no memory.
     pub fn new(alloc: Global) -> Objects
         ensures none { (b k : List ℕ) → at result b k ≡ None }
     {
@@ -50,7 +51,7 @@ impl Objects {
         }
     }
 
-    /// The tags of the object at a key of a bucket, if there is one.
+    /// Returns the tags of the object at a key of a bucket, if there is one.
     pub fn get(&self, bucket: &Text, key: &Text) -> Option<&Etags>
         ensures found { option_copied result ≡ at self.now bucket.now key.now }
     {
@@ -60,7 +61,7 @@ impl Objects {
         tags.get(key)
     }
 
-    /// Adds a bucket with one object. Fails only if memory runs out; all is then as before.
+    /// Adds a bucket with one object. Fails only if memory runs out; all is then unchanged.
     fn add_bucket(&mut self, bucket: Text, key: Text, etags: Etags) -> Result<(), AllocError>
         requires other { map.get self.old bucket ≡ None }
         ensures ok { OnOk result ((b k : List ℕ) → at self.new b k ≡ put bucket key etags (at self.old) b k) }
@@ -72,8 +73,8 @@ impl Objects {
         Ok(())
     }
 
-    /// Puts an object with these tags at a key, in place of the one there. Fails only if memory runs out; all is then as
-    /// before.
+    /// Puts an object with these tags at a key, in place of the one there. Fails only if memory
+    /// runs out; all is then unchanged.
     pub fn put(&mut self, bucket: Text, key: Text, etags: Etags) -> Result<(), AllocError>
         ensures put { OnOk result ((b k : List ℕ) → at self.new b k ≡ put bucket key etags (at self.old) b k) }
         ensures err { OnErr result (self.new ≡ self.old) }
@@ -97,7 +98,7 @@ impl Objects {
         tags.remove(key);
     }
 
-    /// Deletes the objects at these keys of a bucket, those that are there.
+    /// Deletes the objects at these keys of a bucket, if they exist.
     pub fn remove_all(&mut self, bucket: &Text, keys: &[Text])
         ensures gone { (b k : List ℕ) → at self.new b k ≡ delete bucket.now keys.now (at self.old) b k }
     {

@@ -1,4 +1,4 @@
-//! Objects that are put, replaced and deleted, beside what must be there then.
+//! Puts, replaces and deletes objects, and compares the result with what must be there then.
 use crate::Objects;
 use audit_claims::Etags;
 use s3_types::{Text, TextList};
@@ -28,7 +28,8 @@ fn put(alloc: Global, objects: &mut Objects, row: &Row) -> Result<(), AllocError
     objects.put(bucket, key, etags(alloc, row.tag)?)
 }
 
-/// Whether the object at a row's place has its tag; where the tag is empty, whether there is none.
+/// Returns whether the object at a row's place has its tag; if the tag is empty, whether there is
+/// no object.
 fn has(alloc: Global, objects: &Objects, row: &Row) -> Result<bool, AllocError> {
     let bucket = Text::copied(alloc, row.bucket)?;
     let key = Text::copied(alloc, row.key)?;

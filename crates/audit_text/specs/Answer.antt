@@ -1,4 +1,4 @@
--- The text that tells the answer of an audit.
+-- The text that reports the answer of an audit.
 use Rattle.std.specs.Prelude.{ℕ, List, [], ◌∷◌, ◌++◌, codes, decimal}
 use Rattle.std.specs.List.{flat_map}
 use Rattle.serde_json.specs.Data.{string}
@@ -48,7 +48,7 @@ reason_text (Stale path) = codes "stale " ++ path_text path
 reason_text (Half task) = codes "half " ++ decimal task
 reason_text (Left path) = codes "left " ++ path_text path
 
--- The line of this number is the first with which readers were not safe, and the reason.
+-- The text says that the line with this number is the first with which readers were not safe, and why.
 unfoldable pub unsound_text : (number : ℕ) → Reason → List ℕ
 unsound_text number reason = codes "unsound at line " ++ (decimal number ++ (codes ": " ++ (reason_text reason ++ 10 ∷ [])))
 
@@ -73,7 +73,7 @@ member_text (fault.MissingField field) = codes " " ++ name_of field
 member_text (fault.WrongKind field) = codes " " ++ name_of field
 member_text _ = []
 
--- The line of this number is the first with a fault.
+-- The text says that the line with this number is the first with a fault.
 unfoldable pub fault_text : (number : ℕ) → TraceFault → List ℕ
 fault_text number fault =
     codes "trace fault "

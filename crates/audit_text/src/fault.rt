@@ -5,7 +5,7 @@ ghost use Rattle.audit_text.specs.Answer.{fault_text, fault_word, member_text};
 use std::alloc::{AllocError, Global};
 use trace_reader::{Field, TraceFault};
 
-/// The word of a fault.
+/// Returns the word of a fault.
 fn fault_word(fault: TraceFault) -> &'static str
     requires { fault ≡ TraceFault.NoMemory → ⊥ }
     ensures { result.now ≡ fault_word fault }
@@ -43,7 +43,8 @@ fn write_member(text: &mut String, fault: TraceFault) -> Result<(), AllocError>
     }
 }
 
-/// The text that tells a fault of a trace, and the number of the first line with one. Fails only if memory runs out.
+/// Returns the text that reports a fault of a trace and the number of the first line with one.
+/// Fails only if memory runs out.
 #[tactic(auto, unfolding(crate::specs::Answer::fault_text))]
 pub fn fault_text(alloc: Global, number: u64, fault: TraceFault) -> Result<String, AllocError>
     // NoMemory is no fault of a trace.

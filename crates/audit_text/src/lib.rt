@@ -1,9 +1,10 @@
-//! The text that tells the answer of an audit: readers were safe, they were not, or the trace has a fault.
+//! The text that reports the answer of an audit: readers were safe, they were not, or the trace has
+//! a fault.
 //!
 //! # What is proved
 //!
-//! `sound_text`, `unsound_text`, `fault_text`: Exactly the text of `Answer.antt`. A path is written as a JSON string, as `serde_json`
-//! writes one.
+//! `sound_text`, `unsound_text` and `fault_text` return exactly the text of `Answer.antt`. A path
+//! is written as a JSON string, as `serde_json` writes one.
 //!
 //! Left open: that an error comes only if memory runs out.
 #![tactic(auto)]

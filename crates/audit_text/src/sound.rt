@@ -5,14 +5,14 @@ ghost use Rattle.audit_text.specs.Answer.{marker_word, pick_line, sound_text};
 use soundness::Marker;
 use std::alloc::{AllocError, Global};
 
-/// The attempt that can be a task's choice, by their numbers.
+/// A task and the attempt that can be its choice, by their numbers.
 #[derive(Clone, Copy, PartialEq, Eq, Debug)]
 pub struct Pick {
     pub task: u32,
     pub attempt: u32,
 }
 
-/// The word for a success marker.
+/// Returns the word for a success marker.
 fn marker_word(marker: Marker) -> &'static str
     ensures { result.now ≡ marker_word marker }
 {
@@ -35,8 +35,9 @@ fn write_picks(text: &mut String, picks: &[Pick]) -> Result<(), AllocError>
     Ok(())
 }
 
-/// The text that tells that readers were safe: how many lines the trace has, how many of them changed something, which
-/// success marker exists at the end, and the attempt of each task that can be its choice. Fails only if memory runs out.
+/// Returns the text that reports that readers were safe. It says how many lines the trace has, how
+/// many of them changed something, which success marker exists at the end, and the attempt of each
+/// task that can be its choice. Fails only if memory runs out.
 #[tactic(auto, unfolding(crate::specs::Answer::sound_text))]
 pub fn sound_text(
     alloc: Global,

@@ -1,4 +1,4 @@
-//! Answers, beside the texts that tell them.
+//! Compares the texts of answers with texts that were written by hand.
 use crate::{Pick, fault_text, sound_text, unsound_text};
 use audit_judge::Reason;
 use s3_types::Text;

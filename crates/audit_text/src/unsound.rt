@@ -6,7 +6,7 @@ use s3_types::Text;
 use serde_json::Value;
 use std::alloc::{AllocError, Global};
 
-/// A path as a JSON string.
+/// Returns a path as a JSON string.
 fn quoted(alloc: Global, path: &Text) -> Result<String, AllocError>
     ensures { IfOk result (λ text. string_bytes text ≡ path_text path.now) }
 {
@@ -39,8 +39,8 @@ fn write_reason(alloc: Global, text: &mut String, reason: &Reason) -> Result<(),
     }
 }
 
-/// The text that tells that readers were not safe: the number of the first line with which they were not, and the reason.
-/// Fails only if memory runs out.
+/// Returns the text that reports that readers were not safe: the number of the first line with
+/// which they were not, and the reason. Fails only if memory runs out.
 #[tactic(auto, unfolding(crate::specs::Answer::unsound_text))]
 pub fn unsound_text(alloc: Global, number: u64, reason: &Reason) -> Result<String, AllocError>
     ensures text { IfOk result (λ text. string_bytes text ≡ unsound_text number reason.now) }

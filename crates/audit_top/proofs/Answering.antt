@@ -1,4 +1,4 @@
--- The answers to what the lines of a trace come to.
+-- The answers to the results of a trace's lines.
 use Rattle.std.proofs.Common.{Err, IfOk, List, None, Ok, OnErr, Option, Result, Some, [], ap, inl, length, min, refl, subst, sym}
 use Rattle.std.proofs.Common.{ℕ, ◌+◌, ◌++◌, ◌-◌, ◌^◌, ◌∙◌, ◌∷◌, ◌≡◌}
 use Rattle.std.proofs.lemmas.List.{append_assoc}
@@ -21,12 +21,12 @@ use Rattle.soundness.specs.declared.marker.Marker.{Marker}
 use Rattle.trace_reader.specs.declared.fault.TraceFault.{TraceFault}
 use Rattle.trace_reader.specs.declared.fault.TraceFault.TheVariants.{OutOfOrder}
 
--- the input has some lines
+-- The input has some lines.
 pub some_lines : (left : Option (List ℕ)) → (lines : List (List ℕ)) × AreLines left lines
 some_lines None = ([], tt)
 some_lines (Some text) = (lines_of text, refl)
 
--- what a text that was made answers
+-- A text that was composed is the right answer.
 pub answered : {A E : Type 0} (bytes : A → List ℕ) (x : Result A E) (due given : Status) (text : List ℕ) (lines : List (List ℕ))
     → IfOk x (λ t. (given ≡ due) × (text ≡ bytes t)) → OnErr x ((given ≡ status.NoMemory) × (text ≡ memory_text))
     → IfOk x (λ t. IsAnswer due (bytes t) lines) → IsAnswer given text lines
@@ -34,7 +34,7 @@ answered bytes (Ok t) due given text lines ok err h =
     subst (λ d. IsAnswer d text lines) (sym ok.0) (subst (λ (l : List ℕ). IsAnswer due l lines) (sym ok.1) h)
 answered bytes (Err e) due given text lines ok err h = subst (λ d. IsAnswer d text lines) (sym err.0) err.1
 
--- what holds of a text holds of it if this follows
+-- A fact about a text leads to another.
 pub if_made : {A E : Type 0} (x : Result A E) (P Q : A → Type 0) → ((t : A) → P t → Q t) → IfOk x P → IfOk x Q
 if_made (Ok t) P Q f h = f t h
 if_made (Err e) P Q f h = tt
@@ -58,7 +58,7 @@ pub tells_fault : (lines : List (List ℕ)) (number : ℕ) (fault : TraceFault) 
     → text ≡ fault_text number fault → TellsFault lines text
 tells_fault lines number fault text f is = record { number = number; fault = fault; faulty = f; text_is = is }
 
--- a trace without a line
+-- A trace without a line.
 pub no_line : (lines : List (List ℕ)) → lines ≡ [] → IsFaulty lines 0 OutOfOrder
 no_line lines none = subst (λ (l : List (List ℕ)). IsFaulty l 0 OutOfOrder) (sym none) (record {
   before = [];

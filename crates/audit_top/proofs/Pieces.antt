@@ -1,11 +1,11 @@
--- What was written so far.
+-- The text that was written so far.
 use Rattle.audit_top.specs.Audited.{WritesSome}
 use Rattle.shelf.specs.Devices.{Appends}
 use Rattle.std.proofs.Common.{Err, List, None, Ok, OnErr, Option, Result, Some, ap, drop, length, refl, subst, sym, take, ℕ, [], ◌++◌, ◌∙◌}
 use Rattle.std.proofs.Common.{◌≡◌}
 use Rattle.std.proofs.lemmas.List.{append-nil, append_assoc, take-append-drop, take_at}
 
--- some first bytes of a text were written behind what was written before, and these are left
+-- Some first bytes of a text were added to the output, and these are left.
 abbrev pub IsWrittenSoFar : Option (List ℕ) → Option (List ℕ) → List ℕ → List ℕ → Type 0
 IsWrittenSoFar before now text rest = (front : List ℕ) × (text ≡ front ++ rest) × Appends before now front
 
@@ -40,7 +40,7 @@ pub some_written : (before now : Option (List ℕ)) (text rest : List ℕ) → I
 some_written before now text rest h =
     (length h.0, subst (Appends before now) (sym (ap (take (length h.0)) h.1 ∙ take_at h.0 rest (length h.0) refl)) h.2)
 
--- what holds after any outcome holds after an error
+-- A fact that holds after any outcome holds after an error.
 pub on_error : {X Y P : Type 0} (r : Result X Y) → P → OnErr r P
 on_error (Ok x) p = tt
 on_error (Err y) p = p

@@ -1,4 +1,4 @@
--- How far an audit comes by one more line.
+-- How far an audit comes with one more line.
 use Rattle.std.proofs.Common.{Bool, Err, List, None, Ok, Option, Some, [], ap, arith, false, inl, inr, length, nat_le, refl, rules, subst}
 use Rattle.std.proofs.Common.{sym, take}
 use Rattle.std.proofs.Common.{true, ℕ, ◌+◌, ◌++◌, ◌<◌, ◌≤◌, ◌∙◌, ◌∷◌, ◌≡◌, ◌⊎◌}
@@ -37,9 +37,9 @@ too_long None lines behind bytes none long =
 too_long (Some h) lines behind bytes t long =
     faulty h lines behind bytes TooLong t (ap (λ x. x >>= after (Some t.said)) (long_line (stage_of (Some t.said)) bytes long))
 
--- ---- where the input tells its bytes
+-- ---- an input that tells its bytes
 
--- the lines that were read, the next one, and those behind it
+-- The lines that were read, the next one, and those after it.
 all_lines : (text rest : List ℕ) (lines : List (List ℕ)) → lines_of text ≡ lines ++ lines_of rest → 0 < length rest
     → lines ++ first_line rest ∷ lines_of (behind_line rest) ≡ lines_of text
 all_lines text rest lines e some = ap (λ l. lines ++ l) (sym (first_of_lines rest some)) ∙ sym e
@@ -58,7 +58,7 @@ cut_long most text line c = omega (arith, c.long, ap length c.front, length-take
 too_short : (n most : ℕ) → most < n → n ≤ most → ⊥
 too_short n most less few = omega (arith, less, few)
 
--- a line of an input that tells its bytes
+-- A line of an input that tells its bytes.
 told_step : (text rest : List ℕ) (o n : Option Held) (after : Option (List ℕ)) (line : List ℕ) (s : Step) (lines : List (List ℕ))
     → IsSoFar o lines → lines_of text ≡ lines ++ lines_of rest → 0 < length rest → IsWhole rest line after ⊎ IsCut MOST_BYTES rest line
     → LineTaken o n line s → StepsTo (Some text) (length lines) n after s
@@ -104,7 +104,7 @@ told_step text rest o n after line (step.Faulty fault) lines told e some g taken
 told_step text rest o n after line step.Failed lines told e some g taken = absurd taken
 told_step text rest o n after line step.NoMemory lines told e some g taken = tt
 
--- a line of one that does not
+-- A line of an input that does not tell its bytes.
 untold_step : (o n : Option Held) (after : Option (List ℕ)) (line : List ℕ) (s : Step) (lines : List (List ℕ)) → IsSoFar o lines
     → after ≡ None → LineTaken o n line s → StepsTo None (length lines) n after s
 untold_step o n after line step.More lines told none taken = record {
@@ -130,7 +130,7 @@ untold_step o n after line (step.Faulty fault) lines told none taken = (taken.0,
 untold_step o n after line step.Failed lines told none taken = absurd taken
 untold_step o n after line step.NoMemory lines told none taken = tt
 
--- a line
+-- One more line.
 pub next_step : (left : Option (List ℕ)) (o n : Option Held) (rest after : Option (List ℕ)) (line : List ℕ) (s : Step) (count : ℕ)
     → IsAt left o rest count → Gives true MOST_BYTES rest line after → LineTaken o n line s → StepsTo left count n after s
 next_step left o n rest after line s count at gives taken =
@@ -141,7 +141,7 @@ next_step left o n rest after line s count at gives taken =
     by (Some text) None read g = absurd read
     by (Some text) (Some bytes) read g = told_step text bytes o n after line s at.lines at.told read g.0 g.1 taken
 
--- the end of the input
+-- The end of the input.
 pub over_step : (left : Option (List ℕ)) (known : Option Held) (rest after : Option (List ℕ)) (line : List ℕ) (count : ℕ)
     → IsAt left known rest count → Gives false MOST_BYTES rest line after → IsOver left known count
 over_step left known rest after line count at gives =
@@ -153,7 +153,7 @@ over_step left known rest after line count at gives =
     by (Some text) (Some bytes) read g =
         sym (read ∙ ap (λ (b : List ℕ). at.lines ++ lines_of b) g.0 ∙ ap (λ l. at.lines ++ l) no_lines ∙ append-nil at.lines)
 
--- at the beginning nothing was read
+-- At the beginning nothing was read.
 pub begun : (left : Option (List ℕ)) → IsAt left None left 0
 begun left = record { lines = []; told = refl; read = by left; count = refl }
   where

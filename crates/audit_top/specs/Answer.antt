@@ -1,4 +1,4 @@
--- What an audit answers.
+-- The answer of an audit.
 use Rattle.std.specs.Prelude.{ℕ, ◌+◌, ◌-◌, ◌^◌, List, [], ◌∷◌, codes, length, min, string_bytes, ◌++◌, ◌≡◌}
 use Rattle.audit_judge.specs.declared.reason.Reason.{Reason}
 use Rattle.audit_model.specs.Answers.{IsFaulty, IsLeast, IsSound, IsUnsound}
@@ -20,13 +20,13 @@ abbrev pub AreLeast : (lines : List (List ℕ)) → Recorded → (task : ℕ) �
 AreLeast lines r task [] = task ≡ r.tasks
 AreLeast lines r task (p ∷ ps) = (p.task ≡ task) × IsLeast lines r task p.attempt × AreLeast lines r (task + 1) ps
 
--- The attempts that can be the job's choice are told where a new success marker exists at the end.
+-- If a new success marker exists at the end, these are the attempts that can be the job's choice; else there are none.
 abbrev pub ArePicks : Marker → (lines : List (List ℕ)) → Recorded → List Pick → Type 0
 ArePicks marker.Absent lines r picks = picks ≡ []
 ArePicks marker.Old lines r picks = picks ≡ []
 ArePicks marker.New lines r picks = AreLeast lines r 0 picks
 
--- Readers were safe, and this is the text that tells it. Changes are counted up to 2^64 - 1.
+-- Readers were safe, and this text reports it. Changes are counted up to 2^64 - 1.
 pub record TellsSound (lines : List (List ℕ)) (text : List ℕ) : Type 0 where
   pub said : Recorded
   pub sound : IsSound lines said
@@ -34,14 +34,14 @@ pub record TellsSound (lines : List (List ℕ)) (text : List ℕ) : Type 0 where
   pub are : ArePicks (marker_of said) lines said picks
   pub text_is : text ≡ sound_text (length lines) (min said.changes (2 ^ 64 - 1)) (marker_of said) picks
 
--- They were not, and this is the text that tells it.
+-- Readers were not safe, and this text reports it.
 pub record TellsUnsound (lines : List (List ℕ)) (text : List ℕ) : Type 0 where
   pub number : ℕ
   pub reason : Reason
   pub unsound : IsUnsound lines number reason
   pub text_is : text ≡ unsound_text number reason
 
--- The trace has a fault, and this is the text that tells it.
+-- The trace has a fault, and this text reports it.
 pub record TellsFault (lines : List (List ℕ)) (text : List ℕ) : Type 0 where
   pub number : ℕ
   pub fault : TraceFault
@@ -57,7 +57,7 @@ IsAnswer status.ReadFault text lines = text ≡ read_text
 IsAnswer status.NoMemory text lines = text ≡ memory_text
 IsAnswer _ text lines = ⊥
 
--- What is said of words, of which there may be none.
+-- The answer to a command line with words.
 abbrev pub usage_text : List ℕ
 usage_text = codes "usage: audit" ++ 10 ∷ []
 

@@ -1,4 +1,4 @@
--- What was written of an audit.
+-- The text that an audit wrote.
 use Rattle.std.specs.Prelude.{ℕ, List, Option, take, ◌≡◌, ◌≢◌}
 use Rattle.audit_top.specs.Answer.{IsAnswer, text_of}
 use Rattle.audit_top.specs.Progress.{OfLines}
@@ -11,7 +11,7 @@ use Rattle.shelf.specs.Devices.{Appends}
 abbrev pub Answers : Option (List ℕ) → Status → Words → Type 0
 Answers left due text = OfLines left (IsAnswer due (text_of text))
 
--- Some first bytes of the text were written behind what was written before.
+-- The output has grown by some first bytes of the text.
 abbrev pub WritesSome : Option (List ℕ) → Option (List ℕ) → List ℕ → Type 0
 WritesSome before after text = (n : ℕ) × Appends before after (take n text)
 

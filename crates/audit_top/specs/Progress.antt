@@ -12,36 +12,36 @@ use Rattle.trace_reader.specs.Faults.{wanting}
 use Rattle.trace_reader.specs.Reading.{MOST_BYTES}
 use Rattle.trace_reader.specs.declared.fault.TraceFault.TheVariants.{TooLong}
 
--- These are the lines of an input that tells its bytes; of another they may be any.
+-- These are the lines of the input, if it tells its bytes; else they may be any lines.
 abbrev pub AreLines : Option (List ℕ) → List (List ℕ) → Type 0
 AreLines None lines = Unit {0}
 AreLines (Some text) lines = lines ≡ lines_of text
 
--- Of these lines the first ones were read, and the others are those of the bytes that are unread.
+-- The first lines of the input are these, which were read; the others are those of the unread bytes.
 abbrev pub AreRead : Option (List ℕ) → List (List ℕ) → Option (List ℕ) → Type 0
 AreRead None lines rest = rest ≡ None
 AreRead (Some text) lines None = ⊥
 AreRead (Some text) lines (Some rest) = lines_of text ≡ lines ++ lines_of rest
 
--- So many lines of the input were read, and the audit knows what they say.
+-- The audit has read `n` lines of the input, and knows what they say.
 pub record IsAt (left : Option (List ℕ)) (known : Option Held) (rest : Option (List ℕ)) (n : ℕ) : Type 0 where
   pub lines : List (List ℕ)
   pub told : IsSoFar known lines
   pub read : AreRead left lines rest
   pub count : n ≡ length lines
 
--- All lines were read, and the audit knows what they say.
+-- The audit has read all lines, and knows what they say.
 pub record IsOver (left : Option (List ℕ)) (known : Option Held) (n : ℕ) : Type 0 where
   pub lines : List (List ℕ)
   pub are : AreLines left lines
   pub told : IsSoFar known lines
   pub count : n ≡ length lines
 
--- This is so of the lines of the input.
+-- The property holds for the lines of the input.
 abbrev pub OfLines : Option (List ℕ) → (List (List ℕ) → Type 0) → Type 0
 OfLines left P = (lines : List (List ℕ)) × AreLines left lines × P lines
 
--- What a line comes to, of which there may be more where it is too long.
+-- The right result for a line. The line may be only the start of one that is too long.
 abbrev pub LineTaken : (before after : Option Held) → (bytes : List ℕ) → Step → Type 0
 LineTaken before after bytes step.More =
     (length bytes ≤ MOST_BYTES) × ((lines : List (List ℕ)) → IsSoFar before lines → IsSoFar after (lines ++ bytes ∷ []))
@@ -55,7 +55,7 @@ LineTaken before after bytes (step.Faulty fault) = (wanting fault ≡ false)
 LineTaken before after bytes step.Failed = ⊥
 LineTaken before after bytes step.NoMemory = Unit {0}
 
--- What one more line comes to, behind so many.
+-- The right result for one more line, after `n` lines.
 abbrev pub StepsTo : Option (List ℕ) → ℕ → Option Held → Option (List ℕ) → Step → Type 0
 StepsTo left n known rest step.More = IsAt left known rest (n + 1)
 StepsTo left n known rest step.Over = IsOver left known n
@@ -64,7 +64,7 @@ StepsTo left n known rest (step.Faulty fault) = (wanting fault ≡ false) × OfL
 StepsTo left n known rest step.Failed = Unit {0}
 StepsTo left n known rest step.NoMemory = Unit {0}
 
--- What the lines of the input come to.
+-- The right result for the lines of the input.
 abbrev pub Judged : Option (List ℕ) → Option Held → Verdict → Type 0
 Judged left known (verdict.Over n) = IsOver left known n
 Judged left known (verdict.Unsound n reason) = OfLines left (λ lines. IsUnsound lines n reason)
@@ -72,6 +72,6 @@ Judged left known (verdict.Faulty n fault) = (wanting fault ≡ false) × OfLine
 Judged left known verdict.Failed = Unit {0}
 Judged left known verdict.NoMemory = Unit {0}
 
--- The lines of some input come to it.
+-- This is the right result for the lines of some input.
 abbrev pub JudgedSome : Option Held → Verdict → Type 0
 JudgedSome known v = (left : Option (List ℕ)) × Judged left known v

@@ -19,7 +19,7 @@ pub struct Answer {
     pub text: Words,
 }
 
-/// A text that was made, or one that is always the same.
+/// A text that was composed, or a fixed one.
 #[derive(Drop)]
 pub enum Words {
     Made(String),
@@ -27,7 +27,7 @@ pub enum Words {
 }
 
 impl Words {
-    /// The bytes of the text.
+    /// Returns the bytes of the text.
     pub fn as_bytes(&self) -> &[u8]
         ensures text { result.now ≡ text_of self.now }
     {
@@ -38,7 +38,7 @@ impl Words {
     }
 }
 
-/// The attempt of each task that can be its choice.
+/// Returns, for each task, the least attempt that can be its choice.
 fn picks_of(alloc: Global, audit: &Audit) -> Result<Vec<Pick>, AllocError>
     requires told { IsToldSome audit.now }
     requires new { audit.now.bench.marker ≡ Marker.New }
@@ -54,7 +54,7 @@ fn picks_of(alloc: Global, audit: &Audit) -> Result<Vec<Pick>, AllocError>
     Ok(picks)
 }
 
-/// The attempts that are told at the end.
+/// Returns the attempts that the answer lists at the end: none unless a new marker exists.
 fn told_picks(alloc: Global, audit: &Audit) -> Result<Vec<Pick>, AllocError>
     requires told { IsToldSome audit.now }
     ensures picks { IfOk result (λ picks. (lines : List (List ℕ)) (t : IsTold audit.now lines)
@@ -66,7 +66,7 @@ fn told_picks(alloc: Global, audit: &Audit) -> Result<Vec<Pick>, AllocError>
     }
 }
 
-/// The text that tells that readers were safe.
+/// Returns the text that reports that readers were safe.
 fn sound(alloc: Global, audit: &Audit, lines: u64) -> Result<String, AllocError>
     requires told { IsToldSome audit.now }
     ensures text { IfOk result (λ text. (all : List (List ℕ)) → IsTold audit.now all → lines ≡ length all
@@ -82,7 +82,7 @@ fn sound(alloc: Global, audit: &Audit, lines: u64) -> Result<String, AllocError>
     )
 }
 
-/// An answer with a text that was made, unless memory ran out.
+/// Returns an answer with a composed text, or the answer that memory ran out.
 fn made(due: Status, text: Result<String, AllocError>) -> Answer
     ensures ok { IfOk text (λ t. (result.due ≡ due) × (text_of result.text ≡ string_bytes t)) }
     ensures due { OnOk text (result.due ≡ due) }
@@ -97,7 +97,7 @@ fn made(due: Status, text: Result<String, AllocError>) -> Answer
     }
 }
 
-/// The answer where memory ran out.
+/// Returns the answer that memory ran out.
 fn no_memory() -> Answer
     ensures due { result.due ≡ Status.NoMemory }
     ensures text { text_of result.text ≡ memory_text }
@@ -108,7 +108,7 @@ fn no_memory() -> Answer
     }
 }
 
-/// The answer to a trace that is over, with so many lines.
+/// Returns the answer to a trace of `lines` lines that has ended.
 fn over(alloc: Global, auditor: &Auditor, lines: u64) -> Answer
     requires told { IsOfSome auditor.now }
     ensures right { (left : Option (List ℕ)) → IsOver left auditor.now lines → OfLines left (IsAnswer result.due (text_of result.text)) }
@@ -123,7 +123,7 @@ fn over(alloc: Global, auditor: &Auditor, lines: u64) -> Answer
     }
 }
 
-/// The answer that tells a verdict.
+/// Returns the answer that reports a verdict.
 pub fn answer_of(alloc: Global, auditor: &Auditor, verdict: &Verdict) -> Answer
     requires judged { JudgedSome auditor.now verdict.now }
     ensures right { (left : Option (List ℕ)) → Judged left auditor.now verdict.now
@@ -149,7 +149,7 @@ pub fn answer_of(alloc: Global, auditor: &Auditor, verdict: &Verdict) -> Answer
     }
 }
 
-/// The answer to words, of which there may be none.
+/// Returns the answer to a command line with words, which may have none.
 pub fn usage() -> Answer
     ensures due { result.due ≡ Status.Usage }
     ensures text { text_of result.text ≡ usage_text }

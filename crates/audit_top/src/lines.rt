@@ -10,7 +10,7 @@ use shelf::Source;
 use std::alloc::Global;
 use trace_reader::{MOST_BYTES, TraceFault};
 
-/// What the line that was read comes to.
+/// Gives the auditor a line that was read, and returns the result.
 fn judge_line(auditor: &mut Auditor, line: &[u8]) -> Step
     requires told { IsOfSome auditor.old }
     ensures taken { LineTaken auditor.old auditor.new line.now result }

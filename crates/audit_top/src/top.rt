@@ -11,8 +11,8 @@ use s3_types::Text;
 use shelf::{Sink, Source};
 use std::alloc::Global;
 
-/// What an audit came to: the status that is due by its answer, and the one that the program ends with, which is another only where the
-/// output failed.
+/// The end of an audit: the status of its answer, and the status with which the program ends. They
+/// differ only if the output failed.
 #[derive(Clone, Copy, PartialEq, Eq)]
 pub struct Report {
     pub due: Status,
@@ -31,9 +31,10 @@ fn judged<Q: Source>(alloc: Global, input: &mut Q) -> Answer
     answer_of(alloc, &auditor, &verdict)
 }
 
-/// Reads a trace, line by line, and writes whether readers were safe, as [the definitions](specs/Answer.antt) have it. There must be no
-/// words. A line is read, judged and let go of: what is kept is the claim, the live keys with their tags, and for each task the attempts
-/// that still fit.
+/// Reads a trace, line by line, and writes whether readers were safe, as [the
+/// definitions](specs/Answer.antt) say. There must be no words. Each line is read, judged and
+/// dropped. The audit keeps the claim, the live keys with their tags, and for each task the
+/// attempts that still fit.
 pub fn audit<Q: Source, K: Sink>(
     alloc: Global,
     words: &[Text],
@@ -46,13 +47,14 @@ pub fn audit<Q: Source, K: Sink>(
     // Without words, the text that was written is the answer to the lines of the input.
     ensures answer { words.now ≡ []
         → Audited (Q.left input.old) result.due (Writes result.status (K.written out.old) (K.written out.new)) }
-    // Words are answered by the usage, and nothing is read.
+    // To words, the text is the usage, and nothing is read.
     ensures usage { words.now ≢ [] → result.due ≡ Status.Usage × input.new ≡ input.old
         × Writes result.status (K.written out.old) (K.written out.new) usage_text }
-    // The status of a read fault is due exactly if the input failed.
+    // The status of the answer is that of a read fault exactly if the input failed.
     ensures failed { result.due ≡ Status.ReadFault → Q.faults input.old < Q.faults input.new }
     ensures calm { result.due ≢ Status.ReadFault → Q.faults input.new ≡ Q.faults input.old }
-    // The status is that of a write fault exactly if the output failed, and else the one that is due.
+    // The status is that of a write fault exactly if the output failed, and else the status of the
+    // answer.
     ensures unwritten { result.status ≡ Status.WriteFault → K.faults out.old < K.faults out.new }
     ensures otherwise { result.status ≢ Status.WriteFault → result.status ≡ result.due }
     ensures out { result.status ≢ Status.WriteFault → K.is_out out.new }

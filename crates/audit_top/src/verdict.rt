@@ -1,14 +1,14 @@
 use audit_judge::Reason;
 use trace_reader::TraceFault;
 
-/// What the lines of a trace come to.
+/// The result of the lines of a trace.
 #[derive(Drop)]
 pub enum Verdict {
-    /// The trace is over, with so many lines, and readers were safe.
+    /// The trace has ended with this number of lines, and readers were safe.
     Over(u64),
-    /// The line of this number, from 1, is the first with which readers were not safe.
+    /// The line with this number, from 1, is the first with which readers were not safe.
     Unsound(u64, Reason),
-    /// The line of this number is the first with a fault.
+    /// The line with this number is the first with a fault.
     Faulty(u64, TraceFault),
     /// The input failed.
     Failed,
@@ -16,16 +16,16 @@ pub enum Verdict {
     NoMemory,
 }
 
-/// What one more line comes to.
+/// The result of one more line.
 #[derive(Drop)]
 pub enum Step {
     /// The line has no fault, and readers are still safe.
     More,
-    /// There is none.
+    /// There is no more line.
     Over,
     /// Readers are not safe any more.
     Unsound(Reason),
-    /// It has a fault.
+    /// The line has a fault.
     Faulty(TraceFault),
     /// The input failed.
     Failed,

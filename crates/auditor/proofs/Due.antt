@@ -1,4 +1,4 @@
--- What the stage of a trace makes sure of a line.
+-- What the stage of a trace guarantees of a line.
 use Rattle.basics.specs.Reading.{check, need, ◌>>=◌}
 use Rattle.pending_json.specs.Fields.{as_texts, as_u32, kept}
 use Rattle.serde_json.specs.Data.{Data}
@@ -26,7 +26,7 @@ abbrev Below : ℕ → Option ℕ → Type 0
 Below t None = ⊥
 Below t (Some n) = t < n
 
--- What is sure of a line that may come at this stage.
+-- The guarantees for a line that may come at this stage.
 abbrev pub Sure : Stage → TraceLine → Type 0
 Sure s (line.Job dest keeps tasks) = Unit {0}
 Sure s (line.Attempt task attempt) = (s.running ≡ false) × Below task s.tasks
@@ -38,7 +38,7 @@ Sure s (line.Copy bucket source key) = Unit {0}
 Sure s (line.Delete bucket keys) = Unit {0}
 Sure s line.Still = Unit {0}
 
--- It is sure of what was read, if that has no fault.
+-- The guarantee for what was read, if that has no fault.
 abbrev OfRead : {A : Type 0} → (A → Type 0) → Result A TraceFault → Type 0
 OfRead P (Ok x) = P x
 OfRead P (Err fault) = Unit {0}
@@ -52,7 +52,7 @@ some_same e = cc
 lt_of : {m n : ℕ} → nat_lt m n ≡ true → m < n
 lt_of e = grind (arith, rules)
 
--- where each value that the first step gives leads to what is sure, both steps do
+-- If each value of the first step leads to the guarantee, both steps do.
 step : {A B : Type 0} (P : B → Type 0) (x : Result A TraceFault) (k : A → Result B TraceFault)
     → ((a : A) → x ≡ Ok a → OfRead P (k a)) → OfRead P (x >>= k)
 step P (Ok a) k h = h a refl
@@ -62,7 +62,7 @@ not_running : (b : Bool) → not b ≡ true → b ≡ false
 not_running true e = sym e
 not_running false e = refl
 
--- a request that took no effect is a line that changes nothing
+-- A request that took no effect is a line that changes nothing.
 effect : (s : Stage) (b : Bool) (l : TraceLine) → Sure s l → Sure s (if_effect b l)
 effect s true l h = h
 effect s false l h = tt
@@ -140,7 +140,7 @@ turn s d o e = subst (OfRead (λ o. may_come s o ≡ true)) e
     (λ name _. step (λ o. may_come s o ≡ true) (need (operation_of name) UnknownOp) _
     (λ o _. turned s o (may_come s o) OutOfOrder refl))))
 
--- what a line says is sure
+-- A line that was read has its guarantees.
 pub sure : (s : Stage) (bytes : List ℕ) (l : TraceLine) → line_of s bytes ≡ Ok l → Sure s l
 unfolding line_of
 sure s bytes l e = subst (OfRead (Sure s)) e

@@ -1,4 +1,4 @@
--- What is known after a line that comes before the run begins.
+-- The knowledge after a line that comes before the run begins.
 use Rattle.std.proofs.Common.{Bool, Err, List, None, Ok, Option, Result, Some, [], ap, cond, false, length, not, refl, subst, sym, true}
 use Rattle.std.proofs.Common.{ℕ, ◌++◌, ◌∙◌, ◌∷◌, ◌≡◌, ◌<◌, is_none, is_some, nat_eq}
 use Rattle.std.proofs.lemmas.Bool.{false≢true}
@@ -35,7 +35,7 @@ use Rattle.soundness.specs.declared.marker.Marker.TheVariants as markers
 use Rattle.trace_reader.specs.declared.fault.TraceFault.{TraceFault}
 use Rattle.trace_reader.specs.declared.fault.TraceFault.TheVariants.{Repeated, SamePath}
 
--- ---- the judge waits still
+-- ---- the judge still waits
 
 waiting : (b : Bench) (moments : List (Moment Tags)) (s : Bool) → s ≡ false → Waits b → moments ≡ []
     → Stands s b (moments ++ cond s (now b ∷ []) [])
@@ -50,7 +50,7 @@ waits_of : (b : Bench) (moments : List (Moment Tags)) (s : Bool) → s ≡ false
 waits_of b moments true e h = absurd (false≢true (sym e))
 waits_of b moments false e h = h.0
 
--- one more line before the run begins
+-- One more line before the run begins.
 pub waits_on : (o n : Held) (q r : Recorded) (moments : List (Moment Tags)) → At o q moments → o.bench.started ≡ false
     → n.bench.started ≡ false → Waits n.bench → Tells n r → r.marked ≡ q.marked → At n r (moments_after n.bench moments)
 waits_on o n q r moments at early still w t m = record {
@@ -59,7 +59,7 @@ waits_on o n q r moments at early still w t m = record {
   unmarked = λ e. m ∙ at.unmarked early;
 }
 
--- what waits can take a line before the run begins
+-- A judge that waits can take a line before the run begins.
 pub at_waits : (h : Held) (q : Recorded) (moments : List (Moment Tags)) → At h q moments → h.bench.started ≡ false → Waits h.bench
 at_waits h q moments at early = waits_of h.bench moments h.bench.started early at.stands
 
@@ -91,7 +91,7 @@ begun h dest keeps tasks d b w o c = record {
 
 -- ---- an opening object
 
--- the judge knows no file at the path of an object that is not there
+-- The judge knows no file at the path of an object that does not exist.
 pub unopened : (h : Held) (q : Recorded) (moments : List (Moment Tags)) (bucket key : List ℕ) (p : List ℕ) → At h q moments
     → h.bench.started ≡ false → at h.objects bucket key ≡ None → Contains (seen_paths h.dest bucket (key ∷ [])) p
     → fin.get h.bench.opening p ≡ None
@@ -104,7 +104,7 @@ unopened h q moments bucket key p a early free c =
     ∙ subst (λ (d : Path). shown_of d q.objects p ≡ None) a.tells.dest
     (ap (λ v. cond v (q.objects h.dest.bucket (below h.dest.key p)) None) s.0 ∙ there)
 
--- the success marker among them is an old one
+-- A success marker among the opening objects is an old one.
 old_marker : (d dest : Path) (bucket key : List ℕ) (tags : Tags) (objects : Objects) (marked : Bool) (was : Marker) → d ≡ dest
     → marked ≡ false → was ≡ marker_if (is_some (objects dest.bucket (marker_key dest))) marked
     → cond (is_marker d bucket key) markers.Old was

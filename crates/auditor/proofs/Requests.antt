@@ -1,4 +1,4 @@
--- What is known after a request.
+-- The knowledge after a request.
 use Rattle.std.proofs.Common.{Bool, List, None, Ok, Option, Some, [], ap, cond, false, is_some, min, refl, subst, sym, true, ℕ, ◌+◌, ◌-◌}
 use Rattle.std.proofs.Common.{◌^◌, ◌∙◌, ◌∷◌, ◌≡◌, ◌||◌}
 use Rattle.std.specs.FinMap as fin
@@ -29,22 +29,22 @@ use Rattle.soundness.specs.Moments.{Moment}
 use Rattle.soundness.specs.declared.marker.Marker.{Marker}
 use Rattle.soundness.specs.declared.marker.Marker.TheVariants as markers
 
--- the judge follows some moments when the run has begun
+-- The judge follows some moments once the run has begun.
 pub follows_some : (o s : Held) → AtSome o → Begun o s → FollowsSome s.bench
 follows_some o s some begun = (some.1, begun.follows some.0 some.1 some.2)
 
--- the paths of changes that are given
+-- The paths of these changes.
 pub given_paths : (ps : List (List ℕ)) (e : Option Tags) → paths_of (given ps e) ≡ ps
 given_paths [] e = refl
 given_paths (p ∷ ps) e = ap (λ l. p ∷ l) (given_paths ps e)
 
--- changes of one path at most rise
+-- The paths of changes of at most one path rise.
 pub one_rises : (path : Option (List ℕ)) (e : Option Tags) → IsStrictlySortedBy text_cmp (paths_of (given (in_list path) e))
 unfolding IsStrictlySortedBy
 one_rises None e = tt
 one_rises (Some p) e = (tt, tt)
 
--- what is known when the judge has been told
+-- The knowledge after the judge received the changes.
 made : (o s m n : Held) (items : List Change) (marker : Marker) (r : Option Reason) → Begun o s → m ≡ record s { objects = m.objects }
     → Answered m n items marker r → Made o n items s.bench marker
 made o s m n items marker r begun e told = record {
@@ -56,7 +56,7 @@ made o s m n items marker r begun e told = record {
       (e ∙ ap (λ (h : Held). record h { objects = m.objects }) begun.same);
 }
 
--- a request that gives some paths the same tags, or takes their files away
+-- A request that gives some paths the same tags, or removes their files.
 pub requested : (o s m n : Held) (ps : List (List ℕ)) (e : Option Tags) (items : List Change) (marker : Marker) (r : Option Reason)
     (objects : Recorded → Objects) (marked : Recorded → Bool) (paths : Path → List (List ℕ))
     → Begun o s → m ≡ record s { objects = m.objects } → items ≡ given ps e

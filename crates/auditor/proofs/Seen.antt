@@ -21,19 +21,19 @@ begins_not front text h = by (starts_with nat_eq text front) refl
     by true e = absurd (h (drop (length front) text) ((starts_is Decides-eqb text front (starts_with nat_eq text front) refl).0 e))
     by false e = refl
 
--- what is left of a text without its front
+-- The rest of a text after its prefix is removed.
 pub behind_front : (p s : List ℕ) (r : Option (Bor (List ℕ)))
     → MatchOption r (FindsTextPrefix p s None) (λ x. (n : ℕ) × FindsTextPrefix p s (Some n) × (x.now ≡ drop n s)
     × (length x.now + n ≡ length s)) → option_map (λ r. r.now) r ≡ behind p s
 behind_front p s None h = rw (begins_not p s h) refl
 behind_front p s (Some x) h = rw (begins_so p s (drop h.0 s) h.1.1) (ap Some (h.2 ∙ ap (λ n. drop n s) h.1.0))
 
--- in another bucket there is none
+-- In another bucket there is no such path.
 pub elsewhere : (dest : Path) (bucket : List ℕ) (keys : List (List ℕ)) → bytes_eq bucket dest.bucket ≡ false
     → [] ≡ seen_paths dest bucket keys
 elsewhere dest bucket keys e = rw e refl
 
--- in the destination's bucket it is what follows the front, where readers see that
+-- In the destination's bucket the path is what follows the prefix, if readers see a file there.
 pub here : (dest : Path) (bucket key front : List ℕ) → bytes_eq bucket dest.bucket ≡ true → front ≡ below dest.key []
     → seen_paths dest bucket (key ∷ []) ≡ visible_in (behind front key) ++ []
 here dest bucket key front e f = rw e (ap (λ (v : List ℕ). visible_in (behind v key) ++ []) (sym f))

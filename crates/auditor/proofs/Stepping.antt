@@ -1,4 +1,4 @@
--- What one more line makes of what an audit knows.
+-- The result of one more line for the knowledge of an audit.
 use Rattle.std.proofs.Common.{Bool, Err, List, None, Ok, Option, Result, Some, [], ap, cond, false, subst, sym, true, ℕ, ◌++◌, ◌∙◌, ◌∷◌}
 use Rattle.std.proofs.Common.{◌≡◌}
 use Rattle.std.proofs.lemmas.Bool.{false≢true}
@@ -18,12 +18,12 @@ use Rattle.soundness.specs.Moments.{Moment}
 use Rattle.soundness.specs.declared.marker.Marker.{Marker}
 use Rattle.trace_reader.specs.declared.fault.TraceFault.{TraceFault}
 
--- what is known is what the lines say, if the last one has no fault
+-- The knowledge is what the lines say, if the last one has no fault.
 abbrev pub Told : Held → Result Recorded TraceFault → Type 0
 Told h (Ok r) = Tells h r
 Told h (Err fault) = ⊥
 
--- the judge follows one moment more
+-- The judge follows one more moment.
 follows_on : (b : Bench) (moments : List (Moment Tags)) → b.started ≡ true → Follows b (moments ++ now b ∷ [])
     → Stands b.started b (moments_after b moments)
 follows_on b moments e f =
@@ -32,7 +32,7 @@ follows_on b moments e f =
     cond_of : Bool → List (Moment Tags)
     cond_of s = cond s (now b ∷ []) []
 
--- a request changed what readers see, and the judge answers
+-- A request changed what readers see, and the judge answered.
 pub changing : (o n : Held) (s : Bench) (items : List Change) (marker : Marker) (adds : Recorded → Result Recorded TraceFault)
     (paths : Path → List (List ℕ)) (r : Option Reason)
     → s ≡ record o.bench { started = true; candidates = s.candidates }

@@ -1,4 +1,4 @@
--- What is known after one more line of bytes.
+-- The knowledge after one more line of bytes.
 use Rattle.std.proofs.Common.{Bool, Err, IfNone, IfSome, List, None, Ok, Option, Result, Some, [], ap, cond, false, inl, inr, length}
 use Rattle.std.proofs.Common.{nat_lt, refl, subst, sym}
 use Rattle.std.proofs.Common.{true, ℕ, ◌+◌, ◌++◌, ◌<◌, ◌≤◌, ◌∙◌, ◌∷◌, ◌≡◌, arith}
@@ -45,7 +45,7 @@ claim_is h r t = λ i. claim_of (t.keeps i) (t.tasks i) (t.claimed i).listed
 now_is : (h : Held) (r : Recorded) → Tells h r → Alike (now h.bench) (moment r)
 now_is h r t = record { begun = t.begun; marker = t.marker; shown = t.shown }
 
--- moments that are alike, and one more of each
+-- Moments that are alike, and one more of each.
 alike_more : (ms ns : List (Moment Tags)) (xs ys : List (Moment Tags)) → AllAlike ms ns → AllAlike xs ys → AllAlike (ms ++ xs) (ns ++ ys)
 alike_more [] [] xs ys a b = b
 alike_more [] (n ∷ ns) xs ys a b = absurd a
@@ -77,7 +77,7 @@ sound_so_far h lines t = record { said = t.said_is; safe = safe_so_far h lines t
 
 -- ---- one more line
 
--- a line without a fault goes by
+-- The audit knows what a line without a fault says too.
 pub told_more : (o n : Held) (lines : List (List ℕ)) (bytes : List ℕ) (l : TraceLine) (t : IsTold o lines)
     → line_of (stage_of (Some t.said)) bytes ≡ Ok l → GoesBy n t.judged (after (Some t.said) l) → IsTold n (lines ++ bytes ∷ [])
 told_more o n lines bytes l t read goes = by (after (Some t.said) l) (ap (λ x. x >>= after (Some t.said)) read) goes
@@ -96,7 +96,7 @@ told_more o n lines bytes l t read goes = by (after (Some t.said) l) (ap (λ x. 
           at = g;
         }
 
--- a line shows that readers are not safe
+-- A line shows that readers are not safe.
 pub broken : (o n : Held) (lines behind : List (List ℕ)) (bytes : List ℕ) (l : TraceLine) (reason : Reason) (t : IsTold o lines)
     → line_of (stage_of (Some t.said)) bytes ≡ Ok l
     → BreaksBy o n t.judged (after (Some t.said) l) (changed_paths t.said.dest l) reason
@@ -124,7 +124,7 @@ broken o n lines behind bytes l reason t read breaks = by (after (Some t.said) l
           b.first);
     }
 
--- a line has a fault
+-- A line has a fault.
 pub faulty : (o : Held) (lines behind : List (List ℕ)) (bytes : List ℕ) (fault : TraceFault) (t : IsTold o lines)
     → read_after (Some t.said) bytes ≡ Err fault → IsFaulty (lines ++ bytes ∷ behind) (length lines + 1) fault
 faulty o lines behind bytes fault t e = record {
@@ -135,7 +135,7 @@ faulty o lines behind bytes fault t e = record {
   faulty = inr (bytes, behind, refl, refl, e);
 }
 
--- the first line has one
+-- The first line has a fault.
 pub faulty_first : (lines behind : List (List ℕ)) (bytes : List ℕ) (fault : TraceFault) → lines ≡ []
     → read_after None bytes ≡ Err fault → IsFaulty (lines ++ bytes ∷ behind) (length lines + 1) fault
 faulty_first lines behind bytes fault none e =
@@ -147,7 +147,7 @@ faulty_first lines behind bytes fault none e =
       faulty = inr (bytes, behind, refl, refl, e);
     })
 
--- the first line is a job's
+-- The first line is a job's.
 pub told_first : (h : Held) (lines : List (List ℕ)) (bytes : List ℕ) (l : TraceLine) → lines ≡ []
     → line_of (stage_of None) bytes ≡ Ok l → BegunBy h (after None l) → IsTold h (lines ++ bytes ∷ [])
 told_first h lines bytes l none read begun =
@@ -166,7 +166,7 @@ told_first h lines bytes l none read begun =
           at = b.0;
         }
 
--- ---- what the stage makes sure of
+-- ---- the guarantees of the stage
 
 pub due_by : (h : Held) (r : Recorded) (l : TraceLine) → Tells h r → Sure (stage_of (Some r)) l → IsDue h l
 due_by h r (line.Job dest keeps tasks) t s = tt
@@ -197,7 +197,7 @@ still h r moments a = record { tells = a.tells; stands = by h.bench.started a.st
 
 -- ---- a line of bytes
 
--- What is due at a stage that follows the lines so far.
+-- The stage is the one that the lines so far lead to.
 abbrev pub StageOf : Option Held → Stage → Type 0
 StageOf known stage =
     (lines : List (List ℕ)) (said : Option Recorded) → IsSoFar known lines → said_by lines None ≡ Ok said → stage ≡ stage_of said
@@ -209,7 +209,7 @@ next_stage : (h : Held) (stage : Stage) (lines : List (List ℕ)) (t : IsTold h 
     → stage ≡ stage_of (Some t.said)
 next_stage h stage lines t s = s lines (Some t.said) t t.said_is
 
--- the line itself has a fault
+-- The line itself has a fault.
 pub unread : (known after : Option Held) (bytes : List ℕ) (stage : Stage) (fault : TraceFault) → StageOf known stage
     → Unless (wanting fault) (line_of stage bytes ≡ Err fault) → Taken known after bytes (Err fault)
 unread None n bytes stage fault s fails = λ free lines behind none.
@@ -221,7 +221,7 @@ unread (Some h) n bytes stage fault s fails = λ free lines behind t.
     (ap (λ x. x >>= after (Some t.said)) (ap (λ (g : Stage). line_of g bytes) (sym (next_stage h stage lines t s))
     ∙ subst (λ b. Unless b (line_of stage bytes ≡ Err fault)) free fails))
 
--- the line is taken
+-- The line is taken.
 pub stepped : (o n : Held) (bytes : List ℕ) (l : TraceLine) (stage : Stage) (result : Result (Option Reason) TraceFault)
     → StageOf (Some o) stage → line_of stage bytes ≡ Ok l
     → Stepped o n (λ r. after (Some r) l) (λ dest. changed_paths dest l) result → Taken (Some o) (Some n) bytes result
@@ -236,7 +236,7 @@ stepped o n bytes l stage (Err fault) s read step = λ free lines behind t.
     (ap (λ x. x >>= after (Some t.said)) (ap (λ (g : Stage). line_of g bytes) (sym (next_stage o stage lines t s)) ∙ read)
     ∙ step free t.said t.judged t.at)
 
--- the first line is taken
+-- The first line is taken.
 pub begun_taken : (h : Held) (bytes : List ℕ) (l : TraceLine) (stage : Stage) → StageOf None stage → line_of stage bytes ≡ Ok l
     → BegunBy h (after None l) → Taken None (Some h) bytes (Ok None)
 begun_taken h bytes l stage s read begun = λ lines none.
@@ -248,7 +248,7 @@ unbegun n bytes l stage fault s read fails = λ free lines behind none.
     faulty_first lines behind bytes fault none
     (ap (λ x. x >>= after None) (ap (λ (g : Stage). line_of g bytes) (sym (first_stage stage lines s none)) ∙ read) ∙ fails free)
 
--- what is known of some lines lets the line be taken
+-- An audit that knows some lines can take the line.
 pub some_due : (h : Held) (bytes : List ℕ) (l : TraceLine) (stage : Stage) → IsOfSome (Some h) → StageOf (Some h) stage
     → line_of stage bytes ≡ Ok l → IsDue h l
 some_due h bytes l stage some s read =
@@ -256,7 +256,7 @@ some_due h bytes l stage some s read =
 
 -- ---- a new success marker
 
--- only a run that has begun has one
+-- Only a run that has begun has a new marker.
 pub follows_new : (h : Held) (lines : List (List ℕ)) (t : IsTold h lines) → h.bench.marker ≡ markers.New → Follows h.bench t.judged
 follows_new h lines t new = by h.bench.started t.at.stands
   where
@@ -264,7 +264,7 @@ follows_new h lines t new = by h.bench.started t.at.stands
     by true f = f
     by false w = absurd (w.0.unmarked new)
 
--- the attempt of a task that has the least number of those that explain all moments
+-- The attempt of a task with the least number of those that explain all moments.
 PickAt : Claim Tags → Listed Tags → Shown Tags → List (Moment Tags) → ℕ → ℕ → Type 0
 PickAt w listed o ms task a =
     Any (λ x. (x.0 ≡ a) × StillExplains w o ms (of_task task listed) x.1) (numbered task listed)

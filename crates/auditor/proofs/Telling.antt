@@ -1,4 +1,4 @@
--- What is known after a request that changed objects is what the lines say.
+-- The knowledge after a request that changed objects is what the lines say.
 use Rattle.std.proofs.Common.{Bool, List, None, Option, Some, [], ap, arith, cond, false, is_some, length, map, min, not, refl, subst, sym}
 use Rattle.std.proofs.Common.{true}
 use Rattle.std.proofs.Common.{ℕ, ◌+◌, ◌-◌, ◌^◌, ◌∙◌, ◌∷◌, ◌≡◌, ◌||◌, ◌&&◌}
@@ -25,18 +25,18 @@ use Rattle.soundness.specs.Moments.{Shown}
 use Rattle.soundness.specs.declared.marker.Marker.{Marker}
 use Rattle.soundness.specs.declared.marker.Marker.TheVariants as markers
 
--- one more request, counted up to the most
+-- One more request, counted up to the most.
 counted : (n : ℕ) → min (min n (2 ^ 64 - 1) + 1) (2 ^ 64 - 1) ≡ min (n + 1) (2 ^ 64 - 1)
 counted n = grind (arith)
 
--- A request changed the objects so, and what readers see and the marker with them.
+-- A request has changed the objects, and with them what readers see and the marker.
 pub record Made (o n : Held) (items : List Change) (s : Bench) (marker : Marker) : Type 0 where
   pub dest : n.dest ≡ o.dest
   pub start : s ≡ record o.bench { started = true; candidates = s.candidates }
   pub bench : n.bench ≡ record (changed_bench items marker s) { needed = n.bench.needed; candidates = n.bench.candidates }
   pub changes : n.changes ≡ min (o.changes + 1) (2 ^ 64 - 1)
 
--- by what each path below the destination shows then
+-- The knowledge, by what readers then see at each path below the destination.
 pub told : (o n : Held) (items : List Change) (s : Bench) (marker : Marker) (r : Recorded) (objects : Objects) (marked : Bool)
     → Made o n items s marker → Tells o r
     → ((p : List ℕ) → fin.get (change_all items o.bench.shown) p ≡ shown_of r.dest objects p)
@@ -64,9 +64,9 @@ told o n items s marker r objects marked m t shown is objs =
       changes = m.changes ∙ ap (λ k. min (k + 1) (2 ^ 64 - 1)) t.changes ∙ counted r.changes;
     }
 
--- ---- where the changed paths all show the same
+-- ---- the changed paths all have the same tags
 
--- every path then shows what it may
+-- Readers then see at every path what they should.
 pub shown_by : (ps paths : List (List ℕ)) (e : Option Tags) (before : Shown Tags) (after : Shown Tags) (held : fin.FinMap _ Tags)
     → ((p : List ℕ) → has_path p ps ≡ has_path p paths)
     → ((p : List ℕ) → fin.get held p ≡ before p)

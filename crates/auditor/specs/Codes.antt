@@ -1,4 +1,4 @@
--- The code of what an audit knows, by which proofs tell its values apart.
+-- The code of an audit's knowledge, by which proofs tell its values apart.
 use Rattle.std.specs.Prelude.{ℕ, List, Option, refl}
 use Rattle.std.specs.Coded.{Coded, code_by, coded_list, coded_option, coded_ℕ, coded×}
 use Rattle.audit_judge.specs.Bench.{Bench}
@@ -13,6 +13,6 @@ coded_held = code_by (((List ℕ × List ℕ) × ℕ) × (Bench × ObjectMap))
     (λ x. record { dest = record { bucket = x.0.0.0; key = x.0.0.1 }; bench = x.1.0; objects = x.1.1; changes = x.0.1 })
     (λ _. refl)
 
--- The code of what an auditor knows.
+-- The code of an auditor's knowledge.
 abbrev pub coded_known : Coded (Option Held)
 coded_known = coded_option coded_held

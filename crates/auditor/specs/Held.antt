@@ -1,4 +1,4 @@
--- What an audit knows of the lines so far.
+-- The knowledge of an audit about the lines so far.
 use Rattle.std.specs.Prelude.{ℕ, ◌-◌, ◌^◌, List, [], ◌∷◌, ◌++◌, Bool, true, false, Option, Some, None, Result, Ok, Err, cond, min, ◌≡◌}
 use Rattle.soundness.specs.Moments.{Moment, Same}
 use Rattle.audit_claims.specs.Claims.{Tags}
@@ -14,17 +14,17 @@ use Rattle.path_keys.specs.Paths.{Path}
 use Rattle.trace_reader.specs.Faults.{wanting}
 use Rattle.trace_reader.specs.declared.fault.TraceFault.{TraceFault}
 
--- What an audit knows.
+-- The knowledge of an audit.
 pub record Held : Type 0 where
   pub dest : Path
-  -- the claim, and what readers saw and see
+  -- The claim, what readers saw when the run began, and what they see now.
   pub bench : Bench
-  -- the objects of all buckets
+  -- The objects of all buckets.
   pub objects : ObjectMap
-  -- how many requests changed something, at most 2^64 - 1
+  -- How many requests changed something, at most 2^64 - 1.
   pub changes : ℕ
 
--- It is what the lines say.
+-- The audit's knowledge is what the lines say.
 pub record Tells (h : Held) (r : Recorded) : Type 0 where
   pub dest : h.dest ≡ r.dest
   pub keeps : h.bench.keeps ≡ r.keeps
@@ -38,32 +38,32 @@ pub record Tells (h : Held) (r : Recorded) : Type 0 where
   pub objects : (b k : List ℕ) → at h.objects b k ≡ r.objects b k
   pub changes : h.changes ≡ min r.changes (2 ^ 64 - 1)
 
--- The judge knows the moments so far: none before the run begins.
+-- The judge knows the moments so far. There are none before the run begins.
 abbrev pub Stands : Bool → Bench → List (Moment Tags) → Type 0
 Stands false b moments = Waits b × moments ≡ []
 Stands true b moments = Follows b moments
 
--- What the lines say, and the moments behind them as the judge has them.
+-- The audit knows what the lines say, and the judge knows the moments after them.
 pub record At (h : Held) (r : Recorded) (moments : List (Moment Tags)) : Type 0 where
   pub tells : Tells h r
   pub stands : Stands h.bench.started h.bench moments
-  -- before the run begins no request has put the success marker
+  -- Before the run begins no request has put the success marker.
   pub unmarked : h.bench.started ≡ false → r.marked ≡ false
 
--- It is what some lines say.
+-- The audit knows what some lines say.
 abbrev pub AtSome : Held → Type 0
 AtSome h = (r : Recorded) × (moments : List (Moment Tags)) × At h r moments
 
--- The moments behind one more line.
+-- The moments after one more line.
 abbrev pub moments_after : Bench → List (Moment Tags) → List (Moment Tags)
 moments_after b moments = moments ++ cond b.started (now b ∷ []) []
 
--- One more line goes by: the audit knows what it says too.
+-- After one more line, the audit knows what that line says too.
 abbrev pub GoesBy : Held → List (Moment Tags) → Result Recorded TraceFault → Type 0
 GoesBy h moments (Ok r) = At h r (moments_after h.bench moments)
 GoesBy h moments (Err fault) = ⊥
 
--- It shows that readers are not safe: at these paths it changed what they see, and this is the first reason.
+-- The line shows that readers are not safe: it changed what they see at these paths, and this is the first reason.
 pub record Breaks
     (before after : Held) (moments : List (Moment Tags)) (r : Recorded) (changed : List (List ℕ)) (reason : Reason) : Type 0
   where
@@ -72,13 +72,13 @@ pub record Breaks
     pub are : SameElements paths changed
     pub first : IsFirst (claim before.bench) (opened before.bench) moments (now after.bench) paths reason
 
--- One more line breaks the run.
+-- One more line shows that readers are not safe.
 abbrev pub BreaksBy : (before after : Held) → List (Moment Tags) → Result Recorded TraceFault → List (List ℕ) → Reason → Type 0
 BreaksBy before after moments (Ok r) changed reason = Breaks before after moments r changed reason
 BreaksBy before after moments (Err fault) changed reason = ⊥
 
--- What one more line makes of what an audit knows, by what it adds to the lines before and by the paths that it changed: nothing to say,
--- a reason, or its fault.
+-- The right result for one more line, by what it adds to the lines before and the paths that it changed: None if readers are still safe,
+-- else a reason, or the line's fault.
 abbrev pub Stepped : (before after : Held) → (adds : Recorded → Result Recorded TraceFault) → (changed : Path → List (List ℕ))
     → Result (Option Reason) TraceFault → Type 0
 Stepped before after adds changed (Ok None) =

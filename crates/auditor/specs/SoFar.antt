@@ -1,4 +1,4 @@
--- What an audit knows, by the lines that it was told.
+-- The knowledge of an audit, by the lines that it has taken.
 use Rattle.std.specs.Prelude.{ℕ, ◌+◌, ◌<◌, List, [], ◌∷◌, ◌++◌, Bool, true, false, Option, Some, None, Result, Ok, Err, length, ◌≡◌}
 use Rattle.soundness.specs.Moments.{Moment}
 use Rattle.audit_claims.specs.Claims.{Tags}
@@ -13,7 +13,7 @@ use Rattle.trace_reader.specs.declared.fault.TraceFault.{TraceFault}
 use Rattle.trace_reader.specs.declared.line.TraceLine.{TraceLine}
 use Rattle.trace_reader.specs.declared.line.TraceLine.TheVariants as line
 
--- It is what these lines say, and the judge has the moments behind them.
+-- The audit knows what these lines say, and the judge knows the moments after them.
 pub record IsTold (h : Held) (lines : List (List ℕ)) : Type 0 where
   pub said : Recorded
   pub said_is : said_by lines None ≡ Ok (Some said)
@@ -21,21 +21,21 @@ pub record IsTold (h : Held) (lines : List (List ℕ)) : Type 0 where
   pub alike : AllAlike judged (moments lines None)
   pub at : At h said judged
 
--- It is what some lines say.
+-- The audit knows what some lines say.
 abbrev pub IsToldSome : Held → Type 0
 IsToldSome h = (lines : List (List ℕ)) × IsTold h lines
 
--- No line was told yet, or an audit knows what these lines say.
+-- No line was taken yet, or the audit knows what these lines say.
 abbrev pub IsSoFar : Option Held → List (List ℕ) → Type 0
 IsSoFar None lines = lines ≡ []
 IsSoFar (Some h) lines = IsTold h lines
 
--- It knows what some lines say.
+-- The auditor knows what some lines say.
 abbrev pub IsOfSome : Option Held → Type 0
 IsOfSome known = (lines : List (List ℕ)) × IsSoFar known lines
 
--- What one more line makes of what an audit knows: no fault, with readers still safe; a reason why they are not; or its fault. Other lines
--- may follow.
+-- The right result for one more line: None if it has no fault and readers are still safe, else a reason why they are not, or the line's
+-- fault. Other lines may follow.
 abbrev pub Taken : (before after : Option Held) → (bytes : List ℕ) → Result (Option Reason) TraceFault → Type 0
 Taken before after bytes (Ok None) = (lines : List (List ℕ)) → IsSoFar before lines → IsSoFar after (lines ++ bytes ∷ [])
 Taken before after bytes (Ok (Some reason)) =
@@ -43,17 +43,17 @@ Taken before after bytes (Ok (Some reason)) =
 Taken before after bytes (Err fault) = wanting fault ≡ false
     → (lines behind : List (List ℕ)) → IsSoFar before lines → IsFaulty (lines ++ bytes ∷ behind) (length lines + 1) fault
 
--- An audit knows the first line, if that has no fault.
+-- The audit knows the first line, if that has no fault.
 abbrev pub BegunBy : Held → Result Recorded TraceFault → Type 0
 BegunBy h (Ok r) = At h r [] × r.running ≡ false
 BegunBy h (Err fault) = ⊥
 
--- What the first line makes of an audit: it must be a job's.
+-- The right result for the first line, which must be a job's.
 abbrev pub Begins : TraceLine → Result Held TraceFault → Type 0
 Begins l (Ok h) = BegunBy h (after None l)
 Begins l (Err fault) = wanting fault ≡ false → after None l ≡ Err fault
 
--- What the stage of a trace makes sure of a line.
+-- The stage of a trace guarantees this of a line.
 abbrev pub IsDue : Held → TraceLine → Type 0
 IsDue h (line.Job dest keeps tasks) = Unit {0}
 IsDue h (line.Attempt task attempt) = (h.bench.started ≡ false) × (task < h.bench.tasks)

@@ -1,4 +1,4 @@
--- What requests add to what the lines so far say.
+-- The facts that requests add to those of the lines so far.
 use Rattle.std.specs.Prelude.{◌≡◌, ℕ, ◌+◌, ◌-◌, ◌^◌, List, [], ◌∷◌, true, false, Option, Some, Result, Ok, cond, min}
 use Rattle.audit_claims.specs.Claims.{Tags}
 use Rattle.audit_judge.specs.Bench.{Bench}
@@ -22,21 +22,21 @@ use Rattle.trace_reader.specs.declared.fault.TraceFault.{TraceFault}
 abbrev pub no_paths : Path → List (List ℕ)
 no_paths dest = []
 
--- An object with these tags is put.
+-- The facts after an object with these tags was put.
 abbrev pub put_after : (bucket key : List ℕ) → Tags → Recorded → Result Recorded TraceFault
 put_after bucket key tags r = Ok (changed (put bucket key tags r.objects) (is_marker r.dest bucket key) r)
 
--- The objects at these keys of a bucket are deleted.
+-- The facts after the objects at these keys of a bucket were deleted.
 abbrev pub delete_after : (bucket : List ℕ) → (keys : List (List ℕ)) → Recorded → Result Recorded TraceFault
 delete_after bucket keys r = Ok (changed (delete bucket keys r.objects) false r)
 
--- The run has begun, if it had not; nothing else is another.
+-- The run has begun, if it had not; nothing else has changed.
 pub record Begun (before after : Held) : Type 0 where
   pub same : after ≡ record before { bench = after.bench }
   pub bench : after.bench ≡ record before.bench { started = true; candidates = after.bench.candidates }
   pub follows : (r : Recorded) (moments : List (Moment Tags)) → At before r moments → Follows after.bench moments
 
--- An object that exists when the run begins has been told to the judge: the file that readers see there, and an old success marker.
+-- The judge knows an object that exists when the run begins: the file that readers see there, or an old success marker.
 pub record Opened (before after : Held) (bucket key : List ℕ) (tags : Tags) : Type 0 where
   pub same : after ≡ record before { bench = after.bench }
   pub bench : after.bench ≡ record before.bench {
@@ -46,7 +46,7 @@ pub record Opened (before after : Held) (bucket key : List ℕ) (tags : Tags) : 
   }
   pub waits : Waits after.bench
 
--- The judge has been told of these changes by one more request, and of the marker that exists then, and answers.
+-- The judge received the changes of one more request and the marker that then exists, and answered.
 pub record Answered (before after : Held) (items : List Change) (marker : Marker) (r : Option Reason) : Type 0 where
   pub dest : after.dest ≡ before.dest
   pub objects : after.objects ≡ before.objects

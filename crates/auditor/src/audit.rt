@@ -30,7 +30,7 @@ use std::alloc::{AllocError, Global};
 use std::marker::Model;
 use trace_reader::{Stage, TraceFault};
 
-/// What an audit knows of the lines so far, from the job's line on.
+/// The knowledge of an audit about the lines so far, from the job's line on.
 #[derive(Drop)]
 pub struct Audit {
     alloc: Global,
@@ -52,7 +52,7 @@ impl Model for Audit {
 }
 
 impl Audit {
-    /// Knows the line of a job, and no other. Fails only if memory runs out.
+    /// Returns an audit that knows only the line of a job. Fails only if memory runs out.
     pub(crate) fn begin(
         alloc: Global,
         dest: S3Path,
@@ -70,7 +70,7 @@ impl Audit {
         })
     }
 
-    /// How far the trace has come.
+    /// Returns how far the trace has come.
     pub(crate) fn stage(&self) -> Stage
         ensures stage { (r : Recorded) → Tells self.now r → result ≡ stage_of (Some r) }
     {
@@ -81,21 +81,21 @@ impl Audit {
         }
     }
 
-    /// How many tasks the job has.
+    /// Returns how many tasks the job has.
     pub fn tasks(&self) -> u32
         ensures tasks { (r : Recorded) → Tells self.now r → result ≡ r.tasks }
     {
         self.judge.tasks()
     }
 
-    /// How many requests changed something, at most 2^64 - 1.
+    /// Returns how many requests changed something, at most 2^64 - 1.
     pub fn changes(&self) -> u64
         ensures changes { (r : Recorded) → Tells self.now r → result ≡ min r.changes (2 ^ 64 - 1) }
     {
         self.changes
     }
 
-    /// Which success marker exists.
+    /// Returns which success marker exists.
     pub fn marker(&self) -> Marker
         ensures marker { (r : Recorded) → Tells self.now r → result ≡ marker_of r }
         ensures same { result ≡ self.now.bench.marker }
@@ -103,7 +103,8 @@ impl Audit {
         self.judge.marker()
     }
 
-    /// Where a new success marker exists, the least number of an attempt of a task that explains what readers saw of it.
+    /// Returns the least number of an attempt of a task that explains what readers saw of it. A new
+    /// success marker must exist.
     pub fn pick(&self, task: u32) -> Option<u32>
         requires told { IsToldSome self.now }
         requires new { self.now.bench.marker ≡ Marker.New }
@@ -113,7 +114,7 @@ impl Audit {
         self.judge.pick(task)
     }
 
-    /// Another attempt of a task. Repeated if it has come before.
+    /// Adds an attempt of a task. Fails with Repeated if the attempt has come before.
     pub(crate) fn add_attempt(
         &mut self,
         task: u32,
@@ -131,7 +132,8 @@ impl Audit {
         }
     }
 
-    /// Another file of the last attempt. Repeated if the attempt has its path, SamePath if an attempt of another task does.
+    /// Adds a file of the last attempt. Fails with Repeated if the attempt has the path already,
+    /// and with SamePath if an attempt of another task has it.
     pub(crate) fn add_file(
         &mut self,
         path: Text,
@@ -168,7 +170,8 @@ impl Audit {
         Ok(())
     }
 
-    /// Another object that existed when the run began. Repeated if it has come before.
+    /// Adds an object that existed when the run began. Fails with Repeated if the object has come
+    /// before.
     pub(crate) fn add_object(
         &mut self,
         bucket: Text,
@@ -188,7 +191,7 @@ impl Audit {
         Ok(None)
     }
 
-    /// The run begins, unless it has begun.
+    /// Begins the run, unless it has begun.
     fn start(&mut self) -> Result<(), AllocError>
         requires at { AtSome self.old }
         ensures begun { OnOk result (Begun self.old self.new) }
@@ -199,7 +202,7 @@ impl Audit {
         Ok(())
     }
 
-    /// The commit begins. Repeated if it has begun.
+    /// Notes that the commit begins. Fails with Repeated if it has begun.
     pub(crate) fn commit(&mut self) -> Result<Option<Reason>, TraceFault>
         requires at { AtSome self.old }
         ensures stepped { Stepped self.old self.new commit_after no_paths result }
@@ -212,7 +215,8 @@ impl Audit {
         Ok(None)
     }
 
-    /// Tells the judge of the changes of one more request, whose paths rise strictly by their bytes, and of the marker that exists then.
+    /// Tells the judge the changes of one more request, whose paths rise strictly by their bytes,
+    /// and the marker that then exists.
     fn tell(&mut self, changes: Vec<Change>, marker: Marker) -> Result<Option<Reason>, AllocError>
         requires follows { FollowsSome self.old.bench }
         requires started { self.old.bench.started ≡ true }
@@ -225,7 +229,7 @@ impl Audit {
         Ok(reason)
     }
 
-    /// An object with these tags is put.
+    /// Puts an object with the tags of this list.
     pub(crate) fn put(
         &mut self,
         bucket: Text,
@@ -239,7 +243,7 @@ impl Audit {
         self.put_tags(bucket, key, etags)
     }
 
-    /// An object with these tags is put.
+    /// Puts an object with these tags.
     fn put_tags(
         &mut self,
         bucket: Text,
@@ -262,7 +266,7 @@ impl Audit {
         Ok(reason)
     }
 
-    /// An object is copied. NoSource if none is at its source.
+    /// Copies an object. Fails with NoSource if there is none at its source.
     pub(crate) fn copy(
         &mut self,
         bucket: Text,
@@ -279,7 +283,7 @@ impl Audit {
         self.put_tags(bucket, key, etags)
     }
 
-    /// The objects at these keys of a bucket are deleted.
+    /// Deletes the objects at these keys of a bucket.
     pub(crate) fn delete(
         &mut self,
         bucket: Text,
@@ -302,7 +306,7 @@ impl Audit {
     }
 }
 
-/// The change by which readers see these tags at a path, if there is one.
+/// Returns the change after which readers see these tags at a path, if there is a path.
 fn put_changes(alloc: Global, path: Option<Text>, etags: &Etags) -> Result<Vec<Change>, AllocError>
     ensures changes { IfOk result (λ changes. changes.items ≡ given (in_list path) (Some etags.now)) }
 {
@@ -317,14 +321,14 @@ fn put_changes(alloc: Global, path: Option<Text>, etags: &Etags) -> Result<Vec<C
     Ok(changes)
 }
 
-/// Whether the place of the success marker is among these keys of a bucket.
+/// Returns whether the place of the success marker is among these keys of a bucket.
 fn has_marker(dest: &Destination, bucket: &Text, keys: &[Text]) -> bool
     ensures has { result ≡ list_any (λ key. is_marker dest.now bucket.now key) keys.now }
 {
     keys.iter().any(|key| dest.is_marker(bucket, key))
 }
 
-/// The marker that exists after a change, by whether its place changed.
+/// Returns the marker that exists after a change: `then` if the marker's place changed, else `was`.
 fn marker_by(changed: bool, then: Marker, was: Marker) -> Marker
     ensures by { result ≡ cond changed then was }
 {

@@ -13,7 +13,7 @@ use std::alloc::Global;
 use std::marker::Model;
 use trace_reader::{Stage, TraceFault, TraceLine, read_line};
 
-/// An audit of a trace. Clauses see what it knows, once the job's line has come.
+/// An audit of a trace. Contracts see what it knows, once the job's line has come.
 #[derive(Drop)]
 pub struct Auditor {
     alloc: Global,
@@ -58,7 +58,7 @@ fn step(audit: &mut Audit, line: TraceLine) -> Result<Option<Reason>, TraceFault
     }
 }
 
-/// What an audit knows by the first line, which must be a job's.
+/// Returns the audit that knows the first line, which must be a job's.
 fn first(alloc: Global, line: TraceLine) -> Result<Audit, TraceFault>
     ensures begins { Begins line result }
 {
@@ -72,7 +72,7 @@ fn first(alloc: Global, line: TraceLine) -> Result<Audit, TraceFault>
 }
 
 impl Auditor {
-    /// How far the trace has come.
+    /// Returns how far the trace has come.
     fn stage(&self) -> Stage
         ensures stage { (lines : List (List ℕ)) (said : Option Recorded) → IsSoFar self.now lines → said_by lines None ≡ Ok said
             → result ≡ stage_of said }
@@ -87,22 +87,24 @@ impl Auditor {
         }
     }
 
-    /// Knows no line yet. Takes no memory.
+    /// Returns an auditor that knows no line yet. Takes no memory.
     pub fn new(alloc: Global) -> Auditor
         ensures none { result ≡ None }
     {
         Auditor { alloc, audit: None }
     }
 
-    /// What the lines so far say, once the job's line has come.
+    /// Returns the knowledge about the lines so far, once the job's line has come.
     pub fn known(&self) -> Option<&Audit>
         ensures known { option_copied result ≡ self.now }
     {
         self.audit.as_ref()
     }
 
-    /// Takes the next line, given without its line feed. None: the line has no fault, and readers are still safe. After a reason or a
-    /// fault nothing is promised of other lines. NoMemory comes in place of each answer.
+    /// Takes the next line, without its line feed. Returns None if the line has no fault and
+    /// readers are still safe, else the first reason why they are not. Fails with the first fault
+    /// of the line. After a reason or a fault nothing is promised for other lines. NoMemory may
+    /// come in place of each answer.
     pub fn take(&mut self, line: &[u8]) -> Result<Option<Reason>, TraceFault>
         requires told { IsOfSome self.old }
         ensures right { Taken self.old self.new line.now result }

@@ -29,7 +29,7 @@ impl Model for Destination {
     ghost invariant = { λ d. IsSpelled d.path d.below d.success };
 }
 
-/// What follows a prefix in a text that begins so.
+/// Returns the text after a prefix, if the text begins with it.
 fn behind<'a>(prefix: &str, text: &'a str) -> Option<&'a str>
     ensures behind { option_map (λ r. r.now) result ≡ behind prefix.now text.now }
 {
@@ -37,7 +37,7 @@ fn behind<'a>(prefix: &str, text: &'a str) -> Option<&'a str>
 }
 
 impl Destination {
-    /// The destination at this path. Fails only if memory runs out.
+    /// Returns the destination at this path. Fails only if memory runs out.
     pub(crate) fn new(alloc: Global, path: S3Path) -> Result<Destination, AllocError>
         ensures same { IfOk result (λ d. d ≡ path) }
     {
@@ -50,21 +50,21 @@ impl Destination {
         })
     }
 
-    /// Whether this is the destination's bucket.
+    /// Returns whether this is the destination's bucket.
     fn is_in(&self, bucket: &Text) -> bool
         ensures same { result ≡ bytes_eq bucket.now self.now.bucket }
     {
         bucket.as_bytes() == self.path.bucket().as_bytes()
     }
 
-    /// Whether this is the place of the success marker.
+    /// Returns whether this is the place of the success marker.
     pub(crate) fn is_marker(&self, bucket: &Text, key: &Text) -> bool
         ensures marker { result ≡ is_marker self.now bucket.now key.now }
     {
         self.is_in(bucket) && key.as_bytes() == self.success.as_bytes()
     }
 
-    /// The path below the destination of a key of a bucket, if readers see a file there.
+    /// Returns the path of a key of a bucket below the destination, if readers see a file there.
     pub(crate) fn path_of(
         &self,
         alloc: Global,

@@ -27,7 +27,7 @@ impl Model for PathSet {
 }
 
 impl PathSet {
-    /// No paths. Takes no memory.
+    /// Returns a set without paths. Takes no memory.
     pub(crate) fn new(alloc: Global) -> PathSet
         ensures empty { result ≡ [] }
     {
@@ -44,7 +44,8 @@ impl PathSet {
         Ok(())
     }
 
-    /// The changes by which readers see no file at any of these paths. Fails only if memory runs out.
+    /// Returns the changes after which readers see no file at any of these paths. Fails only if
+    /// memory runs out.
     pub(crate) fn all_gone(&self, alloc: Global) -> Result<Vec<Change>, AllocError>
         ensures gone { IfOk result (λ changes. changes.items ≡ given self.now None) }
         ensures rising { IsStrictlySortedBy text_cmp self.now }
@@ -60,7 +61,8 @@ impl PathSet {
     }
 }
 
-/// The paths below a destination of these keys of a bucket at which readers see files. Fails only if memory runs out.
+/// Returns the paths of these keys of a bucket that are below a destination and at which readers
+/// see files. Fails only if memory runs out.
 pub(crate) fn seen_paths(
     alloc: Global,
     dest: &Destination,

@@ -1,4 +1,4 @@
--- Readers of bytes: what a step took from the front, that it reads again what was written, and numbers of a fixed width.
+-- Readers of bytes: each takes a text from the front, and reads again the text that was written. And numbers of a fixed width.
 use Rattle.basics.proofs.Reading.{not_stopped}
 use Rattle.basics.specs.Reading.{Read}
 use Rattle.std.proofs.Common.{Err, List, Ok, ap, append_assoc, arith, cond, drop, false, get_or, inl, inr, length, ltb, refl, subst, sym}
@@ -22,7 +22,7 @@ IsBytes-take n bytes h i =
       | inr le ↦ rw (get_or_past (take n bytes) i 0 (omega (arith, length-take n bytes))) (omega arith)
     ]
 
--- what a reader took from the front
+-- The reader took this text from the front, and left the rest.
 pub record Takes (bytes text rest : List ℕ) : Type 0 where
   pub parts : bytes ≡ text ++ rest
   pub rest_fits : IsBytes rest
@@ -34,12 +34,12 @@ Takes-then a x b y c p q = record {
       q.rest_fits;
 }
 
--- a reader takes the text of a value of this kind, and reads such a text again
+-- The reader takes the text of a value of this kind, and reads such a text again.
 pub record IsReader {F A : Type 0} (read : List ℕ → Read F A) (text : A → List ℕ) (IsValue : A → Type 0) : Type 0 where
   pub takes : (bytes : List ℕ) (x : A) (rest : List ℕ) → IsBytes bytes → read bytes ≡ Ok (x, rest) → Takes bytes (text x) rest × IsValue x
   pub again : (x : A) (rest : List ℕ) → IsValue x → length (text x ++ rest) < 2 ^ 64 → read (text x ++ rest) ≡ Ok (x, rest)
 
--- ---- the first bytes, or a fault where there are not so many
+-- ---- the first bytes, or a fault if there are too few
 
 module _ {F : Type 0} (fault : F) where
   abbrev pub front : ℕ → List ℕ → Read F (List ℕ)
@@ -65,7 +65,7 @@ module _ {F : Type 0} (fault : F) where
 
 -- ---- numbers
 
--- the bytes of a number below the limit, most significant first
+-- The bytes of a number below the limit, most significant first.
 pub record IsWide (w : Width) (limit : ℕ) : Type 0 where
   pub len : (n : ℕ) → length (to_be_bytes w n) ≡ byte_len w
   pub back : (bytes : List ℕ) → length bytes ≡ byte_len w → IsBytes bytes → to_be_bytes w (from_be_bytes w bytes) ≡ bytes

@@ -1,4 +1,4 @@
--- What lines of too many words are not, and the words of a text joined again.
+-- Lines with too many words, and the words of a text joined again.
 use Rattle.basics.specs.Parts.{parts_from, parts_of}
 use Rattle.basics.specs.Shapes.{at_most_one, one, text as text_of_words, two}
 use Rattle.basics.specs.Words.{joined, words_after}
@@ -13,7 +13,7 @@ some_part_at : (s : ℕ) (b : Bool) (part : List ℕ) (x : ℕ) (xs : List ℕ)
 some_part_at s true part x xs later = (part, parts_from s [] xs, refl)
 some_part_at s false part x xs later = later
 
--- there is always a part
+-- A text has at least one part.
 pub some_part : (s : ℕ) (part text : List ℕ) → (w : List ℕ) × (ws : List (List ℕ)) × (parts_from s part text ≡ w ∷ ws)
 unfolding parts_from
 some_part s part [] = (part, [], refl)

@@ -13,7 +13,7 @@ use Rattle.std.proofs.lemmas.List.{append-nil, take-append-drop}
 use Rattle.std.specs.List.{list_all}
 use Rattle.std.specs.Prelude.{nat_lt, slice_index, ◌&&◌}
 
--- a line without a CR at its end
+-- A line with no CR at its end stays as it is.
 pub no_return : (bs : List ℕ) → ((front : List ℕ) → bs ≢ front ++ 13 ∷ []) → bs ≡ without_return bs
 no_return bs h = by (nat_lt 0 (length bs) && (slice_index bs (length bs - 1) == 13)) refl
   where
@@ -24,7 +24,7 @@ no_return bs h = by (nat_lt 0 (length bs) && (slice_index bs (length bs - 1) == 
         absurd (h (take (length bs - 1) bs) (last_is 13 bs (length bs - 1) (omega arith) (eqb-true _ _ parts.1)))
     by false e = rw e refl
 
--- the first line of a text that is cut at an LF
+-- The first line of a text that is cut at its first LF.
 pub line_before : (text front behind : List ℕ) → text ≡ front ++ 10 ∷ behind → ((i : ℕ) → i < length front → get_or front i 0 ≢ 10)
     → lines_of text ≡ without_return front ∷ lines_of behind
 line_before text front behind e h = ap lines_of e ∙ first_from [] front behind (others_from_bytes 10 front h)
@@ -36,7 +36,7 @@ shorter_behind c text front behind e = rw e (by front)
     by [] = omega arith
     by (x ∷ xs) = let old = by xs in omega (arith, old)
 
--- the last line of a text without an LF
+-- The only line of a text without an LF.
 pub line_alone : (text : List ℕ) → 0 < length text → ((i : ℕ) → i < length text → get_or text i 0 ≢ 10) → lines_of text ≡ text ∷ lines_of []
 line_alone text some h =
     let all : take (length text) text ≡ text = sym (append-nil _) ∙ ap (λ (l : List ℕ). take (length text) text ++ l)
@@ -57,7 +57,7 @@ front_of : (b : ℕ) (front : List ℕ) → take (length front) (front ++ b ∷ 
 front_of b [] = refl
 front_of b (x ∷ xs) = ap (λ (l : List ℕ). x ∷ l) (front_of b xs)
 
--- a line with a CR at its end
+-- A line with a CR at its end loses it.
 pub one_return : (bs front : List ℕ) → bs ≡ front ++ 13 ∷ [] → front ≡ without_return bs
 one_return bs front e =
     let more = length_more 13 front in
@@ -65,7 +65,7 @@ one_return bs front e =
     let last : length (front ++ 13 ∷ []) - 1 ≡ length front = omega (arith, more) in
     sym (ap without_return e ∙ (rw (lt-ltb 0 (length (front ++ 13 ∷ [])) some, last, (last_at 13 front)) refl) ∙ front_of 13 front)
 
--- ---- a text cut at the first of a byte
+-- ---- a text cut at the first occurrence of a byte
 
 pub record Cut (a b x y : List ℕ) : Type 0 where
   pub front : a ≡ b

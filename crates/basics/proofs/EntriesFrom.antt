@@ -1,4 +1,4 @@
--- The entries of a finite map over numbers from a number on, which are found one after another.
+-- The entries of a finite map over numbers, from a number on, which are found one after another.
 use Rattle.basics.proofs.Naturals.{below_so, less_is, not_below}
 use Rattle.basics.proofs.Tree.{map_sorted}
 use Rattle.std.proofs.Common.{List, None, Some, ap, arith, cond, false, inl, inr, is_some, nat_lt, refl, sym, true, true≢false, unwrap_or}
@@ -21,12 +21,12 @@ pub other_key : (j k : ℕ) → (j ≡ k → ⊥) → eq_by_cmp nat_cmp j k ≡ 
 other_key j k h = grind (arith, nat_tests)
 
 module _ {X : Type 0} where
-  -- the entries from a number on
+  -- The entries from a number on.
   abbrev pub from_on : ℕ → List (ℕ × X) → List (ℕ × X)
   from_on n [] = []
   from_on n (e ∷ es) = cond (nat_lt e.0 n) (from_on n es) (e ∷ es)
 
-  -- all keys are above k
+  -- All keys are above k.
   abbrev pub AreAbove : ℕ → List (ℕ × X) → Type 0
   AreAbove k es = AllByRecursion (λ y. nat_cmp k y ≡ Less) (keys_of es)
 
@@ -58,7 +58,7 @@ module _ {X : Type 0} where
   same_value : (x y : X) → Some x ≡ Some y → x ≡ y
   same_value x y e = ap (λ o. unwrap_or o x) e
 
-  -- none is left where none is found from n on
+  -- If none is found from n on, none is left.
   none_from : (n : ℕ) (es : List (ℕ × X)) → IsStrictlySortedBy nat_cmp (keys_of es) → ((j : ℕ) → n ≤ j → find nat_cmp j es ≡ None)
       → from_on n es ≡ []
   none_from n [] s h = refl
@@ -68,7 +68,7 @@ module _ {X : Type 0} where
     | inr le ↦ absurd (no_value e.1 (sym (find_head e es) ∙ h e.0 le))
   ]
 
-  -- the first that is found from n on stands in front of those behind it
+  -- The first entry that is found from n on comes before those after it.
   some_from : (n k : ℕ) (x : X) (es : List (ℕ × X)) → IsStrictlySortedBy nat_cmp (keys_of es) → n ≤ k → find nat_cmp k es ≡ Some x
       → ((j : ℕ) → n ≤ j → j < k → find nat_cmp j es ≡ None) → from_on n es ≡ (k, x) ∷ from_on (k + 1) es
   some_from n k x [] s le found first = absurd (no_value x (sym found))
@@ -94,12 +94,12 @@ module _ {X : Type 0} where
         ]
       ]
 
-  -- all are left where every key is at least n
+  -- If every key is at least n, all entries are left.
   all_from : (n : ℕ) (es : List (ℕ × X)) → ((k : ℕ) (x : X) → find nat_cmp k es ≡ Some x → n ≤ k) → from_on n es ≡ es
   all_from n [] h = refl
   all_from n (e ∷ es) h = keeps n e es (h e.0 e.1 (find_head e es))
 
-  -- the entries of a map from n on
+  -- The entries of a map from n on.
   abbrev pub entries_from : ℕ → FinMap nat_cmp X → List (ℕ × X)
   entries_from n m = from_on n (entries m)
 

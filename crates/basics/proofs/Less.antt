@@ -1,4 +1,4 @@
--- A total order by the test whether one is less than another.
+-- A total order, by the test whether one value is less than another.
 use Rattle.basics.proofs.Bools.{contrary}
 use Rattle.std.proofs.Common.{Bool, ap, arith, false, not, refl, sym, true, ◌∙◌, ◌≡◌}
 use Rattle.std.proofs.lemmas.Bool.{false≢true}
@@ -31,7 +31,7 @@ not_false true f = refl
 not_false false f = absurd (false≢true (f refl))
 
 module _ {K : Type 0} (R : K → K → Ordering) where
-  -- whether a is less than b
+  -- True if a is less than b.
   abbrev pub lt : K → K → Bool
   lt a b = is_lt (R a b)
 
@@ -51,7 +51,7 @@ module _ {K : Type 0} {R : K → K → Ordering} (o : IsTotalOrder R) where
   pub lt_not : (a b : K) → lt R a b ≡ true → lt R b a ≡ false
   lt_not a b h = contrary (lt R b a) (λ e. sym (irrefl a) ∙ lt_trans a b a h e)
 
-  -- a is at most b, which is less than c
+  -- If a is at most b, and b is less than c, then a is less than c.
   pub le_lt : (a b c : K) → lt R b a ≡ false → lt R b c ≡ true → lt R a c ≡ true
   le_lt a b c h g = by (R a b) refl
     where
@@ -60,10 +60,10 @@ module _ {K : Type 0} {R : K → K → Ordering} (o : IsTotalOrder R) where
       by Equal e = ap is_lt (o.congr a b c e) ∙ g
       by Greater e = absurd (false≢true (sym h ∙ lt_back a b ∙ ap is_gt e))
 
-  -- a is less than b, which is at most c
+  -- If a is less than b, and b is at most c, then a is less than c.
   pub lt_le : (a b c : K) → lt R a b ≡ true → lt R c b ≡ false → lt R a c ≡ true
   lt_le a b c h g = not_false (lt R a c) (λ e. sym g ∙ le_lt c a b e h)
 
-  -- a is at most b, which is at most c
+  -- If a is at most b, and b is at most c, then a is at most c.
   pub le_le : (a b c : K) → lt R b a ≡ false → lt R c b ≡ false → lt R c a ≡ false
   le_le a b c h g = contrary (lt R c a) (λ e. sym g ∙ lt_le c a b e h)

@@ -1,4 +1,4 @@
--- What is one of a list, texts and numbers that are the same or not, and maps at a key.
+-- Members of a list, texts and numbers that are equal or not, and maps at a key.
 use Rattle.basics.proofs.Tree.{tied}
 use Rattle.basics.specs.Members.{IsIn}
 use Rattle.basics.specs.Order.{text_cmp, text_eq, text_equiv, text_ties, text_total}
@@ -30,7 +30,7 @@ pub none_or_some : {X : Type 0} (o : Option X) → (o ≡ None) ⊎ ((x : X) × 
 none_or_some None = inl refl
 none_or_some (Some x) = inr (x, refl)
 
--- ---- the same or not
+-- ---- equal or not
 
 pub same_or_not : (a b : ℕ) → (a ≡ b) ⊎ (a ≡ b → ⊥)
 same_or_not a b = grind (arith, nat_tests)
@@ -101,7 +101,7 @@ pub in_last : {X : Type 0} (x : X) (xs : List X) → IsIn x (xs ++ x ∷ [])
 in_last x [] = inl refl
 in_last x (y ∷ xs) = inr (in_last x xs)
 
--- one of what a function gives is what it gives of one of them
+-- A member of a mapped list comes from a member of the list.
 pub in_map : {X Y : Type 0} (f : X → Y) (y : Y) (xs : List X) → IsIn y (map f xs) → (x : X) × IsIn x xs × (y ≡ f x)
 in_map f y [] h = absurd h
 in_map f y (x ∷ xs) (inl e) = (x, inl refl, e)

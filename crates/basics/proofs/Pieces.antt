@@ -1,4 +1,4 @@
--- The parts of a text: joined again, of two texts round a separator, and of a text without one.
+-- The parts of a text: joined again; of two texts with a separator between them; and of a text without one.
 use Rattle.basics.proofs.Split.{lone_from}
 use Rattle.basics.specs.Parts.{is_other, parts_from, parts_of}
 use Rattle.std.proofs.Common.{Bool, List, ap, append_assoc, arith, false, get_or, length, not, refl, suc, sym, true, ℕ, [], ◌++◌, ◌+◌, ◌<◌}
@@ -30,7 +30,7 @@ join_from s part (x ∷ xs) = by (x == s) refl (join_from s [] xs) (join_from s 
         (sym (eqb-true x s e)))
     by false e new old = rw e (old ∙ append_assoc part (x ∷ []) xs)
 
--- the parts of a text, joined, are the text
+-- The parts of a text, joined, are the text.
 pub join_parts : (s : ℕ) (text : List ℕ) → join_with_byte s (parts_of s text) ≡ text
 join_parts s text = join_from s [] text
 
@@ -44,7 +44,7 @@ parts_from-append s part (x ∷ xs) back = by (x == s) refl (parts_from-append s
         → parts_from s part (x ∷ xs ++ s ∷ back) ≡ parts_from s part (x ∷ xs) ++ parts_of s back
     by b h g e = grind arith
 
--- the parts of two texts round a separator are the parts of both
+-- The parts of two texts with a separator between them are the parts of both.
 pub parts_append : (s : ℕ) (front back : List ℕ) → parts_of s (front ++ s ∷ back) ≡ parts_of s front ++ parts_of s back
 parts_append s front back = parts_from-append s [] front back
 
@@ -52,11 +52,11 @@ other_byte : (s x : ℕ) → x ≢ s → is_other s x ≡ true
 other_byte s x n = (elim (x == s) as (λ b. (x == s) ≡ b → is_other s x ≡ true)
     [ true ↦ λ e. absurd (n (eqb-true x s e)) | false ↦ λ e. ap not e ]) refl
 
--- a text without the separator, told byte by byte
+-- A text in which no byte is the separator.
 pub others_from_bytes : (s : ℕ) (text : List ℕ) → ((i : ℕ) → i < length text → get_or text i 0 ≢ s) → list_all (is_other s) text ≡ true
 others_from_bytes s [] h = refl
 others_from_bytes s (x ∷ xs) h = rw (other_byte s x (h 0 (omega arith))) (others_from_bytes s xs (λ i lt. h (suc i) (omega arith)))
 
--- a text without the separator is one part
+-- A text without the separator is one part.
 pub one_part : (s : ℕ) (text : List ℕ) → list_all (is_other s) text ≡ true → parts_of s text ≡ text ∷ []
 one_part s text h = lone_from s [] text h

@@ -16,11 +16,11 @@ by_bool true f g = f refl
 by_bool false f g = g refl
 
 module _ {K X : Type 0} {R : K → K → Ordering} (o : IsTotalOrder R) where
-  -- the entries after a key
+  -- The entries after a key.
   abbrev pub above : K → List (K × X) → List (K × X)
   above k es = filter (λ e. lt R k e.0) es
 
-  -- all of them, where they are greater than k
+  -- If all keys are greater than k, these are all entries.
   pub all_above : (k : K) (es : List (K × X)) → AllByRecursion (λ q. R k q ≡ Less) (keys_of es) → above k es ≡ es
   all_above k [] h = refl
   all_above k (e ∷ es) h =
@@ -31,7 +31,7 @@ module _ {K X : Type 0} {R : K → K → Ordering} (o : IsTotalOrder R) where
   passed a k (e ∷ es) l h =
       ap (λ b. cond b (e ∷ above a es) (above a es)) (lt_trans o a k e.0 l (ap is_lt h.0)) ∙ ap (λ l. e ∷ l) (passed a k es l h.1)
 
-  -- the first of the entries is followed by those after it
+  -- The first of the entries is followed by those after it.
   pub after_first : (e : K × X) (es : List (K × X)) → IsStrictlySortedBy R (keys_of (e ∷ es)) → es ≡ above e.0 (e ∷ es)
   after_first e es s =
       sym (ap (λ b. cond b (e ∷ above e.0 es) (above e.0 es)) (irrefl o e.0) ∙ all_above e.0 es (sorted_head R e.0 (keys_of es) s))
@@ -66,7 +66,7 @@ module _ {K X : Type 0} {R : K → K → Ordering} (o : IsTotalOrder R) where
             rest = w.rest ∙ sym (ap (λ b. cond b (x ∷ above e.0 es) (above e.0 es)) n);
           }
 
-  -- the first of the entries after a key is followed by those after it
+  -- The first of the entries after a key is followed by those after it.
   pub after_found : (a : K) (es : List (K × X)) → IsStrictlySortedBy R (keys_of es) → (e : K × X) (fs : List (K × X)) → above a es ≡ e ∷ fs
       → fs ≡ above e.0 es
   after_found a es s e fs h = (found a es s e fs h).rest

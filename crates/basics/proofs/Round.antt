@@ -1,4 +1,4 @@
--- The lines of words that a text was made of are read in it again.
+-- The lines of words from which a text was made are read in it again.
 use Rattle.basics.proofs.Bools.{not_so}
 use Rattle.basics.proofs.Lists.{weaker}
 use Rattle.basics.proofs.Split.{first_from, lone_from, part_from}
@@ -29,7 +29,7 @@ words-joined w (v ∷ ws) h = part_from 32 [] w (joined (v ∷ ws)) (weaker is_p
 
 -- ---- lines
 
--- no LF and no CR
+-- True if the byte is no LF and no CR.
 abbrev is_inner : ℕ → Bool
 is_inner b = not (b == 10) && not (b == 13)
 
@@ -122,7 +122,7 @@ decimal_word n h = weaker is_digit is_plain digit_plain (decimal n) (digit_insid
 pub number_in-decimal : (low high n : ℕ) → low ≤ n → n ≤ high → high < 10 ^ 18 → number_in low high (decimal n) ≡ Some n
 number_in-decimal low high n h g e = grind (arith, number-decimal, le-leb)
 
--- no digit is the separator
+-- No digit is the separator.
 digit_other : (s : ℕ) → s < 48 → (b : ℕ) → is_digit b ≡ true → is_other s b ≡ true
 digit_other s h b g = grind arith
 
@@ -133,9 +133,9 @@ pub two_numbers : (s n m : ℕ) → s < 48 → n < 2 ^ 64 → m < 2 ^ 64 → par
 two_numbers s n m h f g = part_from s [] (decimal n) (decimal m) (decimal_other s n h f) ∙ ap (λ (l : List (List ℕ)). decimal n ∷ l)
     (lone_from s [] (decimal m) (decimal_other s m h g))
 
--- ---- words that may hold a CR, but for the end of the line
+-- ---- words that may have a CR, except at the end of the line
 
--- bare words, and no CR at the end
+-- Bare words, and no CR at the end.
 pub record IsBareLine (ws : List (List ℕ)) : Type 0 where
   pub bare : AllByRecursion IsBare ws
   pub kept : without_return (joined ws) ≡ joined ws
@@ -166,7 +166,7 @@ AreLines [] = Unit {0}
 AreLines ([] ∷ ls) = ⊥
 AreLines ((w ∷ ws) ∷ ls) = IsBareLine (w ∷ ws) × AreLines ls
 
--- the lines of the text of lines are they again
+-- The lines of the text of some lines are these lines.
 pub lines_again : (ls : List (List (List ℕ))) → AreLines ls → lines_of (text_of ls) ≡ map joined ls
 unfolding lines_from
 lines_again [] h = refl
@@ -192,6 +192,6 @@ last_of : (xs : List ℕ) (x : ℕ) (ys : List ℕ) → get_or (xs ++ x ∷ ys) 
     0
 last_of xs x ys = let some = some_more xs x ys in last_at xs x ys (length (xs ++ x ∷ ys) - 1) (omega arith)
 
--- a word with no CR ends a line that keeps its end
+-- A line whose last word has no CR keeps its end.
 pub kept_end : (xs : List ℕ) (x : ℕ) (ys : List ℕ) → IsWord (x ∷ ys) → without_return (xs ++ x ∷ ys) ≡ xs ++ x ∷ ys
 kept_end xs x ys h = grind (arith, and_parts, at_index, last_of, not_so, neither)

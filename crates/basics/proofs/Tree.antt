@@ -1,4 +1,4 @@
--- A `BTreeMap`'s entries seen as a finite map.
+-- The entries of a `BTreeMap`, seen as a finite map.
 use Rattle.std.proofs.Common.{Bool, List, None, Option, Some, T, ap, arith, cond, false, length, refl, sym, true, [], ◌∙◌, ◌∷◌, ◌≡◌}
 use Rattle.std.proofs.Math.Facts.{and_yes}
 use Rattle.std.proofs.lemmas.Map.Keys.{sorted_head, sorted_tail}
@@ -29,7 +29,7 @@ tied Equal h = refl
 tied _ h = absurd (cc)
 
 module _ {K X : Type 0} {R : K → K → Ordering} (o : IsTotalOrder R) (exact : CmpEqualImpliesEq R) where
-  -- what is there already is put there
+  -- Putting the value that is there changes nothing.
   pub insert_same : (m : FinMap R X) (k : K) (v : X) → get m k ≡ Some v → insert m k v ≡ m
   insert_same m k v h = same_map o exact _ _ (λ q. get-insert o m k v q ∙ by q (eq_by_cmp R q k) refl)
     where
@@ -37,7 +37,7 @@ module _ {K X : Type 0} {R : K → K → Ordering} (o : IsTotalOrder R) (exact :
       by q true e = ap (λ b. cond b (Some v) (get m q)) e ∙ sym h ∙ ap (get m) (sym (exact q k (tied (R q k) e)))
       by q false e = ap (λ b. cond b (Some v) (get m q)) e
 
-  -- a new key that is put in and taken out
+  -- Putting in a new key and removing it changes nothing.
   pub insert_remove : (m : FinMap R X) (k : K) (v : X) → get m k ≡ None → remove (insert m k v) k ≡ m
   insert_remove m k v h = same_map o exact _ _ (λ q. get-remove o (insert m k v) k q ∙ ap (cond (eq_by_cmp R q k) None)
       (get-insert o m k v q) ∙ by q (eq_by_cmp R q k) refl)
@@ -51,7 +51,7 @@ module _ {K X : Type 0} {R : K → K → Ordering} (o : IsTotalOrder R) where
   find_lookup [] q = refl
   find_lookup (e ∷ es) q = ap (cond (is_at (R q) e.0) (Some e.1)) (find_lookup es q)
 
-  -- what the map that the entries make has at a key
+  -- The value at a key in the map that the entries make.
   pub get_made : (es : List (K × X)) (q : K) → get (from_entries {R = R} es) q ≡ lookup (is_at (R q)) es
   get_made es q = get-from_entries o es q ∙ find_lookup es q
 
@@ -73,7 +73,7 @@ module _ {K X : Type 0} {R : K → K → Ordering} (o : IsTotalOrder R) where
   put_first e [] h = refl
   put_first e (f ∷ fs) h = ap (λ r. by_order r (e ∷ f ∷ fs) ((f.0, e.1) ∷ fs) (f ∷ put R e.0 e.1 fs)) h.0
 
-  -- entries in order are those of the map that they make
+  -- Entries in order are the entries of the map that they make.
   pub entries_made : (es : List (K × X)) → IsStrictlySortedBy R (keys_of es) → entries (from_entries {R = R} es) ≡ es
   entries_made [] s = entries_empty R
   entries_made (e ∷ es) s =
@@ -83,7 +83,7 @@ module _ {K X : Type 0} {R : K → K → Ordering} (o : IsTotalOrder R) where
   pub len_made : (es : List (K × X)) → IsStrictlySortedBy R (keys_of es) → len (from_entries {R = R} es) ≡ length es
   len_made es s = len-entries (from_entries es) ∙ ap length (entries_made es s)
 
--- what `next` answers is the first of what was left
+-- `next` returns the first of the entries that were left.
 pub first_taken : {A X : Type 0} (shows : A → X) (s t : List X) (r : Option A) → TakesFirst shows s r t → option_map shows r ≡ slice_get s 0
 first_taken shows s t None h = sym (ap (λ (l : List _). slice_get l 0) h.0)
 first_taken shows s t (Some x) h = sym (ap (λ (l : List _). slice_get l 0) h)
@@ -106,6 +106,6 @@ module _ {K X : Type 0} (R : K → K → Ordering) where
   sorted_keys [] h = tt
   sorted_keys (e ∷ es) h = let p = and_yes (below_all R e.0 es) (is_sorted R es) h in (all_above e.0 es p.0, sorted_keys es p.1)
 
-  -- the keys of any finite map rise
+  -- The keys of every finite map rise.
   pub map_sorted : (m : FinMap R X) → IsStrictlySortedBy R (keys_of (entries m))
   map_sorted m = sorted_keys (entries m) (entries_sorted m)

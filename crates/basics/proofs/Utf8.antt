@@ -8,7 +8,7 @@ shorter : (xs : List ℕ) (b : ℕ) (ys : List ℕ) → length xs < length (xs +
 shorter [] b ys = omega arith
 shorter (x ∷ xs) b ys = let old = shorter xs b ys in omega (arith, old)
 
--- both sides of the byte are UTF-8
+-- The texts on both sides of the byte are UTF-8.
 pub utf8_cut : (b : ℕ) (xs ys : List ℕ) → b < 128 → IsUtf8 (xs ++ b ∷ ys) → IsUtf8 xs × IsUtf8 ys
 utf8_cut b xs ys small h =
     let fits = shorter xs b ys in

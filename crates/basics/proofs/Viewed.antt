@@ -1,4 +1,4 @@
--- A `BTreeMap`'s entries as a finite map, where each value is seen as another.
+-- The entries of a `BTreeMap` as a finite map, with each value seen as another.
 use Rattle.basics.proofs.Tree.{entries_made, get_made, len_made, made_insert, made_remove}
 use Rattle.std.proofs.Common.{Bool, List, None, Option, Some, ap, cond, false, length, map, refl, subst, sym, true, [], ◌∙◌, ◌∷◌, ◌≡◌}
 use Rattle.std.proofs.lemmas.List.{length-map}
@@ -15,12 +15,12 @@ use Rattle.std.specs.Option.{option_map}
 use Rattle.std.specs.declared.cmp.Ordering.{Ordering}
 use Rattle.std.specs.declared.ops.Bound.{Bound}
 
--- what a function makes of the first of a list
+-- The first of a mapped list is the image of the first of the list.
 pub first_map : {A B : Type 0} (f : A → B) (xs : List A) → slice_get (map f xs) 0 ≡ option_map f (slice_get xs 0)
 first_map f [] = refl
 first_map f (x ∷ xs) = refl
 
--- a test of what a function leaves as it was
+-- A test on mapped values can be made before the mapping.
 pub filter_map_same : {A B : Type 0} (f : A → B) (p : A → Bool) (q : B → Bool) → ((x : A) → q (f x) ≡ p x) → (xs : List A)
     → filter q (map f xs) ≡ map f (filter p xs)
 filter_map_same f p q same [] = refl
@@ -37,11 +37,11 @@ at_cond f true o p = refl
 at_cond f false o p = refl
 
 module _ {K V X : Type 0} (f : V → X) where
-  -- entries with each value seen as another
+  -- The entries with each value seen as another.
   abbrev pub viewed : List (K × V) → List (K × X)
   viewed es = map (λ e. (e.0, f e.1)) es
 
-  -- the first of those between two bounds
+  -- The first of the entries between two bounds.
   pub first_between : (R : K → K → Ordering) (lo hi : Bound K) (es : List (K × V))
       → slice_get (entries_between R lo hi (viewed es)) 0 ≡ option_map (λ e. (e.0, f e.1)) (slice_get (entries_between R lo hi es) 0)
   first_between R lo hi es =
@@ -73,7 +73,7 @@ module _ {K V X : Type 0} (f : V → X) where
     pub viewed_sorted : (es : List (K × V)) → IsStrictlySortedBy R (keys_of es) → IsStrictlySortedBy R (keys_of (viewed es))
     viewed_sorted es s = subst (IsStrictlySortedBy R) (sym (keys_of-map_values f es)) s
 
-    -- entries in order, with each value seen as another, are those of the map that they make
+    -- Entries in order, with each value seen as another, are the entries of the map that they make.
     pub entries_viewed : (es : List (K × V)) → IsStrictlySortedBy R (keys_of es) → entries (from_entries {R = R} (viewed es)) ≡ viewed es
     entries_viewed es s = entries_made o (viewed es) (viewed_sorted es s)
 

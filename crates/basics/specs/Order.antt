@@ -1,4 +1,4 @@
--- The order of texts: by their bytes, the shorter first where one begins the other.
+-- The order of texts: by their bytes; if one begins with the other, the shorter comes first.
 use Rattle.std.specs.Prelude.{◌≡◌, ℕ, List, Bool, Option, Some, nat_eq}
 use Rattle.std.specs.Hash as fed
 use Rattle.std.specs.Hash.{HashWrites}
@@ -7,19 +7,19 @@ use Rattle.std.specs.Ordering.{nat_cmp, eq_by_cmp}
 use Rattle.std.specs.Cmp.{IsPartialEquivalence, IsEquivalence, IsPartialOrder, IsTotalOrder, partial_equiv_from_equiv}
 use Rattle.std.specs.Cmp.Lexicographic.{slice_cmp, nat_list_cmp_total, nat_list_eq_equiv, texts_po, texts_ties, pointwise}
 
--- texts compared byte by byte
+-- The order of two texts, byte by byte.
 abbrev pub text_cmp : List ℕ → List ℕ → Ordering
 text_cmp = slice_cmp nat_cmp
 
--- whether two texts have the same bytes
+-- True if two texts have the same bytes.
 abbrev pub text_eq : List ℕ → List ℕ → Bool
 text_eq = pointwise nat_eq
 
--- the order of two texts; any two have one
+-- The order of two texts, as an option; it is never None.
 abbrev pub text_partial_cmp : List ℕ → List ℕ → Option Ordering
 text_partial_cmp x y = Some (slice_cmp nat_cmp x y)
 
--- what a text gives to a hasher
+-- The writes of a text to a hasher.
 abbrev pub text_hash : List ℕ → HashWrites
 text_hash = fed.slice fed.u8
 

@@ -3,45 +3,45 @@ use Rattle.basics.specs.Parts.{parts_after, parts_of}
 use Rattle.std.specs.List.{AllByRecursion, flat_map, list_all}
 use Rattle.std.specs.Prelude.{Bool, List, Option, not, true, ℕ, [], ◌&&◌, ◌++◌, ◌==◌, ◌∷◌, ◌≡◌}
 
--- one blank stands between two words
+-- The words of a text: the parts between single blanks.
 abbrev pub words_of : List ℕ → List (List ℕ)
 words_of text = parts_of 32 text
 
--- the words behind a blank, or none where the line has ended
+-- The words after a blank, or none if the line has ended.
 abbrev pub words_after : Option (List ℕ) → List (List ℕ)
 words_after rest = parts_after 32 rest
 
--- words with one blank between two
+-- The text of words, with one blank between two.
 abbrev pub joined : List (List ℕ) → List ℕ
 joined [] = []
 joined (w ∷ []) = w
 joined (w ∷ v ∷ ws) = w ++ 32 ∷ joined (v ∷ ws)
 
--- a line of words with its LF
+-- The line of these words, with its LF.
 abbrev pub ended : List (List ℕ) → List ℕ
 ended ws = joined ws ++ 10 ∷ []
 
--- the text of lines of words
+-- The text of these lines of words.
 abbrev pub text_of : List (List (List ℕ)) → List ℕ
 text_of ls = flat_map ended ls
 
--- no blank, LF or CR
+-- True if the byte is no blank, LF or CR.
 abbrev pub is_plain : ℕ → Bool
 is_plain b = not (b == 32) && (not (b == 10) && not (b == 13))
 
--- a text of plain bytes
+-- A text of such bytes.
 abbrev pub IsWord : List ℕ → Type 0
 IsWord w = list_all is_plain w ≡ true
 
--- a line of one word or more
+-- A line of one word or more.
 abbrev pub IsLine : List (List ℕ) → Type 0
 IsLine [] = ⊥
 IsLine (w ∷ ws) = IsWord w × AllByRecursion IsWord ws
 
--- no blank and no LF
+-- True if the byte is no blank and no LF.
 abbrev pub is_bare : ℕ → Bool
 is_bare b = not (b == 32) && not (b == 10)
 
--- a text of such bytes
+-- A text of such bytes.
 abbrev pub IsBare : List ℕ → Type 0
 IsBare w = list_all is_bare w ≡ true

@@ -2,7 +2,7 @@ ghost use Rattle.std.specs.Prelude.{◌≡◌, ◌<◌, ◌∷◌, length, optio
 ghost use Rattle.basics.specs.Lines.{lines_of, without_return};
 ghost use Rattle.basics.specs.Parts.{parts_of, parts_after};
 
-/// A line without one CR at its end.
+/// Returns the line without one CR at its end.
 fn trimmed(line: &str) -> &str
     ensures { result.now ≡ without_return line.now }
 {
@@ -12,8 +12,8 @@ fn trimmed(line: &str) -> &str
     }
 }
 
-/// The first line without its LF and without one CR before that, and what follows its LF. The last line
-/// may lack the LF; a CR at its end is then its own.
+/// Returns the first line without its LF and without one CR before that, and the text after its
+/// LF. The last line may lack the LF; a CR at its end is then part of it.
 pub fn next_line(text: &str) -> (&str, &str)
     requires { 0 < length text.now }
     ensures lines { lines_of text.now ≡ result.0.now ∷ lines_of result.1.now }
@@ -25,8 +25,8 @@ pub fn next_line(text: &str) -> (&str, &str)
     }
 }
 
-/// The first part of a text between ASCII separators, which may be empty, and what follows the separator
-/// behind it, where one stands there.
+/// Returns the first part of a text between ASCII separators, which may be empty, and the text
+/// after the separator, if there is one.
 pub fn next_field(separator: char, text: &str) -> (&str, Option<&str>)
     requires { separator < 128 }
     ensures parts { parts_of separator text.now ≡ result.0.now ∷ parts_after separator

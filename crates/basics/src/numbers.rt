@@ -26,7 +26,7 @@ fn value(text: &[u8]) -> u64
     n
 }
 
-/// The number that 1 to 18 decimal digits write; leading zeros are allowed, a sign is not.
+/// Returns the number that 1 to 18 decimal digits write. Leading zeros are allowed, a sign is not.
 pub fn number(text: &str) -> Option<u64>
     ensures { result ≡ number_of text.now }
 {
@@ -38,7 +38,7 @@ pub fn number(text: &str) -> Option<u64>
     }
 }
 
-/// The number that 1 to 18 decimal digits write, where it is from `low` to `high`.
+/// Returns the number that 1 to 18 decimal digits write, if it is from `low` to `high`.
 pub fn number_within(low: u64, high: u64, text: &str) -> Option<u64>
     ensures number { result ≡ number_in low high text.now }
     ensures within { IfSome result (λ n. (low ≤ n) × (n ≤ high)) }

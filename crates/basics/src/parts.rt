@@ -2,7 +2,7 @@ ghost use Rattle.std.specs.Prelude.{◌≡◌, ◌<◌, ◌≤◌, ◌∷◌, le
 ghost use Rattle.std.specs.List.{list_all};
 ghost use Rattle.basics.specs.Parts.{parts_of, parts_after, is_other};
 
-/// Where the first part ends.
+/// Returns the place where the first part ends.
 fn part_end(separator: u8, text: &[u8]) -> usize
     ensures within { result ≤ length text.now }
     ensures before { list_all (is_other separator) (take result text.now) ≡ true }
@@ -16,8 +16,8 @@ fn part_end(separator: u8, text: &[u8]) -> usize
     text.len()
 }
 
-/// The first part of a text, which may be empty, and what follows the separator behind it, where one
-/// stands there.
+/// Returns the first part of a text, which may be empty, and the text after the separator, if
+/// there is one.
 pub fn next_part(separator: u8, text: &[u8]) -> (&[u8], Option<&[u8]>)
     ensures parts { parts_of separator text.now ≡ result.0.now ∷ parts_after separator
         (option_map (λ r. r.now) result.1) }

@@ -1,4 +1,5 @@
-//! Lines of so many words. The words behind a line's first one are given as what follows its blank.
+//! Lines with a given number of words. The words after a line's first one are given as the text
+//! after its blank, or None if there is no blank.
 
 ghost use Rattle.std.specs.Prelude.{◌≡◌, ◌<◌, option_map};
 ghost use Rattle.basics.specs.Parts.{parts_of};
@@ -7,7 +8,7 @@ ghost use Rattle.basics.specs.Shapes as shapes;
 
 use crate::lines::next_field;
 
-/// The only word.
+/// Returns the word, if there is exactly one.
 pub fn one(rest: Option<&str>) -> Option<&str>
     ensures { option_map (λ w. w.now) result ≡ shapes.one (words_after (option_map (λ r. r.now) rest.entry)) }
 {
@@ -20,7 +21,7 @@ pub fn one(rest: Option<&str>) -> Option<&str>
     }
 }
 
-/// The only two words.
+/// Returns the words, if there are exactly two.
 pub fn two(rest: Option<&str>) -> Option<(&str, &str)>
     ensures { option_map (λ p. (p.0.now, p.1.now)) result
         ≡ shapes.two (words_after (option_map (λ r. r.now) rest.entry)) }
@@ -35,7 +36,7 @@ pub fn two(rest: Option<&str>) -> Option<(&str, &str)>
     }
 }
 
-/// The first two words, and what follows them.
+/// Returns the first two words, and the text after them.
 pub fn two_and_more(rest: Option<&str>) -> Option<(&str, &str, Option<&str>)>
     ensures { option_map (λ p. (p.0.now, p.1.now, words_after (option_map (λ r. r.now) p.2))) result ≡
         shapes.two_and_more (words_after (option_map (λ r. r.now) rest.entry)) }
@@ -51,7 +52,7 @@ pub fn two_and_more(rest: Option<&str>) -> Option<(&str, &str, Option<&str>)>
     Some((first, second, after))
 }
 
-/// The two parts of a text with one separator.
+/// Returns the two parts of a text with exactly one separator.
 pub fn two_parts(separator: char, text: &str) -> Option<(&str, &str)>
     requires { separator < 128 }
     ensures { option_map (λ p. (p.0.now, p.1.now)) result ≡ shapes.two (parts_of separator text.now) }
@@ -66,7 +67,7 @@ pub fn two_parts(separator: char, text: &str) -> Option<(&str, &str)>
     }
 }
 
-/// The only word, or that there is none.
+/// Returns the only word, or Some(None) if there is none; None if there are more.
 pub fn at_most_one(rest: Option<&str>) -> Option<Option<&str>>
     ensures { option_map (option_map (λ w. w.now)) result
         ≡ shapes.at_most_one (words_after (option_map (λ r. r.now) rest.entry)) }
@@ -80,7 +81,7 @@ pub fn at_most_one(rest: Option<&str>) -> Option<Option<&str>>
     }
 }
 
-/// What follows the blank, as the text of its words.
+/// Returns the text of the words, or None if there are none.
 pub fn text(rest: Option<&str>) -> Option<&str>
     ensures { option_map (λ t. t.now) result ≡ shapes.text (words_after (option_map (λ r. r.now) rest.entry)) }
 {

@@ -7,7 +7,7 @@ use Rattle.std.proofs.lemmas.List.{append-nil, take-append-drop}
 use Rattle.std.proofs.lemmas.List.Folds.{concat-append}
 use Rattle.std.specs.List.{concat}
 
--- one block more
+-- One block more.
 pub joined_more : (q : List (List ℕ)) (b rest head tail : List ℕ) → b ≡ rest ++ head
     → concat (q ++ b ∷ []) ++ tail ≡ concat q ++ (rest ++ (head ++ tail))
 joined_more q b rest head tail e =
@@ -15,12 +15,12 @@ joined_more q b rest head tail e =
     ∙ append_assoc (concat q) (rest ++ head) tail
     ∙ ap (λ x. concat q ++ x) (append_assoc rest head tail)
 
--- the block that is filled up
+-- The block that is filled up has the full length.
 pub filled : (n : ℕ) (b rest head : List ℕ) → b ≡ rest ++ head → length head ≡ n - length rest → length rest < n → length b ≡ n
 filled n b rest head e h l = let k : length (rest ++ head) ≡ length rest + length head = length-append rest head in ap length e ∙ omega
     arith
 
--- one turn: the rest is filled up to a block, and the rest is empty
+-- One turn of the loop: the rest is filled up to a block, and is then empty.
 pub turn : (n at : ℕ) (q q' : List (List ℕ)) (rest left head tail b none whole : List ℕ) → concat q ++ (rest ++ left) ≡ whole → AreLong n q
     → length rest < n → at ≡ n - length rest
     → head ≡ take at left → tail ≡ drop at left → length head ≡ at → b ≡ rest ++ head → q' ≡ q ++ b ∷ [] → none ≡ []

@@ -1,4 +1,4 @@
--- What a stream's blocks tell of what is pending.
+-- What a stream's blocks show of the pending bytes.
 use Rattle.basics.proofs.Naturals.{above_so, at_most_so}
 use Rattle.block_stream.proofs.FillingLaws.{AtStage, at_stage}
 use Rattle.block_stream.specs.Kept.{IsCutUp, first_of, is_due, is_short, is_whole, next_at, seen, settles, stage_by}
@@ -19,13 +19,13 @@ use Rattle.std.specs.Option.{unwrap_or}
 use Rattle.std.specs.Prelude.{Bool, List, None, Option, Some, cond, drop, false, length, nat_le, nat_lt, not, take, true, ℕ, [], ◌&&◌, ◌++◌}
 use Rattle.std.specs.Prelude.{◌+◌, ◌<◌, ◌||◌, ◌∷◌, ◌≡◌, ◌≤◌}
 
--- bytes that begin with a whole block
+-- Bytes that begin with a whole block.
 begins_whole : (n : ℕ) (b bs : List ℕ) → length b ≡ n → nat_le n (length (b ++ bs)) ≡ nat_le n (length b)
 begins_whole n b bs e =
     let k : length (b ++ bs) ≡ length b + length bs = length-append b bs in
     at_most_so n (length (b ++ bs)) (omega (arith, k, e)) ∙ sym (at_most_so n (length b) (omega (arith, e)))
 
--- whether a whole block is pending shows on the first
+-- A whole block is pending exactly if the first block is whole.
 pub whole_is : (n : ℕ) (closed : Bool) (q : List (List ℕ)) (r : List ℕ) → 1 ≤ n → IsCutUp n closed q r
     → is_whole n q ≡ nat_le n (length (concat q ++ r))
 whole_is n false [] r l h = sym (above_so n (length r) h.1)
@@ -49,7 +49,7 @@ some_is n (b ∷ c ∷ bs) r l h = let k : 0 < length b = omega (arith, h.0.0) i
 take_front : (n : ℕ) (b bs : List ℕ) → length b ≡ n → b ≡ take n (b ++ bs)
 take_front n b bs e = sym (take-append-le n b bs (omega (arith, e)) ∙ take_all n b (omega (arith, e)))
 
--- the next part is the first block
+-- The next part is the first block.
 pub first_is : (n : ℕ) (closed : Bool) (q : List (List ℕ)) (r : List ℕ) → IsCutUp n closed q r → (closed ≡ false → is_whole n q ≡ true)
     → first_of q ≡ take n (concat q ++ r)
 first_is n false [] r h w = let e : false ≡ true = w refl in absurd (cc)
@@ -61,7 +61,7 @@ first_is n true (b ∷ c ∷ bs) r h w = take_front n b (concat (c ∷ bs) ++ r)
 drop_front : (n : ℕ) (b bs : List ℕ) → length b ≡ n → drop n (b ++ bs) ≡ bs
 drop_front n b bs e = ap (λ k. drop k (b ++ bs)) (sym e) ∙ drop-append_seam b bs
 
--- what is pending without the next part
+-- The pending bytes without the next part.
 pub drop_is : (n : ℕ) (closed : Bool) (q : List (List ℕ)) (r : List ℕ) → IsCutUp n closed q r → (closed ≡ false → is_whole n q ≡ true)
     → drop n (concat q ++ r) ≡ concat (drop 1 q) ++ r
 drop_is n false [] r h w = let e : false ≡ true = w refl in absurd (cc)
@@ -70,7 +70,7 @@ drop_is n true [] r h w = ap (drop n) h.1 ∙ (let l : length {A = ℕ} [] ≤ n
 drop_is n true (b ∷ []) r h w = ap (drop n) (append_assoc b [] r ∙ ap (λ x. b ++ x) h.1 ∙ append-nil b) ∙ drop_all n b h.0.1 ∙ sym h.1
 drop_is n true (b ∷ c ∷ bs) r h w = ap (drop n) (append_assoc b (concat (c ∷ bs)) r) ∙ drop_front n b (concat (c ∷ bs) ++ r) h.0.0
 
--- the blocks without the first are cut up alike
+-- The blocks without the first are cut in the same way.
 pub cut_rest : (n : ℕ) (closed : Bool) (q : List (List ℕ)) (r : List ℕ) → IsCutUp n closed q r → IsCutUp n closed (drop 1 q) r
 cut_rest n closed q r h = grind arith
 
@@ -101,7 +101,7 @@ module _ (mode : StreamMode) (bucket key : List ℕ) (n : ℕ) (q : List (List �
     waits : (v : Option ℕ) → is_whole n q ≡ false → stage_by mode n q false tags v ≡ Waiting
     waits v h = grind arith
 
-    -- what is asked, by the blocks
+    -- the request, from the blocks
     pub asks_is : (closed : Bool) → 1 ≤ n → IsCutUp n closed q r
         → asks_with (stage_by mode n q closed tags u) bucket key (unwrap_or u 0) tags (first_of q) ≡ wanted (stream closed)
     asks_is closed h g = grind (arith, first_is, stage_is, waits)
@@ -115,11 +115,11 @@ settles_now mode g h e = grind arith
 both : (a b c : Bool) → (a && (not b && not c)) ≡ true → (a ≡ true) × (b ≡ false) × (c ≡ false)
 both a b c h = grind arith
 
--- with no part answered a part is due at the close
+-- A closed stream without an answered part has a part to send.
 pub first_part : (m : Stream) → m.closed ≡ true → m.tags ≡ [] → has_part m ≡ true
 first_part m h g = grind arith
 
--- the stage of a closed stream that has an upload and no part to send
+-- The stage of a closed stream that has an upload and no part to send.
 completing : (v : Option ℕ) (m : Stream) → m.closed ≡ true → has_part m ≡ false → (v ≡ None → m.tags ≡ []) → stage_of None v m ≡ Completing
 completing v m h g e = grind arith
 
@@ -128,7 +128,7 @@ module _ (mode : StreamMode) (bucket key : List ℕ) (n : ℕ) (q : List (List �
   abbrev here : Stream
   here = seen mode bucket key n q r u tags count closed None
 
-  -- what the fields tell, and what is asked, once it is seen whether the stream has ended
+  -- what the fields stand for and the request, for each outcome of whether the stream has ended
   abbrev IsNext : Stage × Option StreamEnd → Stream → Type 0
   IsNext g m = (seen mode bucket key n q r u tags count closed g.1 ≡ m) × ((next_at g bucket key q tags u).0 ≡ wanted m)
 

@@ -1,4 +1,4 @@
--- What driving a stream that is alone leaves.
+-- What driving a stream alone leaves.
 use Rattle.block_stream.proofs.Ended.{stored}
 use Rattle.block_stream.proofs.FillingLaws.{settled_by}
 use Rattle.block_stream.proofs.KeepingLaws.{gave_up, hidden, lost, took}
@@ -27,7 +27,7 @@ use Rattle.s3_types.specs.declared.request.Actor.{Actor}
 use Rattle.std.proofs.Common.{arith, refl, subst, sym, ◌∙◌}
 use Rattle.std.specs.Prelude.{Bool, Err, IfOk, List, Ok, Option, Result, false, true, ℕ, ◌≡◌}
 
--- each sending keeps what a stream holds
+-- Each send keeps what a stream holds.
 holds_kept : (bytes : List ℕ) → Keeps wanted moved (λ m s repeated. Holds m s repeated bytes)
 holds_kept bytes = record {
   lost = λ m s b h. lost m s b bytes h;
@@ -73,7 +73,7 @@ same_told Completing m b (Completed t) = record { mode = refl; bucket = refl; ke
 same_told Completing m b (Refused r) = same_refused m b r
 same_told _ m b _ = the_same m
 
--- no item changes what the output is
+-- No reply changes what the output is.
 same_kept : (m : Stream) → Keeps wanted moved (λ m' s repeated. IsSameOutput m m')
 same_kept m = record {
   lost = λ m' s b h. h;
@@ -87,7 +87,7 @@ module _ (actor : Actor) (event : ℕ) (t t' : Retrying Stream) (s s' : Scene) (
   abbrev Ran : Result (Unit {0}) DriveStop → Type 0
   Ran result = Drove wanted moved IsReady standing actor event t t' s s' old new before now foretold first result
 
-  -- where it went on to its end, what was written is held
+  -- if the drive went on to its end, what was written is held
   holds_over : (d : Ran (Ok tt)) → (bytes : List ℕ) → Holds t.machine s t.repeated bytes → Holds t'.machine s' t'.repeated bytes
   holds_over d bytes h =
       let k = kept_run (holds_kept bytes) t.retries (retried t) s d.part d.is_run.follows d.is_run.honest h in
@@ -108,7 +108,7 @@ module _ (actor : Actor) (event : ℕ) (t t' : Retrying Stream) (s s' : Scene) (
   holds_if (Ok tt) d = holds_over d
   holds_if (Err e) d = tt
 
-  -- a closed stream with no fault has then stored what was written
+  -- a closed stream without a fault has then stored what was written
   pub stored_if : (result : Result (Unit {0}) DriveStop) → Ran result
       → IfOk result (λ _. t.machine.closed ≡ true → standing t.machine ≡ Fine → (bytes : List ℕ) → Holds t.machine s t.repeated bytes
       → IsStored t'.machine s' bytes)

@@ -1,4 +1,4 @@
--- Laws of an upload that is being filled: its parts, its room, and what is known once all was sent. Contracts cite none of them.
+-- Laws of an upload that is being filled: its parts, its room, and what holds after all was sent. Contracts cite none of them.
 use Rattle.basics.proofs.Bools.{not_so}
 use Rattle.basics.proofs.Lists.{one_longer}
 use Rattle.basics.proofs.Tree.{insert_same}
@@ -31,7 +31,7 @@ use Rattle.std.specs.Prelude.{Bool, List, None, Option, Some, cond, drop, false,
 use Rattle.std.specs.Prelude.{◌<◌, ◌∷◌, ◌≡◌, ◌≤◌, ◌⊎◌}
 use Rattle.std.specs.FinMap as fin
 
--- ---- what a stage tells
+-- ---- what a stage shows
 
 abbrev pub AtStage : Stage → Stream → Type 0
 AtStage Putting m = (m.end ≡ None) × (m.upload ≡ None) × (is_small m ≡ true)
@@ -56,7 +56,7 @@ at_stage m = at_by m.end m.upload m refl refl
 
 -- ---- the bucket that is written to
 
--- what a request leaves of a bucket that is there
+-- What a request leaves of a bucket that exists.
 bucket_after : (c : Content) (b : BucketContent) (r : Request) (o : Option BucketContent) → o ≡ Some b
     → fin.get (apply_at o c r).buckets (bucket_of r) ≡ Some (apply_in b c.next c.minimum r)
 bucket_after c b r o h = ap (λ o. fin.get (apply_at o c r).buckets (bucket_of r)) h ∙ get_same text_total c.buckets (bucket_of r)
@@ -65,18 +65,18 @@ bucket_after c b r o h = ap (λ o. fin.get (apply_at o c r).buckets (bucket_of r
 minimum_after : (c : Content) (r : Request) (o : Option BucketContent) → (apply_at o c r).minimum ≡ c.minimum
 minimum_after c r o = grind arith
 
--- a request to the store that names the stream's bucket
+-- A request to the store that names the stream's bucket.
 pub record IsStoreRequest (r : Request) (bucket : List ℕ) (s : Scene) : Type 0 where
   pub names : bucket_of r ≡ bucket
   pub applied : (apply s r).content ≡ apply_at (fin.get s.content.buckets (bucket_of r)) s.content r
   pub answered : answer s r ≡ answer_at (fin.get s.content.buckets (bucket_of r)) s.content.next s.content.minimum r
 
--- the same stream's place in a scene
+-- The scene has the stream's bucket, and a least part that fits.
 pub record IsPlace (bucket : List ℕ) (block : ℕ) (s : Scene) (c : BucketContent) : Type 0 where
   pub there : fin.get s.content.buckets bucket ≡ Some c
   pub least : s.content.minimum ≤ block
 
--- a request leaves it there, and is answered there
+-- A request leaves the bucket there, and is answered from it.
 pub sent_to : (bucket : List ℕ) (block : ℕ) (s : Scene) (r : Request) (c : BucketContent) → IsStoreRequest r bucket s
     → IsPlace bucket block s c
     → IsPlace bucket block (apply s r) (apply_in c s.content.next s.content.minimum r)
@@ -100,9 +100,9 @@ room_last k n h = grind arith
 pub is_number : (n : ℕ) → n < 10000 → is_part_number (n + 1) ≡ true
 is_number n h = grind (arith, nat_tests)
 
--- ---- a part that is due
+-- ---- a part to send
 
--- the next part is a whole block, or the last of a closed stream
+-- The next part is a whole block, or the last one of a closed stream.
 pub data Due (m : Stream) : Type 0 where
   Whole : m.block ≤ length m.pending → Due m
   Last : length m.pending < m.block → m.closed ≡ true → (0 < length m.pending) ⊎ (m.tags ≡ []) → Due m
@@ -113,7 +113,7 @@ due m h = grind arith
 pub due_number : (m : Stream) → HasRoom m → Due m → length m.tags < 10000
 due_number m h g = grind arith
 
--- what a part that is put at once tells
+-- What holds of an output that is put at once.
 pub small_parts : (m : Stream) → is_small m ≡ true → (is_direct m.mode ≡ true) × (m.closed ≡ true) × (length m.pending < m.block)
 small_parts m h = grind arith
 
@@ -176,7 +176,7 @@ the_same : (bs : List (List ℕ)) (n : ℕ) (x : List ℕ) → n ≡ length bs
 the_same bs n x e = ap (λ k. fin.insert (numbered (bs ++ x ∷ [])) (k + 1) x) e ∙ insert_same nat_cmp_total exact_unsigned
     (numbered (bs ++ x ∷ [])) (length bs + 1) x (last_stands bs x)
 
--- the part is there once it was sent, be it again
+-- The part is there after it was sent, even if it was sent again.
 pub sent_now : (m : Stream) (c : BucketContent) (id next minimum : ℕ) (repeated : Bool) (bytes : List ℕ) (f : Fills m c id repeated bytes)
     → length m.tags < 10000
     → HasParts (apply_in c next minimum (UploadPart m.bucket m.key id (length m.tags + 1) (chunk m))) id m.key (f.sent ++ chunk m ∷ [])
@@ -206,7 +206,7 @@ has_mapped : (bs : List (List ℕ)) → has_some (map plain_tag bs) ≡ true →
 has_mapped [] h = absurd (cc)
 has_mapped (b ∷ bs) h = omega arith
 
--- of blocks of which none is short the last is not empty
+-- If no block is short, the last one is not empty.
 are_blocks : (n : ℕ) (bs : List (List ℕ)) → 1 ≤ n → 0 < length bs → AreLong n bs → (k : AreBlocks n bs) × (0 < length k.last)
 are_blocks n [] l p h = absurd (omega (arith, p))
 are_blocks n (b ∷ []) l p h =
@@ -227,7 +227,7 @@ are_blocks n (b ∷ c ∷ bs) l p h =
       k.1,
     )
 
--- what a filled upload has once all was sent
+-- What a filled upload has after all was sent.
 pub full : (m : Stream) (c : BucketContent) (id : ℕ) (repeated : Bool) (bytes : List ℕ) → HasRoom m → has_part m ≡ false → m.closed ≡ true
     → Fills m c id repeated bytes → IsUpload m c id bytes
 full m c id repeated bytes r n o f =
@@ -247,7 +247,7 @@ full m c id repeated bytes r n o f =
       tags = f.tags;
     }
 
--- ---- settling
+-- ---- a delayed output that is done
 
 delayed_written : (mode : StreamMode) (m : Stream) (c : BucketContent) (bytes : List ℕ) → is_direct mode ≡ false
     → IsUploadOf m.upload m c bytes → IsWritten mode m c bytes
@@ -257,11 +257,11 @@ pub direct_written : (mode : StreamMode) (m : Stream) (c : BucketContent) (bytes
     → fin.get c.objects m.key ≡ Some (record { bytes = bytes; header = None }) → IsWritten mode m c bytes
 direct_written mode m c bytes h g = grind arith
 
--- what is so of a stream that goes on, and of one that is done, is so once it is settled
+-- What holds of a stream that goes on, and of one that is done, holds of it after `settled`.
 pub settled_by : (P : Stream → Type 0) (m : Stream) → P (ended m Done) → P m → P (settled m)
 settled_by P m e h = elim (is_settled m) as (λ z. P (cond z (ended m Done) m)) [ true ↦ e | false ↦ h ]
 
--- what is held, by the fields that tell where the stream stands
+-- What is held, given the end and the upload of the stream.
 pub held_at : (m : Stream) (c : BucketContent) (repeated : Bool) (bytes : List ℕ) (e : Option StreamEnd) (u : Option ℕ) → m.end ≡ e
     → m.upload ≡ u → HoldsIn m.end m.upload m c repeated bytes → HoldsIn e u m c repeated bytes
 held_at m c repeated bytes e u p q h = subst (λ v. HoldsIn e v m c repeated bytes) q

@@ -32,7 +32,7 @@ room_wrote m piece o l r = record { some = r.some; few = few m.end refl; counted
 pub room_shut : (m : Stream) → HasRoom m → HasRoom (shut m)
 room_shut m r = record { some = r.some; few = r.few; counted = λ o e. absurd (true≢false o) }
 
--- while a stream is open, only a whole block is due
+-- While a stream is open, only a whole block may be sent.
 pub open_due : (m : Stream) → m.closed ≡ false → has_part m ≡ true → m.block ≤ length m.pending
 open_due m o h = elim (due m h) [ Whole l ↦ l | Last l c k ↦ absurd (true≢false (sym c ∙ o)) ]
 
@@ -43,7 +43,7 @@ pub longer : (n : ℕ) (xs ys : List ℕ) → n ≤ length xs → n ≤ length (
 longer n xs ys l = let k : length (xs ++ ys) ≡ length xs + length ys = length-append xs ys in omega arith
 
 module _ (m : Stream) (s : Scene) (repeated : Bool) (bytes : List ℕ) (unclosed : m.closed ≡ false) (h : Holds m s repeated bytes) where
-  -- the same where no fault came
+  -- the same if no fault came
   abbrev longer_by : List ℕ → Stream
   longer_by piece = record {
     mode = m.mode;

@@ -1,4 +1,4 @@
--- Each change keeps what the fields of a stream keep.
+-- Each change keeps the conditions on the fields of a stream.
 use Rattle.block_stream.proofs.Cuts.{asks_is, cut_rest, drop_is, first_is, first_part, next_is}
 use Rattle.block_stream.proofs.FillingLaws.{AtStage, at_stage, due, room_after, room_begun, room_ended, settled_by}
 use Rattle.block_stream.proofs.Grown.{room_shut, room_wrote}
@@ -21,7 +21,7 @@ use Rattle.std.specs.List.{concat}
 use Rattle.std.specs.Prelude.{Bool, List, None, Option, Some, cond, drop, false, length, true, ℕ, [], ◌*◌, ◌++◌, ◌+◌, ◌-◌, ◌<◌, ◌∷◌, ◌≡◌}
 use Rattle.std.specs.Prelude.{◌≤◌}
 
--- the fields of a stream that has not ended are cut up
+-- The fields of a stream that has not ended are cut into blocks.
 pub cut_of : (e : Option StreamEnd) (n : ℕ) (closed : Bool) (q : List (List ℕ)) (r : List ℕ) → IsCutUp n closed q r → CutUp e n closed q r
 cut_of e n closed q r h = grind arith
 
@@ -38,7 +38,7 @@ long_both : (n : ℕ) (q l : List (List ℕ)) → AreLong n q → AreLong n l �
 long_both n [] l h k = k
 long_both n (b ∷ q) l h k = (h.0, long_both n q l h.1 k)
 
--- whole blocks, and the rest as the last one
+-- Whole blocks, with the rest as the last one.
 long_cut : (n : ℕ) (q : List (List ℕ)) → 1 ≤ n → AreLong n q → AreCut n q
 long_cut n [] l h = tt
 long_cut n (b ∷ []) l h = let a : 0 < length b = omega (arith, h.0) in let c : length b ≤ n = omega (arith, h.0) in (a, c)
@@ -65,11 +65,11 @@ module _ (mode : StreamMode) (bucket key : List ℕ) (n : ℕ) (q : List (List �
     abbrev at : Bool → Option StreamEnd → Stream
     at closed e = seen mode bucket key n q r u tags count closed e
 
-    -- a stream that has not ended is cut up
+    -- the fields of a stream that has not ended are cut into blocks
     cut_in : (closed : Bool) (e : Option StreamEnd) → e ≡ None → CutUp e n closed q r → IsCutUp n closed q r
     cut_in closed e p h = subst (λ v. CutUp v n closed q r) p h
 
-    -- where a part is due, the first block is it
+    -- if a part is to be sent, it is the first block
     due_whole : (closed : Bool) (e : Option StreamEnd) → 1 ≤ n → IsCutUp n closed q r → has_part (at closed e) ≡ true → closed ≡ false
         → is_whole n q ≡ true
     due_whole closed e h g f p = grind arith
@@ -91,7 +91,7 @@ module _ (mode : StreamMode) (bucket key : List ℕ) (n : ℕ) (q : List (List �
           cut = k.cut;
         }
 
-    -- the fields after a part that was answered
+    -- the fields after a part was answered
     pub part_kept : (closed : Bool) (e : Option StreamEnd) (a : Option Request) (t : Spelled) (x : Option Request × Option StreamEnd)
         → IsKept (at closed e) q r a → stage (at closed e) ≡ Sending
         → x ≡ next_by mode bucket key n (drop 1 q) closed (tags ++ t ∷ []) u
@@ -137,7 +137,7 @@ module _ (mode : StreamMode) (bucket key : List ℕ) (n : ℕ) (q : List (List �
         (seen mode bucket key n q' r' u tags count' closed e ≡ wrote (at closed e) piece)
         × IsKept (seen mode bucket key n q' r' u tags count' closed e) q' r' b
 
-    -- the fields after a piece, in these blocks and this rest
+    -- the fields after a piece, with these blocks and this rest
     wrote_kept : (e : Option StreamEnd) (a b : Option Request) (piece : List ℕ) (closed : Bool) (q' : List (List ℕ)) (r' : List ℕ)
         → closed ≡ false → e ≡ None
         → count + length piece ≤ n * 10000 → IsKept (at closed e) q r a
@@ -261,7 +261,7 @@ module _ (mode : StreamMode) (bucket key : List ℕ) (n : ℕ) (q : List (List �
           },
         )
 
-    -- the same, where the fields are told by equations
+    -- the same for fields that are given by equations
     abbrev IsParted : Bool → Option StreamEnd → Spelled → List (List ℕ) → List Spelled → Option Request → Option StreamEnd → Type 0
     IsParted closed e t q' tags' b e' = (seen mode bucket key n q' r u tags' count closed e' ≡ settled (parted (at closed e) t))
         × IsKept (seen mode bucket key n q' r u tags' count closed e') q' r b

@@ -1,4 +1,4 @@
--- Laws of a stream that is alone: it holds what was written, whatever the store loses. Contracts cite none of them.
+-- Laws of a stream that is driven alone: it holds what was written, whatever the store loses. Contracts cite none of them.
 use Rattle.basics.proofs.Lists.{one_longer}
 use Rattle.basics.specs.Order.{text_total}
 use Rattle.block_stream.proofs.FillingLaws.{AtStage, Due, IsPlace, IsStoreRequest, Last, Whole, at_stage, direct_written, due, due_number}
@@ -35,7 +35,7 @@ use Rattle.std.specs.FinMap as fin
 
 -- ---- what is known at each stage
 
--- a part is due, so all that was sent are whole blocks
+-- If a part is to be sent, all sent parts are whole blocks.
 all_long : (m : Stream) (c : BucketContent) (id : ℕ) (repeated : Bool) (bytes : List ℕ) → HasRoom m → has_part m ≡ true
     → (f : Fills m c id repeated bytes) → AreLong m.block f.sent
 all_long m c id repeated bytes r d f =
@@ -102,7 +102,7 @@ fills_more m c c' id repeated bytes r d f h = record {
   cut = cut_more m f.sent (plain_tag (chunk m)) (all_long m c id repeated bytes r d f) f.tags (due m d);
 }
 
--- the same with its parts told anew
+-- The same with its parts in another bucket content.
 refilled : (m : Stream) (c d : BucketContent) (id : ℕ) (repeated : Bool) (bytes : List ℕ) (f : Fills m c id repeated bytes) (again : Bool)
     → HasParts d id m.key f.sent ⊎ ((again ≡ true) × (has_part m ≡ true) × HasParts d id m.key (f.sent ++ chunk m ∷ []))
     → Fills m d id again bytes
@@ -110,7 +110,7 @@ refilled m c d id repeated bytes f again p = record { sent = f.sent; parts = p; 
 
 -- ---- the completion
 
--- the tags that are named find their parts, and joined these are what was written
+-- The tags that are named find their parts, and these joined are what was written.
 joins : (m : Stream) (c : BucketContent) (id : ℕ) (repeated : Bool) (bytes : List ℕ) (minimum : ℕ) → minimum ≤ m.block → HasRoom m
     → has_part m ≡ false → m.closed ≡ true → Fills m c id repeated bytes
     → joined (live c.uploads m.key id) (named_from 1 m.tags) minimum ≡ Ok bytes
@@ -129,12 +129,12 @@ gone_now : (c : BucketContent) (id : ℕ) (key : List ℕ) → live (fin.remove 
 gone_now c id key = ap (with_key key) (get-remove nat_cmp_total c.uploads id id ∙ ap (λ b. cond b None (fin.get c.uploads id))
     ((eq_by_cmp_equiv nat_cmp_total).refl id))
 
--- what a completion is answered: its tag, or where it took effect before, that there is no upload
+-- The reply to a completion: its tag, or, if it took effect before, that the upload does not exist.
 pub data Ends (m : Stream) (repeated : Bool) (a : Reply) : Type 0 where
   Fresh : (t : Spelled) → a ≡ Completed t → Ends m repeated a
   Before : a ≡ Refused NoSuchUpload → repeated ≡ true → Ends m repeated a
 
--- what a bucket is after a completion, and what that is answered
+-- What a bucket is after a completion, and the reply to it.
 complete_now : (m : Stream) (c : BucketContent) (next minimum : ℕ) (repeated : Bool) (bytes : List ℕ) → minimum ≤ m.block → HasRoom m
     → has_part m ≡ false → m.closed ≡ true
     → (Fills m c (id_of m) repeated bytes × (is_settled m ≡ false)) ⊎ IsHidden m c (id_of m) repeated bytes
@@ -161,18 +161,18 @@ complete_now m c next minimum repeated bytes least r n o (inr h) =
       Before (ap (complete_answer (named_from 1 m.tags)) j) h.again,
     )
 
--- ---- an effect whose answer is lost, and an answer that is taken
+-- ---- an effect whose reply is lost, and a reply that is taken
 
 small_whole : (m : Stream) → is_small m ≡ true → chunk m ≡ m.pending
 small_whole m h = grind (arith, small_parts, take_all)
 
--- where a part is due, nothing is settled
+-- If a part is to be sent, the stream is not settled.
 pub unsettled : (m : Stream) → has_part m ≡ true → is_settled m ≡ false
 unsettled m h = grind arith
 
--- ---- what is left falls
+-- ---- the number of requests that are left falls
 
--- while it goes on, something is left
+-- While the stream goes on, something is left.
 pub some_left : (m : Stream) → m.end ≡ None → 0 < left m
 some_left m e = subst (λ v. 0 < left_by v m) (sym e) (omega arith)
 
@@ -204,7 +204,7 @@ module _ (m : Stream) (s : Scene) (repeated : Bool) (bytes : List ℕ) (h : Hold
   abbrev after : Request → BucketContent
   after r = apply_in h.content s.content.next s.content.minimum r
 
-  -- its effect, whose answer is lost, keeps what was held, and its answer fits and leads on with less left
+  -- if the request takes effect and its reply is lost, what was held is kept; its reply fits, and after it less is left
   record IsSent (g : Stage) (r : Request) : Type 0 where
     hidden : Holds m (apply s r) true bytes
     took : Holds (told g m repeated (answer s r)) (apply s r) false bytes
@@ -325,7 +325,7 @@ pub falls : (m : Stream) (s : Scene) (repeated : Bool) (bytes : List ℕ) → Ho
     → left (told (stage m) m repeated (answer s r)) < left m
 falls m s repeated bytes h r w = (all m s repeated bytes h r w).falls
 
--- a later sending is a repeated one
+-- After a lost request the next one is a repeated one.
 pub lost : (m : Stream) (s : Scene) (repeated : Bool) (bytes : List ℕ) → Holds m s repeated bytes → Holds m s true bytes
 lost m s repeated bytes h = holds_of m s true bytes h.content (place_of h) h.room (again m.end m.upload h.held)
   where
@@ -347,13 +347,13 @@ lost m s repeated bytes h = holds_of m s true bytes h.content (place_of h) h.roo
     again (Some Done) u i = i
     again (Some e) u i = i
 
--- of a request that wore out nothing more is said
+-- After a request that exhausted its retries nothing more is promised.
 pub gave_up : (m : Stream) (s : Scene) (repeated : Bool) (bytes : List ℕ) → Holds m s repeated bytes
     → Holds (ended m StoreFault) s false bytes
 gave_up m s repeated bytes h = holds_of (ended m StoreFault) s false bytes h.content (record { there = h.there; least = h.least })
     (room_ended m StoreFault h.room) tt
 
--- what asks has not ended
+-- A stream with a request has not ended.
 pub asks_alive : (m : Stream) (r : Request) → wanted m ≡ Some r → m.end ≡ None
 asks_alive m r w = (elim m.end as (λ e. m.end ≡ e → asks (stage_of e m.upload m) m ≡ Some r → m.end ≡ None)
     [ None ↦ λ p w. p | Some e ↦ λ p w. absurd (cc) ]) refl w

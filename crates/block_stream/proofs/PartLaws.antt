@@ -20,7 +20,7 @@ use Rattle.std.specs.Prelude.{◌++◌, ◌+◌, ◌-◌, ◌<◌, ◌∷◌, �
 use Rattle.std.specs.declared.cmp.Ordering.{Ordering}
 use Rattle.std.specs.FinMap as fin
 
--- what was put stands
+-- What was put is there.
 pub get_same : {K X : Type 0} {R : K → K → Ordering} (o : IsTotalOrder R) (m : FinMap R X) (k : K) (v : X)
     → fin.get (fin.insert m k v) k ≡ Some v
 get_same o m k v = get-insert o m k v k ∙ ap (λ b. cond b (Some v) (fin.get m k)) ((eq_by_cmp_equiv o).refl k)
@@ -30,7 +30,7 @@ get_lower m k v q h =
     let e : eq_by_cmp nat_cmp q k ≡ false = grind (arith, nat_tests) in
     get-insert nat_cmp_total m k v q ∙ ap (λ b. cond b (Some v) (fin.get m q)) e
 
--- one part more
+-- One part more.
 pub numbered_more : (n : ℕ) (m : Parts) (bs : List (List ℕ)) (x : List ℕ)
     → numbered_from n m (bs ++ x ∷ []) ≡ fin.insert (numbered_from n m bs) (length bs + n) x
 numbered_more n m [] x =
@@ -40,7 +40,7 @@ numbered_more n m (b ∷ bs) x =
     let e : length bs + (n + 1) ≡ length (b ∷ bs) + n = omega arith in
     numbered_more (n + 1) (fin.insert m n b) bs x ∙ ap (λ k. fin.insert (numbered_from (n + 1) (fin.insert m n b) bs) k x) e
 
--- the parts from n on are these
+-- Holds if the parts from n on are these.
 abbrev pub StandFrom : Parts → ℕ → List (List ℕ) → Type 0
 StandFrom m n [] = Unit {0}
 StandFrom m n (b ∷ bs) = (fin.get m n ≡ Some b) × StandFrom m (n + 1) bs
@@ -54,7 +54,7 @@ numbered_stand n m [] = tt
 numbered_stand n m (b ∷ bs) =
     (lower_kept (n + 1) (fin.insert m n b) bs n (omega arith) ∙ get_same nat_cmp_total m n b, numbered_stand (n + 1) (fin.insert m n b) bs)
 
--- the last part stands
+-- The last part is there.
 pub last_stands : (bs : List (List ℕ)) (x : List ℕ) → fin.get (numbered (bs ++ x ∷ [])) (length bs + 1) ≡ Some x
 last_stands bs x = ap (λ m. fin.get m (length bs + 1)) (numbered_more 1 fin.empty bs x) ∙ get_same nat_cmp_total (numbered bs)
     (length bs + 1) x
@@ -98,7 +98,7 @@ rise : (n : ℕ) (ts : List Spelled) → rises (named_from n ts) ≡ true
 rise n [] = refl
 rise n (t ∷ ts) = let l : n < n + 1 = omega arith in all_rise n (n + 1) ts l
 
--- all but the last
+-- All but the last.
 front_named : (n : ℕ) (ts : List Spelled) (t : Spelled) → take (length ts) (named_from n (ts ++ t ∷ [])) ≡ named_from n ts
 front_named n [] t = refl
 front_named n (x ∷ ts) t = ap (λ l. record { number = n; tag = x } ∷ l) (front_named (n + 1) ts t)
@@ -111,7 +111,7 @@ not_none : (n : ℕ) (ts : List Spelled) (t : Spelled) → is_none_named (named_
 not_none n [] t = refl
 not_none n (x ∷ ts) t = refl
 
--- blocks of no less than the minimum are joined
+-- Blocks no shorter than the minimum are joined.
 module _ (u : Upload) (f : List (List ℕ)) (x : List ℕ) (size minimum : ℕ) (is : u.parts ≡ numbered (f ++ x ∷ [])) (long : AreLong size f)
     (least : minimum ≤ size) where
   abbrev tags : List Spelled

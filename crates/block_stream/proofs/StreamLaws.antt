@@ -14,11 +14,11 @@ use Rattle.s3_types.specs.declared.reply.Reply.TheVariants.{Completed, Part, Ref
 use Rattle.std.proofs.Common.{ap, arith, refl, sym, ◌∙◌}
 use Rattle.std.specs.Prelude.{Bool, false, true, ◌≡◌}
 
--- no reply is a fault of the store or of memory
+-- No reply is a fault of the store or of memory.
 fine_refused : (m : Stream) (b : Bool) (r : Refusal) → standing m ≡ Fine → is_no_upload r ≡ true → standing (refused m b r) ≡ Fine
 fine_refused m b r h g = grind arith
 
--- at a stage that asks
+-- The same at a stage with a request.
 fine_told : (g : Stage) (m : Stream) (b : Bool) (a : Reply) → standing m ≡ Fine → answers g a ≡ true → standing (told g m b a) ≡ Fine
 fine_told Putting m b (Stored t) h k = refl
 fine_told Beginning m b (Upload id) h k = h

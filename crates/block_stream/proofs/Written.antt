@@ -24,7 +24,7 @@ use Rattle.std.specs.FinMap as fin
 no_parts : (n : ℕ) → n * 0 + 0 ≡ 0
 no_parts n = grind arith
 
--- of a stream that was just made nothing was written
+-- A stream that was just made holds no bytes.
 fresh_holds : (mode : StreamMode) (bucket key : List ℕ) (n : ℕ) (s : Scene) (c : BucketContent) → 1 ≤ n
     → fin.get s.content.buckets bucket ≡ Some c → s.content.minimum ≤ n → Holds (fresh mode bucket key n) s false []
 fresh_holds mode bucket key n s c some there least =
@@ -51,13 +51,13 @@ pub holds_closed : (m m' : Stream) → m.closed ≡ false → m' ≡ close m →
     → Holds m s repeated bytes → Holds m' s repeated bytes
 holds_closed m m' o e s b bytes h = subst (λ v. Holds v s b bytes) (sym e) (holds_close m s b bytes o h)
 
--- ---- what is asked
+-- ---- the request
 
--- an open stream that asks something has a part to send
+-- An open stream with a request has a part to send.
 part_due : (m : Stream) → m.closed ≡ false → (r : Request) → wanted m ≡ Some r → has_part m ≡ true
 part_due m h r g = grind arith
 
--- after a fault the close changes nothing else
+-- After the end the close changes nothing else.
 pub shut_ended : (m : Stream) → is_some m.end ≡ true → shut m ≡ close m
 shut_ended m h = (elim m.end as (λ e. is_some e ≡ true → shut m ≡ closed_by e m) [ Some e ↦ λ h. refl | None ↦ λ h. absurd (cc) ]) h
 
@@ -78,7 +78,7 @@ open_not_small m o = ap (λ b. is_direct m.mode && (b && nat_lt (length m.pendin
 large_not_small : (m : Stream) → m.block ≤ length m.pending → is_small m ≡ false
 large_not_small m h = grind arith
 
--- with more pending, or closed, the same is asked
+-- With more bytes pending, or after the close, the request is the same.
 wrote_asked : (m : Stream) (piece : List ℕ) → m.closed ≡ false → (r : Request) → wanted m ≡ Some r → wanted (wrote m piece) ≡ wanted m
 wrote_asked m piece o r w =
     let e = asks_alive m r w in

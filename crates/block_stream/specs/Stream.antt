@@ -1,4 +1,4 @@
--- A block output stream, as a state that pieces, replies and the close move on (Hadoop, S3A: fs.s3a.fast.upload, block output; Amazon S3
+-- A block output stream, as a state that pieces, replies and the close change (Hadoop, S3A: fs.s3a.fast.upload, block output; Amazon S3
 -- API: multipart upload).
 use Rattle.block_stream.specs.declared.mode.StreamEnd.{StreamEnd}
 use Rattle.block_stream.specs.declared.mode.StreamEnd.TheVariants.{Done, Gone, NoMemory, StoreFault}
@@ -20,7 +20,7 @@ use Rattle.std.specs.Option.{unwrap_or}
 use Rattle.std.specs.Prelude.{Bool, List, None, Option, Some, cond, drop, false, length, nat_le, nat_lt, not, take, true, ℕ, [], ◌&&◌, ◌++◌}
 use Rattle.std.specs.Prelude.{◌+◌, ◌||◌, ◌∷◌, ◌≡◌}
 
--- a block output stream
+-- A block output stream.
 pub record Stream : Type 0 where
   pub mode : StreamMode
   pub bucket : List ℕ
@@ -29,16 +29,16 @@ pub record Stream : Type 0 where
   pub block : ℕ
   -- the bytes that were written and are in no part that was answered
   pub pending : List ℕ
-  -- the upload, once it was begun
+  -- the upload, if it was begun
   pub upload : Option ℕ
   -- the tags of the parts that were answered, from the first on
   pub tags : List Spelled
-  -- how many bytes were written
+  -- the number of bytes that were written
   pub count : ℕ
   pub closed : Bool
   pub end : Option StreamEnd
 
--- nothing was written yet
+-- A stream to which nothing was written yet.
 abbrev pub fresh : StreamMode → List ℕ → List ℕ → ℕ → Stream
 fresh mode bucket key block = record {
   mode = mode;
@@ -53,53 +53,53 @@ fresh mode bucket key block = record {
   end = None;
 }
 
--- the stream's output is an object, and no pending upload
+-- True if the stream's output is an object, and no pending upload.
 abbrev pub is_direct : StreamMode → Bool
 is_direct Direct = true
 is_direct Delayed = false
 
--- whether a list has something
+-- True if the list is not empty.
 abbrev pub has_some : {X : Type 0} → List X → Bool
 has_some [] = false
 has_some (x ∷ xs) = true
 
--- a part is due: a whole block, or after the close what is left, and where no part was sent also nothing
+-- True if a part is to be sent: a whole block, or after the close what is left. If no part was sent yet, that may be empty.
 abbrev pub has_part : Stream → Bool
 has_part m = nat_le m.block (length m.pending) || (m.closed && (has_some m.pending || not (has_some m.tags)))
 
--- fewer bytes than a block in all are put at once
+-- True for a closed direct output of fewer bytes than a block, which is one put.
 abbrev pub is_small : Stream → Bool
 is_small m = is_direct m.mode && (m.closed && nat_lt (length m.pending) m.block)
 
--- the upload is begun where a part is due
+-- The stage of a stream without an upload: it begins one if a part is to be sent.
 abbrev pub begin_or_wait : Bool → Stage
 begin_or_wait true = Beginning
 begin_or_wait false = Waiting
 
--- the upload is completed where the stream is closed
+-- The stage of a stream with all parts sent: it completes the upload if it is closed.
 abbrev pub complete_or_wait : Bool → Stage
 complete_or_wait true = Completing
 complete_or_wait false = Waiting
 
--- what is due next
+-- The stage, given the end and the upload.
 abbrev pub stage_of : Option StreamEnd → Option ℕ → Stream → Stage
 stage_of (Some e) u m = Over
 stage_of None None m = cond (is_small m) Putting (begin_or_wait (has_part m))
 stage_of None (Some id) m = cond (has_part m) Sending (complete_or_wait m.closed)
 
--- what it is about
+-- What the stream does next.
 abbrev pub stage : Stream → Stage
 stage m = stage_of m.end m.upload m
 
--- the next part
+-- The bytes of the next part.
 abbrev pub chunk : Stream → List ℕ
 chunk m = take m.block m.pending
 
--- the id of the stream's upload
+-- The id of the stream's upload.
 abbrev pub id_of : Stream → ℕ
 id_of m = unwrap_or m.upload 0
 
--- what is asked at a stage, with this upload, the tags of its parts and the next part
+-- The request at a stage, with this upload, the tags of its parts and the next part.
 abbrev pub asks_with : Stage → List ℕ → List ℕ → ℕ → List Spelled → List ℕ → Option Request
 asks_with Putting bucket key id tags next = Some (PutObject bucket key next None)
 asks_with Beginning bucket key id tags next = Some (CreateUpload bucket key)
@@ -107,17 +107,17 @@ asks_with Sending bucket key id tags next = Some (UploadPart bucket key id (leng
 asks_with Completing bucket key id tags next = Some (CompleteUpload bucket key id (named_from 1 tags))
 asks_with _ bucket key id tags next = None
 
--- what is asked for
+-- The request of a stream at a stage.
 abbrev pub asks : Stage → Stream → Option Request
 asks g m = asks_with g m.bucket m.key (id_of m) m.tags (chunk m)
 
--- what the stream asks next, or none
+-- The stream's next request, or None.
 abbrev pub wanted : Stream → Option Request
 wanted m = asks (stage m) m
 
--- ---- what moves it on
+-- ---- what changes a stream
 
--- the stream, ended so
+-- The stream with this end.
 abbrev pub ended : Stream → StreamEnd → Stream
 ended m e = record {
   mode = m.mode;
@@ -132,15 +132,15 @@ ended m e = record {
   end = Some e;
 }
 
--- a delayed output is not completed: it is done once it is closed and no part is due
+-- True for a delayed output that is closed and has no part left to send. It is done, and is not completed.
 abbrev pub is_settled : Stream → Bool
 is_settled m = m.closed && (not (is_direct m.mode) && not (has_part m))
 
--- the stream, Done where nothing of it is left to send
+-- The stream, ended with Done if it is a delayed output with nothing left to send.
 abbrev pub settled : Stream → Stream
 settled m = cond (is_settled m) (ended m Done) m
 
--- the stream with its upload
+-- The stream with this upload.
 abbrev pub begun : Stream → ℕ → Stream
 begun m id = record {
   mode = m.mode;
@@ -155,7 +155,7 @@ begun m id = record {
   end = m.end;
 }
 
--- the next part was answered
+-- The stream after the next part was answered with this tag.
 abbrev pub parted : Stream → Spelled → Stream
 parted m tag = record {
   mode = m.mode;
@@ -170,12 +170,13 @@ parted m tag = record {
   end = m.end;
 }
 
--- where there is no upload it is gone, unless a completion that was sent before has ended it
+-- The stream after a refusal. If the upload does not exist, the stream ends: with Done if a completion sent before may have taken effect
+-- (`over`), else with Gone.
 abbrev pub refused : Stream → Bool → Refusal → Stream
 refused m over NoSuchUpload = ended m (cond over Done Gone)
 refused m over _ = m
 
--- where a reply leads
+-- The stream after a reply.
 abbrev pub told : Stage → Stream → Bool → Reply → Stream
 told Putting m repeated (Stored tag) = ended m Done
 told Beginning m repeated (Upload id) = begun m id
@@ -185,7 +186,7 @@ told Completing m repeated (Completed tag) = ended m Done
 told Completing m repeated (Refused r) = refused m repeated r
 told _ m repeated _ = m
 
--- after want of memory nothing is held any more
+-- The stream after memory ran out: it holds nothing any more.
 abbrev pub broken : Stream → Stream
 broken m = record {
   mode = m.mode;
@@ -200,18 +201,18 @@ broken m = record {
   end = Some NoMemory;
 }
 
--- where an item leads
+-- The stream after a reply, an exhausted request, or memory that ran out.
 abbrev pub moved : Stream → Item → Stream
 moved m (Got r repeated) = told (stage m) m repeated r
 moved m WornOut = ended m StoreFault
 moved m OutOfMemory = broken m
 
--- the refusal is NoSuchUpload
+-- True if the refusal is NoSuchUpload.
 abbrev pub is_no_upload : Refusal → Bool
 is_no_upload NoSuchUpload = true
 is_no_upload _ = false
 
--- the replies that answer a request
+-- True for the replies that answer the request of this stage.
 abbrev pub answers : Stage → Reply → Bool
 answers Putting (Stored tag) = true
 answers Beginning (Upload id) = true
@@ -221,16 +222,16 @@ answers Completing (Completed tag) = true
 answers Completing (Refused r) = is_no_upload r
 answers _ _ = false
 
--- a reply that the stream may be told
+-- Holds if the stream may take this reply.
 abbrev pub Fits : Stream → Reply → Bool → Type 0
 Fits m r repeated = answers (stage m) r ≡ true
 
--- a piece is written; after a fault it is only counted
+-- The pending bytes with a piece added. After the end the piece is only counted.
 abbrev pub added : Option StreamEnd → List ℕ → List ℕ → List ℕ
 added None pending piece = pending ++ piece
 added (Some e) pending piece = pending
 
--- the stream once a piece was written
+-- The stream after a piece was written.
 abbrev pub wrote : Stream → List ℕ → Stream
 wrote m piece = record {
   mode = m.mode;
@@ -246,7 +247,7 @@ wrote m piece = record {
   end = m.end;
 }
 
--- the close; a fault that came before stays
+-- The stream marked as closed, with the end that it had.
 abbrev pub shut : Stream → Stream
 shut m = record {
   mode = m.mode;
@@ -261,55 +262,55 @@ shut m = record {
   end = m.end;
 }
 
--- the stream once it was closed, by the end that it had
+-- The stream after the close, given the end that it had.
 abbrev pub closed_by : Option StreamEnd → Stream → Stream
 closed_by None m = settled (shut m)
 closed_by (Some e) m = shut m
 
--- the stream once it was closed
+-- The stream after the close.
 abbrev pub close : Stream → Stream
 close m = closed_by m.end m
 
--- the end shows once the stream is closed
+-- The end, which shows only after the close.
 abbrev pub end_of : Stream → Option StreamEnd
 end_of m = cond m.closed m.end None
 
--- the upload, the tags of its parts and the length of a delayed output that is done
+-- The upload, the tags of its parts and the length of a delayed output that is done.
 abbrev pub delayed_by : StreamMode → Option StreamEnd → Stream → Option (ℕ × List Spelled × ℕ)
 delayed_by Delayed (Some Done) m = Some (id_of m, m.tags, m.count)
 delayed_by _ _ m = None
 
--- the pending upload that a delayed output leaves, once it is done
+-- The pending upload that a delayed output leaves after it is done.
 abbrev pub delayed_of : Stream → Option (ℕ × List Spelled × ℕ)
 delayed_of m = delayed_by m.mode (end_of m) m
 
--- ---- its measure and its standing
+-- ---- how many requests are left, and how the stream is doing
 
--- 1 where it is so, and else 0
+-- 1 for true, and 0 for false.
 abbrev pub one_if : Bool → ℕ
 one_if true = 1
 one_if false = 0
 
--- the upload is begun
+-- True if the upload is begun.
 abbrev pub is_begun : Option ℕ → Bool
 is_begun None = false
 is_begun (Some id) = true
 
--- at most so many answers and worn requests are to come without a further piece
+-- The most replies and exhausted requests that are still to come if nothing more is written.
 abbrev pub left_by : Option StreamEnd → Stream → ℕ
 left_by None m = 1 + (length m.pending + (one_if (not (is_begun m.upload)) + one_if (not (has_some m.tags))))
 left_by (Some e) m = 0
 
--- the most answers that are to come without a further piece
+-- The most replies that are still to come if nothing more is written.
 abbrev pub left : Stream → ℕ
 left m = left_by m.end m
 
--- how a stream stands that has this end
+-- The standing of a stream with this end: fine, faulted or broken.
 abbrev pub standing_of : Option StreamEnd → Standing
 standing_of (Some StoreFault) = Faulted
 standing_of (Some NoMemory) = Broken
 standing_of _ = Fine
 
--- how a stream stands by its end
+-- The standing of a stream.
 abbrev pub standing : Stream → Standing
 standing m = standing_of m.end

@@ -11,7 +11,7 @@ use crate::stage::Stage;
 use s3_types::{Bucket, Key, Request, TagList, let_go, named_parts};
 use std::alloc::{AllocError, Global};
 
-/// Where a stream's output goes, and how it is cut.
+/// The output of a stream: its place, and how it is cut.
 #[derive(Drop)]
 pub struct Output {
     pub mode: StreamMode,
@@ -21,7 +21,7 @@ pub struct Output {
     pub block: u64,
 }
 
-/// What a stream that has not ended is about, by the blocks that wait. Takes no memory.
+/// The stage of a stream that has not ended, given the blocks that wait. Takes no memory.
 pub fn next_stage(
     output: &Output,
     queue: &Queue,
@@ -55,7 +55,8 @@ pub fn next_stage(
     }
 }
 
-/// A delayed output ends where it would be completed. Takes no memory.
+/// The stage and maybe the end: a delayed output ends where a direct one would be completed. Takes
+/// no memory.
 fn settle(mode: StreamMode, stage: Stage) -> (Stage, Option<StreamEnd>)
     ensures { result ≡ settles mode stage }
 {
@@ -65,7 +66,7 @@ fn settle(mode: StreamMode, stage: Stage) -> (Stage, Option<StreamEnd>)
     }
 }
 
-/// The put of the first block.
+/// The request that puts the first block as the whole object.
 fn put_first(alloc: Global, output: &Output, queue: &Queue) -> Result<Option<Request>, AllocError>
     ensures { IfOk result (λ asked. asked ≡ asks_with Putting output.now.bucket output.now.key 0 [] (first_of queue.now)) }
 {
@@ -73,7 +74,7 @@ fn put_first(alloc: Global, output: &Output, queue: &Queue) -> Result<Option<Req
     Ok(Some(Request::put_object(&output.bucket, &output.key, &bytes, None)?))
 }
 
-/// The part behind those of these tags.
+/// The request that sends the first block as the part after those of these tags.
 pub fn send_first(
     alloc: Global,
     output: &Output,
@@ -90,7 +91,7 @@ pub fn send_first(
     Ok(Some(Request::upload_part(&output.bucket, &output.key, upload, number, &bytes)?))
 }
 
-/// The completion with the parts of these tags.
+/// The request that completes the upload with the parts of these tags.
 fn complete(
     alloc: Global,
     output: &Output,
@@ -106,7 +107,7 @@ fn complete(
     Ok(Some(asked?))
 }
 
-/// The request that a stream sends at a stage.
+/// The request of a stream at a stage.
 fn ask(
     alloc: Global,
     stage: Stage,
@@ -130,7 +131,7 @@ fn ask(
     }
 }
 
-/// What is asked next, or the end, with these blocks and tags.
+/// The next request, or the end, with these blocks and tags.
 pub fn next(
     alloc: Global,
     output: &Output,

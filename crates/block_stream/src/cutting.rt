@@ -6,7 +6,8 @@ use crate::queue::Queue;
 use s3_types::Bytes;
 use std::alloc::{AllocError, Global};
 
-/// Cuts bytes into whole blocks of this length, which come into the empty queue, and gives the rest, which is shorter.
+/// Cuts the bytes of `first` and `piece` into whole blocks, which are put into the empty queue, and
+/// returns the rest, which is shorter than a block.
 pub fn cut(
     alloc: Global,
     first: &[u8],

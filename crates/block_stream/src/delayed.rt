@@ -5,6 +5,6 @@ pub struct Delayed<'s> {
     pub upload: u64,
     /// The tags of the parts, from the first on.
     pub tags: &'s TagList,
-    /// How many bytes were written.
+    /// The number of bytes that were written.
     pub length: u64,
 }

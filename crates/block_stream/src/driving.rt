@@ -11,9 +11,10 @@ use machine::{DriveStop, Retrying, drive};
 use s3_types::{Actor, Journal, ObjectStore};
 use std::alloc::Global;
 
-/// Drives a stream that is alone until it asks nothing more. What was written stays held, whatever the
-/// store loses; where the stream is closed and no request of it wore out, it is then stored: the object,
-/// or the parts of the live upload joined in order, are the bytes of all pieces joined.
+/// Drives a stream until it sends nothing more, if nobody else uses its upload. What was written
+/// stays held, whatever the store loses. If the stream is closed and no request exhausts its
+/// retries, it is then stored: the object, or the parts of the live upload joined in order, are the
+/// bytes of all pieces joined.
 pub fn drive_stream<S: ObjectStore>(
     alloc: Global,
     stream: &mut Retrying<BlockStream>,

@@ -5,17 +5,17 @@ ghost use Rattle.block_stream.specs.declared.mode.StreamFault.TheVariants.{NoMem
 use std::alloc::AllocError;
 use thiserror::Error;
 
-/// How a stream's output comes to stand.
+/// How a stream's output is made visible.
 #[derive(Clone, Copy)]
 pub enum StreamMode {
-    /// The object stands at the end.
+    /// The stream makes the object visible at its end.
     Direct,
     /// The upload is left for a committer to complete. (Hadoop, S3A committers: delayed completion.)
     Delayed,
 }
 
 impl StreamMode {
-    /// Whether the object stands at the end. Takes no memory.
+    /// True if the stream itself makes the object visible at its end. Takes no memory.
     pub(crate) fn is_direct(self) -> bool
         ensures { result ≡ is_direct self }
     {
@@ -28,14 +28,14 @@ impl StreamMode {
 pub enum StreamEnd {
     /// All bytes were stored.
     Done,
-    /// The store answered that the upload is not there.
+    /// The store replied that the upload does not exist.
     Gone,
-    /// A request wore out.
+    /// A request exhausted its retries.
     StoreFault,
     NoMemory,
 }
 
-/// Why a piece was not written. The stream is as before.
+/// Why a piece could not be written. The stream is as before.
 #[derive(Clone, Copy, Debug, Error)]
 pub enum StreamFault {
     /// All that was written would be more than 10,000 blocks.

@@ -35,7 +35,7 @@ impl Queue {
         }
     }
 
-    /// The first block, which is shared, or no bytes where none waits.
+    /// The first block, which is shared, or no bytes if none waits.
     pub fn first(&self, alloc: Global) -> Result<Bytes, AllocError>
         ensures { IfOk result (λ bytes. bytes ≡ first_of self.now) }
     {
@@ -45,7 +45,7 @@ impl Queue {
         }
     }
 
-    /// Whether the first block has so many bytes. Takes no memory.
+    /// True if the first block has at least `block` bytes. Takes no memory.
     pub fn is_whole(&self, block: u64) -> bool
         ensures { result ≡ is_whole block self.now }
     {
@@ -55,7 +55,7 @@ impl Queue {
         }
     }
 
-    /// Whether a block waits. Takes no memory.
+    /// True if a block waits. Takes no memory.
     pub fn has_some(&self) -> bool
         ensures { result ≡ has_some self.now }
     {

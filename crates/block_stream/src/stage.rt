@@ -1,16 +1,16 @@
-/// What a stream is about.
+/// What a stream does next.
 #[derive(Clone, Copy)]
 pub enum Stage {
-    /// Nothing is asked until more is written, or the stream is closed.
+    /// It waits for more to be written, or for the close.
     Waiting,
-    /// The whole output is put as one object.
+    /// It puts the whole output as one object.
     Putting,
-    /// An upload is begun.
+    /// It begins an upload.
     Beginning,
-    /// A part is sent.
+    /// It sends a part.
     Sending,
-    /// The upload is completed.
+    /// It completes the upload.
     Completing,
-    /// The stream has ended.
+    /// It has ended.
     Over,
 }

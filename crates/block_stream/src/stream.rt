@@ -24,10 +24,10 @@ use s3_types::{
 use std::alloc::{AllocError, Global};
 use std::marker::Model;
 
-/// An output stream: what is written is cut into blocks, and each block is sent as a part as soon as it
-/// is whole. Direct output of fewer bytes than a block is one put at the close, and else an upload that is
-/// completed then. Delayed output is always an upload, which is left uncompleted; where nothing was
-/// written it has one empty part.
+/// An output stream. It cuts what is written into blocks, and sends each block as a part as soon as
+/// it is whole. Direct output of fewer bytes than a block is one put at the close. Longer direct
+/// output is an upload that is completed at the close. Delayed output is always an upload, which is
+/// left uncompleted. If nothing was written, it has one empty part.
 #[derive(Drop)]
 pub struct BlockStream {
     alloc: Global,
@@ -59,9 +59,9 @@ impl Model for BlockStream {
 }
 
 impl BlockStream {
-    /// A stream of which nothing was written yet. `block` is the length in bytes of each part but the last, and at
-    /// least 1. It goes on well over a store that has the bucket and whose least part is not longer. Takes
-    /// no memory.
+    /// A stream to which nothing was written yet. `block` is the length in bytes of each part but
+    /// the last, and at least 1. The promises of the stream need a store that has the bucket and
+    /// whose least part is not longer than the block. Takes no memory.
     pub fn start(
         alloc: Global,
         mode: StreamMode,
@@ -111,16 +111,16 @@ impl BlockStream {
         )
     }
 
-    /// How it ended: None while it is open, or something is asked. Takes no memory.
+    /// How the stream ended, or None while it is open or still has a request. Takes no memory.
     pub fn end(&self) -> Option<StreamEnd>
         ensures { result ≡ end_of self.now }
     {
         if self.closed { self.end } else { None }
     }
 
-    /// A delayed output that is done: its upload, the tags of its parts from the first on, and how many bytes were
-    /// written. None comes exactly for direct output, or where the stream has not ended Done. Takes no
-    /// memory.
+    /// What a committer needs of a delayed output that is done: its upload, the tags of its parts
+    /// from the first on, and the number of bytes that were written. Returns None exactly for
+    /// direct output, or if the stream has not ended with `Done`. Takes no memory.
     pub fn delayed(&self) -> Option<Delayed<'_>>
         ensures { MatchOption result (delayed_of self.now ≡ None) (λ d. delayed_of self.now
             ≡ Some (d.upload, d.tags.now, d.length)) }
@@ -135,9 +135,12 @@ impl BlockStream {
         }
     }
 
-    /// Writes a piece behind what was written. TooLong comes exactly where all that was written would be more than
-    /// 10,000 blocks. After TooLong or want of memory the stream is as before. What it holds grows by the
-    /// piece, and a request that is there stays the same; after a fault the piece is only counted.
+    /// Writes a piece after what was written before. What the stream holds grows by the piece, and
+    /// a request that is there stays the same. After the stream has failed, the piece is only
+    /// counted.
+    ///
+    /// Fails with `TooLong` exactly if all that was written would be more than 10,000 blocks, and
+    /// with `NoMemory` if memory runs out. After both the stream is as before.
     pub fn write(&mut self, piece: &[u8]) -> Result<(), StreamFault>
         requires { self.old.closed ≡ false }
         ensures ok { OnOk result (self.new ≡ wrote self.old piece.now) }
@@ -199,8 +202,8 @@ impl BlockStream {
         Ok(())
     }
 
-    /// Closes the stream: nothing more is written. It holds what it held, and a request that is there stays the
-    /// same. After want of memory it is as before.
+    /// Closes the stream: nothing more can be written. It holds what it held, and a request that is
+    /// there stays the same. If memory runs out, the stream is as before.
     pub fn close(&mut self) -> Result<(), AllocError>
         requires { self.old.closed ≡ false }
         ensures ok { OnOk result (self.new ≡ close self.old) }
@@ -230,7 +233,8 @@ impl BlockStream {
         Ok(())
     }
 
-    /// Whether this reply answers what is asked, so that it may be taken. Takes no memory.
+    /// True if this reply answers the current request, so that the stream may take it. Takes no
+    /// memory.
     pub fn is_answer(&self, reply: &Reply) -> bool
         ensures { result ≡ answers (stage self.now) reply.now }
     {
@@ -325,14 +329,15 @@ impl BlockStream {
     }
 }
 
-/// These blocks where there are some, else the others.
+/// These blocks if there are any, else the others.
 fn front<'q>(queue: &'q Queue, others: &'q Queue) -> &'q Queue
     ensures { result.now ≡ front_of queue.now others.now }
 {
     if queue.has_some() { queue } else { others }
 }
 
-/// Adds blocks behind those that wait, and gives what is asked next, or the end. After an error none is added.
+/// Adds blocks after those that wait, and returns the next request, or the end. If it fails, none
+/// is added.
 fn follow(
     alloc: Global,
     output: &Output,
@@ -364,7 +369,7 @@ fn follow(
     }
 }
 
-/// Lets go of what waits and of the tags of the parts. Takes no memory.
+/// Drops what waits and the tags of the parts. Takes no memory.
 fn clear(alloc: Global, queue: &mut Queue, rest: &mut Vec<u8>, tags: &mut TagList)
     ensures queue { queue.new ≡ [] }
     ensures rest { rest.new.items ≡ [] }
@@ -375,7 +380,7 @@ fn clear(alloc: Global, queue: &mut Queue, rest: &mut Vec<u8>, tags: &mut TagLis
     *tags = TagList::new(alloc);
 }
 
-/// What is left as a block of its own, if anything is.
+/// The rest as a block of its own, if there is a rest.
 fn last_block(alloc: Global, rest: &[u8]) -> Result<Queue, AllocError>
     ensures { IfOk result (λ blocks. blocks ≡ last_of rest.now) }
 {
@@ -388,7 +393,7 @@ fn last_block(alloc: Global, rest: &[u8]) -> Result<Queue, AllocError>
     Ok(last)
 }
 
-/// Adds the tag of the part that was answered, and gives what is asked next, or the end.
+/// Adds the tag of the part that was answered, and returns the next request, or the end.
 fn advance(
     alloc: Global,
     output: &Output,

@@ -1,4 +1,4 @@
--- What requests on the objects of one bucket do.
+-- The effect of requests on the objects of one bucket.
 use Rattle.basics.proofs.Members.{same_or_other, text_gone, text_here, text_left, text_other}
 use Rattle.basics.proofs.Tree.{insert_same}
 use Rattle.basics.specs.Order.{text_cmp, text_total}
@@ -28,7 +28,7 @@ module _ {X : Type 0} where
       by q (inl e) = text_here (fin.insert m k v) k q w e ∙ sym (text_here m k q w e)
       by q (inr n) = text_other (fin.insert m k v) k q w n ∙ text_other m k q v n ∙ sym (text_other m k q w n)
 
-  -- what is not there is not removed
+  -- Removing a key that is not there changes nothing.
   pub none_gone : (m : fin.FinMap text_cmp X) (k : List ℕ) → fin.get m k ≡ None → fin.remove m k ≡ m
   none_gone m k h = same_map text_total exact_bytes _ _ (λ q. by q (same_or_other q k))
     where
@@ -36,7 +36,7 @@ module _ {X : Type 0} where
       by q (inl e) = text_gone m k q e ∙ sym (ap (fin.get m) e ∙ h)
       by q (inr n) = text_left m k q n
 
--- a removal leaves what is not there
+-- A key that is not there is still not there after a removal.
 pub gone_still : (m : Objects) (ks : List (List ℕ)) (q : List ℕ) → fin.get m q ≡ None → fin.get (without m ks) q ≡ None
 gone_still m [] q h = h
 gone_still m (k ∷ ks) q h = gone_still (fin.remove m k) ks q (by (same_or_other q k))
@@ -45,7 +45,7 @@ gone_still m (k ∷ ks) q h = gone_still (fin.remove m k) ks q (by (same_or_othe
     by (inl e) = text_gone m k q e
     by (inr n) = text_left m k q n ∙ h
 
--- none of them is there
+-- None of these keys is there.
 abbrev pub AreGone : Objects → List (List ℕ) → Type 0
 AreGone m [] = Unit {0}
 AreGone m (k ∷ ks) = (fin.get m k ≡ None) × AreGone m ks
@@ -58,7 +58,7 @@ pub are_gone : (m : Objects) (ks : List (List ℕ)) → AreGone (without m ks) k
 are_gone m [] = tt
 are_gone m (k ∷ ks) = (gone_still (fin.remove m k) ks k (text_gone m k k refl), are_gone (fin.remove m k) ks)
 
--- ---- what is asked twice
+-- ---- requests that are made twice
 
 copied_twice : (m : Objects) (k q : List ℕ) (o : Option Object) → fin.get m k ≡ o → (fin.get (copied m q o) k ≡ o)
     × (copied (copied m q o) q o ≡ copied m q o)
@@ -123,7 +123,7 @@ no_objects : (o : Option BucketContent) → objects_of o ≡ None → o ≡ None
 no_objects None h = refl
 no_objects (Some c) h = absurd (cc)
 
--- no bucket, and nothing changes
+-- If there is no bucket, nothing changes.
 pub applied_none : (s : Scene) (b : List ℕ) (a : Ask) → objects_at s b ≡ None → apply s (request_of b a) ≡ s
 applied_none s b a h = applied s b a ∙ ap (λ o. edited_if o a s b) (no_objects (fin.get s.content.buckets b) h)
 
@@ -134,7 +134,7 @@ applied_some s b a m h =
     applied s b a ∙ ap (λ o. edited_if o a s b) c.1 ∙ ap (λ n. with_objects_if (Some c.0) s b (edited a n)) c.2 ∙ ap
     (λ o. with_objects_if o s b (edited a m)) (sym c.1)
 
--- the objects that are there
+-- Putting back the objects that are there changes nothing.
 pub with_same : (s : Scene) (b : List ℕ) (m : Objects) → objects_at s b ≡ Some m → with_objects s b m ≡ s
 with_same s b m h =
     let c = some_objects (fin.get s.content.buckets b) m h in
@@ -159,7 +159,7 @@ with_with s b m n l h =
     (put_put s.content.buckets b _ _)
     ∙ ap (λ o. with_objects_if o s b l) (sym c.1)
 
--- ---- it may be asked twice
+-- ---- the request may be made twice
 
 effect_by : (s : Scene) (b : List ℕ) (a : Ask) (o : Option Objects) → objects_at s b ≡ o
     → apply (apply s (request_of b a)) (request_of b a) ≡ apply s (request_of b a)

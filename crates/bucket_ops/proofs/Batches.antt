@@ -14,7 +14,7 @@ without_append : (m : Objects) (ks qs : List (List ℕ)) → without m (ks ++ qs
 without_append m [] qs = refl
 without_append m (k ∷ ks) qs = without_append (fin.remove m k) ks qs
 
--- a batch is never over the limit
+-- A batch never has more keys than a request may name.
 pub within : (l : List (List ℕ)) → nat_lt 1000 (length (take 1000 l)) ≡ false
 within l = by (nat_lt 1000 (length (take 1000 l))) refl
   where
@@ -26,7 +26,7 @@ pub batch_deletes : (l : List (List ℕ)) (m : Objects) → edited (DropAll (tak
 batch_deletes l m = ap (λ c. cond c m (without m (take 1000 l))) (within l)
 
 module _ (z : Objects) (all : List (List ℕ)) where
-  -- keys that are to go from the start
+  -- At the start, all keys are still to be deleted.
   pub deleting_all : (ks : List (List ℕ)) → ks ≡ all → IsDeleted z all (deleting ks) z
   deleting_all [] e = ap (without z) e
   deleting_all (k ∷ ks) e = ([], e, refl)
@@ -43,7 +43,7 @@ module _ (z : Objects) (all : List (List ℕ)) where
     ap (λ m. without m (take 1000 l)) f ∙ sym (without_append z gone (take 1000 l)),
   )
 
-  -- a batch leads on
+  -- After a batch, the sweep goes on as it should.
   pub batch_goes : (l : List (List ℕ)) (m : Objects) → IsDeleting z all l m
       → IsDeleted z all (deleting (drop 1000 l)) (edited (DropAll (take 1000 l)) m)
   batch_goes l m h = subst (IsDeleted z all (deleting (drop 1000 l))) (sym (batch_deletes l m))

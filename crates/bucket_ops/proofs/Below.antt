@@ -14,7 +14,7 @@ use Rattle.std.proofs.lemmas.List.{take_all}
 use Rattle.store_frame.proofs.Flat.{listed_all, page_begins}
 use Rattle.std.specs.FinMap as fin
 
--- a key is one of these or not
+-- A key is in the list or not.
 pub is_in : (k : List ℕ) (ks : List (List ℕ)) → IsIn k ks ⊎ (IsIn k ks → ⊥)
 is_in k [] = inr (λ h. h)
 is_in k (q ∷ ks) = by (same_or_other k q) (is_in k ks)
@@ -37,14 +37,14 @@ pub kept_out : (m : Objects) (ks : List (List ℕ)) (k : List ℕ) → (IsIn k k
 kept_out m [] k h = refl
 kept_out m (x ∷ ks) k h = kept_out (fin.remove m x) ks k (λ g. h (inr g)) ∙ text_left m x k (λ e. h (inl e))
 
--- the keys that are below begin so, and stand
+-- The keys below a prefix begin with it and exist.
 pub below_stands : (q : List ℕ) (z : Objects) (k : List ℕ) → IsIn k (keys_below q z) → (begins q k ≡ true)
     × ((v : Object) × (fin.get z k ≡ Some v))
 below_stands q z k h =
     page_begins (length (listed q false [] z)) q [] k z (subst (λ l. IsIn k (keys_on l))
     (sym (take_all (length (listed q false [] z)) (listed q false [] z) (omega arith))) h)
 
--- and those that begin so and stand are below, where the prefix is not empty
+-- Each existing key that begins with a prefix is below it, if the prefix is not empty.
 pub stands_below : (x : ℕ) (q : List ℕ) (z : Objects) (k : List ℕ) (v : Object) → begins (x ∷ q) k ≡ true → fin.get z k ≡ Some v
     → IsIn k (keys_below (x ∷ q) z)
 stands_below x q z [] v b e = absurd (false≢true b)

@@ -12,7 +12,7 @@ use Rattle.std.specs.Prelude.{zero, ◌≤◌}
 use Rattle.store_frame.proofs.Flat.{listed_all, listed_rises}
 
 module _ (q : List ℕ) (z : Objects) where
-  -- so many pages may be to come
+  -- At most n pages are to come.
   abbrev IsLeft : Walked PageEntry → ℕ → Type 0
   IsLeft (More found) n = walk_left q found z ≤ n
   IsLeft (Whole found) n = Unit {0}

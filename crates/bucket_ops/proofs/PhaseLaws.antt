@@ -1,4 +1,4 @@
--- An operation on the objects of one bucket is an operation.
+-- An operation on the objects of one bucket is an operation on the store.
 use Rattle.bucket_ops.proofs.AskLaws.{answered, applied_none, applied_some, objects_with, repeats, with_same, with_with}
 use Rattle.bucket_ops.specs.Asks.{Ask, edited, objects_at, reply_at, reply_in, request_of, with_objects}
 use Rattle.bucket_ops.specs.Phases.{Always, Gives, Holds, InScene, IsPhases, MayAsk, Sends, SendsAt, SendsIn, Starts, led, left_at, left_in}
@@ -31,7 +31,7 @@ module _ {O X A : Type 0} {first : O → X} {asks : O → X → Ask} {goes : O �
   begin_by p z None e h = (refl, h)
   begin_by p z (Some m) e h = (m, sym (with_same z p.bucket m e), subst (λ v. holds p.names m v m) (sym h) (k.begin p.names m))
 
-  -- the step of a phase in the bucket b of names o
+  -- If there is no bucket, a request ends the operation with `absent` and changes nothing.
   on_none : (z s : Scene) (b : List ℕ) (o : O) (x : X) → objects_at z b ≡ None → s ≡ z
       → (goes o x (answer s (request_of b (asks o x))) ≡ End absent) × (apply s (request_of b (asks o x)) ≡ z)
   on_none z s b o x e h = (
@@ -133,9 +133,9 @@ module _ {O X A : Type 0} {first : O → X} {asks : O → X → Ask} {goes : O �
       ∙ ap (λ v. left_at v left o.names x) (sym (objects_with z o.bucket m h.0 e))
       ∙ ap (λ v. left_at (objects_at v o.bucket) left o.names x) (sym h.1)
 
-  -- ---- at the phase's own bucket and names
+  -- ---- the phase's bucket and names
 
-  -- the phase's bucket and names are those of the operation
+  -- The phase's bucket and names are those of the operation.
   at_names : (o p : P) (C : List ℕ → O → Type 0) → p.bucket ≡ o.bucket → p.names ≡ o.names → C o.bucket o.names → C p.bucket p.names
   at_names o p C e f h = subst (λ b. C b p.names) (sym e) (subst (λ n. C o.bucket n) (sym f) h)
 
@@ -158,7 +158,7 @@ module _ {O X A : Type 0} {first : O → X} {asks : O → X → Ask} {goes : O �
         (λ m n g. k.at_end o.names m a n g) h;
   }
 
-  -- ---- what is sent
+  -- ---- the requests that are sent
 
   asked_by : (sends : O → Objects → Ask → Type 0) → MayAsk asks holds sends → (o : P) (z : Scene) (x : X) (s : Scene) (q : Option Objects)
       → InScene q (λ m n. holds o.names m x n) (x ≡ first o.names) z o.bucket s

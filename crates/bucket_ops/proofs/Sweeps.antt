@@ -1,4 +1,4 @@
--- A sweep lists all keys and deletes them, and ends.
+-- A sweep lists all keys and deletes them, and it ends.
 use Rattle.basics.proofs.Tree.{filter_all}
 use Rattle.bucket_ops.proofs.Batches.{batch_goes, deleting_all, within}
 use Rattle.bucket_ops.proofs.Walks.{fits_decides, page_fits, walk_falls, walk_goes}
@@ -29,7 +29,7 @@ sweep_fits q (Deleting k ks) m = by (nat_lt 1000 (length (take 1000 (k ∷ ks)))
     by false e = refl
     by true e = absurd (false≢true (sym e))
 
--- what fits may be told
+-- A reply that passes `fits` may come to the sweep.
 pub sweep_fits_so : (w : Sweep) (r : Reply) → fits r ≡ true → FitsSweep w r
 sweep_fits_so (Listing keys) r e = (fits_decides r).0 e
 sweep_fits_so (Deleting k ks) r e = tt
@@ -53,7 +53,7 @@ module _ (q : List ℕ) (z : Objects) where
       subst (λ w. IsSwept q z (swept all_go w) z) (sym (walked_keys found (reply_in z (walk_asks q found))))
       (swept_walk (walked_entries found (reply_in z (walk_asks q found))) (walk_goes q z found h))
 
-  -- the honest reply keeps it
+  -- After the answer that the store gives, the sweep goes on as it should.
   pub sweep_goes : (w : Sweep) (m : Objects) → IsSweeping q z w m
       → IsSwept q z (sweep_hears all_go w (reply_in m (sweep_asks q w))) (edited (sweep_asks q w) m)
   sweep_goes (Listing keys) m h =
@@ -69,7 +69,7 @@ pub length_keys : (es : List PageEntry) → length (keys_on es) ≡ length es
 length_keys [] = refl
 length_keys (e ∷ es) = ap suc (length_keys es)
 
--- any keys are those of some entries
+-- An entry with this key.
 abbrev single : List ℕ → PageEntry
 single k = Single k 0
 

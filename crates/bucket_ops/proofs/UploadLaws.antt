@@ -40,7 +40,7 @@ module _ (o : UploadsBelow) (z : Scene) (w : UploadsBelow) where
   abbrev Rest : BucketContent → List UploadRef
   Rest c = listed w.prefix (last_ref None w.walk) c.uploads
 
-  -- what is left behind a page
+  -- The uploads that are left after a page.
   behind : (c : BucketContent) → fin.get z.content.buckets w.bucket ≡ Some c
       → uploads_from z w.bucket w.prefix (last_ref None (w.walk ++ take 1000 (Rest c))) ≡ Some (drop 1000 (Rest c))
   behind c e =

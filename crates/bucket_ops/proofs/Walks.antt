@@ -1,4 +1,4 @@
--- A walk goes on by pages, and ends.
+-- A walk goes on page by page, and it ends.
 use Rattle.basics.proofs.Naturals.{below_is, below_not}
 use Rattle.bucket_ops.specs.Asks.{reply_in}
 use Rattle.bucket_ops.specs.Walking.{IsWalked, IsWalking, LessWalked, fits, is_there, walk_asks, walk_left}
@@ -18,7 +18,7 @@ use Rattle.std.proofs.Common.{sym, take, true, ℕ, [], ◌*◌, ◌++◌, ◌+�
 use Rattle.std.proofs.lemmas.Bool.{true≢false}
 use Rattle.std.proofs.lemmas.List.{length-take, take-append-drop, take_all}
 
--- ---- replies that a walk may be told
+-- ---- replies that may come to a walk
 
 pub fits_decides : (r : Reply) → Decides (fits r) (FitsPage r)
 fits_decides (Page es more) = keys_decide es
@@ -44,7 +44,7 @@ walk_fits q found m = page_fits 1000 q (last_of (keys_on found)) m
 
 -- ---- pages
 
--- what is left behind a page
+-- The entries that are left after a page.
 behind : (q : List ℕ) (m : Objects) (found : List PageEntry) (l : List PageEntry) → listed q false (last_of (keys_on found)) m ≡ l
     → listed q false (last_of (keys_on (found ++ take 1000 l))) m ≡ drop 1000 l
 behind q m found l e =
@@ -64,7 +64,7 @@ module _ (q : List ℕ) (z : Objects) where
       ∙ ap (λ x. found ++ x) (take-append-drop 1000 l ∙ sym e) ∙ h
   paged found l e h false t = ap (λ x. found ++ x) (take_all 1000 l (below_not 1000 (length l) t) ∙ sym e) ∙ h
 
-  -- a page keeps a walk
+  -- After a page, the walk goes on as it should.
   pub walk_goes : (found : List PageEntry) → IsWalking q z found → IsWalked q z (walked_entries found (reply_in z (walk_asks q found)))
   walk_goes found h = paged found (listed q false (last_of (keys_on found)) z) refl h
       (nat_lt 1000 (length (listed q false (last_of (keys_on found)) z))) refl

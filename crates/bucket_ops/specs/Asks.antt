@@ -1,4 +1,4 @@
--- Requests on the objects of one bucket, and what they do there.
+-- Requests on the objects of one bucket, and their effect there.
 use Rattle.s3_types.specs.Answer.{copied, copy_answer, found, head, without}
 use Rattle.s3_types.specs.Pages.{listed, page}
 use Rattle.s3_types.specs.Store.{BucketContent, Objects, Scene}
@@ -12,21 +12,21 @@ use Rattle.s3_types.specs.declared.request.Request.TheVariants.{PutObject}
 use Rattle.std.specs.Prelude.{Bool, List, None, Option, Some, cond, false, length, nat_lt, true, ℕ}
 use Rattle.std.specs.FinMap as fin
 
--- what is asked of a bucket
+-- A request on the objects of a bucket.
 pub data Ask : Type 0 where
-  -- whether an object stands at a key
+  -- Whether the object at a key exists.
   Head : (key : List ℕ) → Ask
-  -- what stands there
+  -- The object at a key.
   Get : (key : List ℕ) → Ask
-  -- the first so many entries below a prefix, behind a text
+  -- The first `limit` entries below a prefix, after a text.
   Page : (prefix : List ℕ) → (delimited : Bool) → (behind : List ℕ) → (limit : ℕ) → Ask
-  -- an object with no header
+  -- Puts an object with no header.
   Put : (key : List ℕ) → (bytes : List ℕ) → Ask
   Drop : (key : List ℕ) → Ask
   DropAll : (keys : List (List ℕ)) → Ask
   Copy : (source : List ℕ) → (target : List ℕ) → Ask
 
--- the request to a bucket that an ask is
+-- The request to a bucket for this ask.
 abbrev pub request_of : List ℕ → Ask → Request
 request_of b (Head k) = HeadObject b k
 request_of b (Get k) = GetObject b k
@@ -36,14 +36,14 @@ request_of b (Drop k) = DeleteObject b k
 request_of b (DropAll ks) = DeleteObjects b ks
 request_of b (Copy k q) = CopyObject b k q
 
--- it only looks
+-- True if the ask only reads.
 abbrev pub is_look : Ask → Bool
 is_look (Head k) = true
 is_look (Get k) = true
 is_look (Page p d q n) = true
 is_look _ = false
 
--- what is answered where these objects stand
+-- The answer if the bucket has these objects.
 abbrev pub reply_in : Objects → Ask → Reply
 reply_in m (Head k) = head (fin.get m k)
 reply_in m (Get k) = found (fin.get m k)
@@ -53,7 +53,7 @@ reply_in m (Drop k) = Deleted
 reply_in m (DropAll ks) = cond (nat_lt 1000 (length ks)) (Refused TooManyKeys) Deleted
 reply_in m (Copy k q) = copy_answer (fin.get m k)
 
--- the objects after it
+-- The objects after the ask.
 abbrev pub edited : Ask → Objects → Objects
 edited (Put k bytes) m = fin.insert m k (record { bytes = bytes; header = None })
 edited (Drop k) m = fin.remove m k
@@ -61,21 +61,21 @@ edited (DropAll ks) m = cond (nat_lt 1000 (length ks)) m (without m ks)
 edited (Copy k q) m = copied m q (fin.get m k)
 edited _ m = m
 
--- what an ask is answered, or NoSuchBucket
+-- The answer to an ask, or NoSuchBucket.
 abbrev pub reply_at : Option Objects → Ask → Reply
 reply_at None a = Refused NoSuchBucket
 reply_at (Some m) a = reply_in m a
 
--- the objects of a bucket, where it is there
+-- The objects of a bucket, if it exists.
 abbrev pub objects_of : Option BucketContent → Option Objects
 objects_of None = None
 objects_of (Some c) = Some c.objects
 
--- the objects of a bucket of the scene, where it is there
+-- The objects of the bucket with this name, if it exists.
 abbrev pub objects_at : Scene → List ℕ → Option Objects
 objects_at s b = objects_of (fin.get s.content.buckets b)
 
--- the scene with these objects in a bucket that is there
+-- The scene with these objects in this bucket, or unchanged if there is none.
 abbrev pub with_objects_if : Option BucketContent → Scene → List ℕ → Objects → Scene
 with_objects_if None s b m = s
 with_objects_if (Some c) s b m = record {
@@ -88,6 +88,6 @@ with_objects_if (Some c) s b m = record {
   files = s.files;
 }
 
--- the scene with these objects in a bucket, where that is there
+-- The scene with these objects in the bucket with this name, or unchanged if there is none.
 abbrev pub with_objects : Scene → List ℕ → Objects → Scene
 with_objects s b m = with_objects_if (fin.get s.content.buckets b) s b m

@@ -1,4 +1,4 @@
--- What replies to looks say.
+-- What the reply to a look says.
 use Rattle.bucket_ops.specs.declared.look.Look.{Look}
 use Rattle.bucket_ops.specs.declared.look.Look.TheVariants.{NoBucket, Nothing, Other, There}
 use Rattle.s3_types.specs.declared.reply.Refusal.{Refusal}
@@ -7,13 +7,13 @@ use Rattle.s3_types.specs.declared.reply.Reply.{Reply}
 use Rattle.s3_types.specs.declared.reply.Reply.TheVariants.{Head, Object as Found, Page, Refused}
 use Rattle.std.specs.Prelude.{if◌then◌else◌, length, ◌==◌}
 
--- what a refused look says
+-- What a refused look says.
 abbrev pub refused_look : Refusal → Look
 refused_look NoSuchKey = Nothing
 refused_look NoSuchBucket = NoBucket
 refused_look _ = Other
 
--- something is there where there is a head, an object, or an entry of a page
+-- Something is there if the reply is a head, an object, or a page with an entry.
 abbrev pub look_of : Reply → Look
 look_of (Head n h) = There
 look_of (Found bytes h) = There

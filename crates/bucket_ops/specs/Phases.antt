@@ -11,7 +11,7 @@ use Rattle.s3_types.specs.declared.reply.Reply.TheVariants.{Refused}
 use Rattle.s3_types.specs.declared.request.Request.{Request}
 use Rattle.std.specs.Prelude.{List, None, Option, Some, ℕ, ◌≡◌}
 
--- what an operation O of stages X owes that ends with A
+-- What an operation O of stages X that ends with A must satisfy.
 pub record IsPhases {O X A : Type 0} (first : O → X) (asks : O → X → Ask) (goes : O → X → Reply → Step X A)
     (holds : O → Objects → X → Objects → Type 0) (gives : O → Objects → A → Objects → Type 0) (always : O → Objects → Objects → Type 0)
     (left : O → X → Objects → ℕ) (absent : A) : Type 0 where
@@ -23,19 +23,19 @@ pub record IsPhases {O X A : Type 0} (first : O → X) (asks : O → X → Ask) 
   pub stays : (o : O) (z : Objects) (x : X) (m : Objects) → holds o z x m → left o x (edited (asks o x) m) ≡ left o x m
   pub during : (o : O) (z : Objects) (x : X) (m : Objects) → holds o z x m → always o z m
   pub at_end : (o : O) (z : Objects) (a : A) (m : Objects) → gives o z a m → always o z m
-  -- where there is no bucket
+  -- If there is no bucket, it ends with `absent`.
   pub missing : (o : O) (x : X) → goes o x (Refused NoSuchBucket) ≡ End absent
 
--- what a stage asks, the operation may ask
+-- The operation may make the request of each stage that it can be in.
 abbrev pub MayAsk : {O X : Type 0} → (O → X → Ask) → (O → Objects → X → Objects → Type 0) → (O → Objects → Ask → Type 0) → Type 0
 MayAsk {O = O} {X = X} asks holds sends = (o : O) (z : Objects) (x : X) (m : Objects) → holds o z x m → sends o z (asks o x)
 
--- the scene is z with other objects in the bucket, of which something holds; or z, where there is no bucket
+-- The scene is z with other objects in the bucket, which relate to the old ones by `holds`; or it is z, if there is no bucket.
 abbrev pub InScene : Option Objects → (Objects → Objects → Type 0) → Type 0 → Scene → List ℕ → Scene → Type 0
 InScene None holds absent z b s = (s ≡ z) × absent
 InScene (Some m) holds absent z b s = (n : Objects) × (s ≡ with_objects z b n) × holds m n
 
--- nothing but the bucket's objects changed, and of those something holds; or there is no bucket, and nothing changed
+-- Only the bucket's objects changed, and the new ones relate to the old ones by `holds`; or there is no bucket and nothing changed.
 abbrev pub InBucketHolds : Scene → List ℕ → (Objects → Objects → Type 0) → Type 0 → Scene → Type 0
 InBucketHolds z b holds absent s = InScene (objects_at z b) holds absent z b s
 
@@ -54,45 +54,45 @@ module _ {O X : Type 0} where
   Holds first holds o z p s = (p.bucket ≡ o.bucket) × (p.names ≡ o.names)
       × InBucketHolds z o.bucket (λ m n. holds o.names m p.stage n) (p.stage ≡ first o.names) s
 
--- in a bucket that is there an operation gives what it gives of the bucket's objects, and nothing else changes; where there is none,
--- nothing changes
+-- If the bucket exists, the operation gives what it gives of the bucket's objects, and nothing else changes. If not, nothing changes and
+-- the answer is `absent`.
 abbrev pub GivesIn : {A : Type 0} → List ℕ → (Objects → A → Objects → Type 0) → A → Scene → A → Scene → Type 0
 GivesIn b gives absent z a s = InBucketHolds z b (λ m n. gives m a n) (a ≡ absent) s
 
--- at any moment of an operation nothing but the bucket's objects changed, and of those something holds
+-- At any point of an operation only the bucket's objects have changed, and they relate to the old ones by `always`.
 abbrev pub AlwaysIn : List ℕ → (Objects → Objects → Type 0) → Scene → Scene → Type 0
 AlwaysIn b always z s = InBucketHolds z b (λ m n. always m n) (Unit {0}) s
 
--- what an operation on a bucket gives
+-- The answer of an operation on a bucket, and what it leaves.
 abbrev pub Gives : {O X A : Type 0} → (O → Objects → A → Objects → Type 0) → A → InBucket O X → Scene → A → Scene → Type 0
 Gives gives absent o z a s = GivesIn o.bucket (gives o.names) absent z a s
 
--- what stands at any moment of an operation on a bucket
+-- The scene at any point of an operation on a bucket.
 abbrev pub Always : {O X : Type 0} → (O → Objects → Objects → Type 0) → InBucket O X → Scene → Scene → Type 0
 Always always o z s = AlwaysIn o.bucket (always o.names) z s
 
--- what an operation may ask of a bucket: of one that is not there its first look alone
+-- The requests that an operation may make; if the bucket does not exist, only its first one.
 abbrev pub SendsAt : Option Objects → List ℕ → Ask → (Objects → Ask → Type 0) → Request → Type 0
 SendsAt None b look sends r = r ≡ request_of b look
 SendsAt (Some m) b look sends r = (a : Ask) × (r ≡ request_of b a) × sends m a
 
--- what an operation may ask of a scene's bucket
+-- The requests that an operation may make to a bucket of the scene.
 abbrev pub SendsIn : List ℕ → Ask → (Objects → Ask → Type 0) → Scene → Request → Type 0
 SendsIn b look sends z r = SendsAt (objects_at z b) b look sends r
 
--- what an operation on its bucket may ask
+-- The requests that an operation may make to its bucket.
 abbrev pub Sends : {O X : Type 0} → (O → X) → (O → X → Ask) → (O → Objects → Ask → Type 0) → InBucket O X → Scene → Request → Type 0
 Sends first asks sends o z r = SendsIn o.bucket (asks o.names (first o.names)) (sends o.names) z r
 
--- what an operation has left, which is nothing without the bucket
+-- How many stages an operation has left; none without the bucket.
 abbrev pub left_at : {O X : Type 0} → Option Objects → (O → X → Objects → ℕ) → O → X → ℕ
 left_at None left o x = 0
 left_at (Some m) left o x = left o x m
 
--- what an operation on its bucket has left
+-- How many stages an operation on its bucket has left.
 abbrev pub left_in : {O X : Type 0} → (O → X → Objects → ℕ) → InBucket O X → Scene → ℕ
 left_in left p s = left_at (objects_at s p.bucket) left p.names p.stage
 
--- an operation stands at its first stage
+-- The operation is at its first stage.
 abbrev pub Starts : {O X : Type 0} → (O → X) → InBucket O X → Type 0
 Starts first p = p.stage ≡ first p.names

@@ -14,42 +14,42 @@ use Rattle.s3_types.specs.declared.request.UploadRef.{UploadRef}
 use Rattle.std.specs.Prelude.{List, None, Option, Some, length, option_map, ℕ, [], ◌++◌, ◌≡◌}
 use Rattle.std.specs.FinMap as fin
 
--- the live uploads whose keys begin with a prefix and that come behind one of them, in order, where there is the bucket
+-- The live uploads whose keys begin with a prefix and that come after the given one, in order, if the bucket exists.
 abbrev pub uploads_from : Scene → List ℕ → List ℕ → Option UploadRef → Option (List UploadRef)
 uploads_from s b p m = option_map (λ c. listed p m c.uploads) (fin.get s.content.buckets b)
 
--- the scene is as it was
+-- The scene has not changed.
 abbrev pub IsStill : Scene → Scene → Type 0
 IsStill z s = s ≡ z
 
--- the page behind those so far
+-- The request for the page after the uploads found so far.
 abbrev pub asks : UploadsBelow → Request
 asks w = uploads_after w.bucket w.prefix w.walk
 
--- the walk with these uploads found
+-- The walk with these uploads found.
 abbrev pub with_found : UploadsBelow → List UploadRef → UploadsBelow
 with_found w found = record { bucket = w.bucket; prefix = w.prefix; walk = found }
 
--- it goes on, or gives all that was found
+-- The walk goes on, or ends with all uploads found.
 abbrev pub led : UploadsBelow → Walked UploadRef → Step UploadsBelow (Option (List UploadRef))
 led w (More found) = Next (with_found w found)
 led w (Whole found) = End (Some found)
 
--- a walk without the bucket ends with none
+-- If the bucket does not exist, the walk ends with None.
 abbrev pub refused : UploadsBelow → Refusal → Step UploadsBelow (Option (List UploadRef))
 refused w NoSuchBucket = End None
 refused w r = Next w
 
--- where a reply leads
+-- Where a reply leads.
 abbrev pub goes : UploadsBelow → Reply → Step UploadsBelow (Option (List UploadRef))
 goes w (Refused r) = refused w r
 goes w r = led w (walked_uploads w.walk r)
 
--- nothing is found yet
+-- Nothing is found yet.
 abbrev pub Begins : UploadsBelow → Type 0
 Begins w = w.walk ≡ []
 
--- begun at o in the scene z: the scene stays, and what was found and what is left are all
+-- Started at o in the scene z: the scene has not changed, and the uploads found so far and those that are left are all.
 pub record IsListing (o : UploadsBelow) (z : Scene) (w : UploadsBelow) (s : Scene) : Type 0 where
   pub same : s ≡ z
   pub bucket : w.bucket ≡ o.bucket
@@ -57,27 +57,27 @@ pub record IsListing (o : UploadsBelow) (z : Scene) (w : UploadsBelow) (s : Scen
   pub whole : option_map (λ l. w.walk ++ l) (uploads_from z w.bucket w.prefix (last_ref None w.walk)) ≡ uploads_from z o.bucket o.prefix
       None
 
--- the scene stays, and what is given is all, where there is the bucket
+-- The scene has not changed, and the answer is all uploads, if the bucket exists.
 abbrev pub Gives : UploadsBelow → Scene → Option (List UploadRef) → Scene → Type 0
 Gives o z a s = (s ≡ z) × (a ≡ uploads_from z o.bucket o.prefix None)
 
--- a walk over uploads changes nothing
+-- A walk over uploads changes nothing.
 abbrev pub IsSame : UploadsBelow → Scene → Scene → Type 0
 IsSame o z s = IsStill z s
 
--- a page of the bucket below the prefix, wherever it begins
+-- The request is for a page of the bucket below the prefix, wherever the page begins.
 abbrev pub IsPageOf : List ℕ → List ℕ → Request → Type 0
 IsPageOf b p r = (found : List UploadRef) × (r ≡ uploads_after b p found)
 
--- a walk over uploads asks pages of its bucket below its prefix alone
+-- A walk over uploads requests only pages of its bucket below its prefix.
 abbrev pub Pages : UploadsBelow → Scene → Request → Type 0
 Pages o z r = IsPageOf o.bucket o.prefix r
 
--- so many uploads are left
+-- How many uploads are in the list, if there is one.
 abbrev pub size : Option (List UploadRef) → ℕ
 size (Some l) = length l
 size None = 0
 
--- how many uploads the walk has yet to find
+-- How many uploads the walk has yet to find.
 abbrev pub left : UploadsBelow → Scene → ℕ
 left w s = size (uploads_from s w.bucket w.prefix (last_ref None w.walk))

@@ -17,63 +17,63 @@ use Rattle.std.specs.List.Sorted.{IsStrictlySortedBy}
 use Rattle.std.specs.Prelude.{Bool, List, Some, false, length, suc, true, zero, ℕ, [], ◌*◌, ◌++◌, ◌+◌, ◌<◌, ◌∷◌, ◌≡◌, ◌≤◌}
 use Rattle.std.specs.FinMap as fin
 
--- the entries of all keys below a prefix, and the keys
+-- The entries of all keys below a prefix.
 abbrev pub all_below : List ℕ → Objects → List PageEntry
 all_below q z = listed q false [] z
 
--- all keys below a prefix, in order
+-- All keys below a prefix, in order.
 abbrev pub keys_below : List ℕ → Objects → List (List ℕ)
 keys_below q z = keys_on (all_below q z)
 
--- the page behind these entries
+-- The request for the page after these entries.
 abbrev pub walk_asks : List ℕ → List PageEntry → Ask
 walk_asks q found = Page q false (last_of (keys_on found)) 1000
 
--- a reply that a walk may be told: a page has keys alone, and there is a bucket
+-- True if the refusal does not say that the bucket is missing.
 abbrev pub is_there : Refusal → Bool
 is_there NoSuchBucket = false
 is_there _ = true
 
--- a reply that a walk may be told: a page of keys, and no missing bucket
+-- True if a walk may receive this reply: a page has only keys, and the bucket is not missing.
 abbrev pub fits : Reply → Bool
 fits (APage es more) = list_all is_key es
 fits (Refused r) = is_there r
 fits _ = true
 
--- what was found and what is left are all
+-- The entries found so far and those that are left are all.
 abbrev pub IsWalking : List ℕ → Objects → List PageEntry → Type 0
 IsWalking q z found = found ++ listed q false (last_of (keys_on found)) z ≡ all_below q z
 
--- it goes on, or these are all
+-- The walk goes on, or these entries are all.
 abbrev pub IsWalked : List ℕ → Objects → Walked PageEntry → Type 0
 IsWalked q z (More found) = IsWalking q z found
 IsWalked q z (Whole found) = found ≡ all_below q z
 
--- so much is left at most, where each key that is found takes one step more
+-- At most this much is left, if each key that is found takes one step more.
 abbrev pub walk_left : List ℕ → List PageEntry → Objects → ℕ
 walk_left q found m = 1 + length found + 2 * length (listed q false (last_of (keys_on found)) m)
 
--- less is left; and all keys are fewer than was left
+-- Less than n is left; if the walk is whole, it found fewer than n keys.
 abbrev pub LessWalked : List ℕ → Objects → Walked PageEntry → ℕ → Type 0
 LessWalked q m (More found) n = walk_left q found m < n
 LessWalked q m (Whole found) n = length found < n
 
--- ---- a walk that is told what is due
+-- ---- a walk that receives the pages that the store gives
 
--- what a walk has found once it was told so many pages, each the one that is due
+-- The walk after it received n pages, each the one that the store gives.
 abbrev pub told_pages : ℕ → List ℕ → Objects → Walked PageEntry → Walked PageEntry
 told_pages zero q z w = w
 told_pages (suc n) q z (Whole found) = Whole found
 told_pages (suc n) q z (More found) = told_pages n q z (walked_entries found (reply_in z (walk_asks q found)))
 
--- a walk finds exactly the keys below its prefix at which objects stand
+-- A walk finds exactly the keys below its prefix that exist.
 pub record FindsAll : Type 0 where
-  -- it ends, with all of them
+  -- It ends, with all of them.
   pub ends : (q : List ℕ) (z : Objects) (n : ℕ) → walk_left q [] z ≤ n → told_pages n q z (More []) ≡ Whole (all_below q z)
-  -- each begins with the prefix, and an object stands there
+  -- Each begins with the prefix, and its object exists.
   pub each : (q k : List ℕ) (z : Objects) → IsIn k (keys_below q z) → (begins q k ≡ true) × ((o : Object) × (fin.get z k ≡ Some o))
-  -- and so each of these is one of them; the empty text is no key
+  -- Each such key is found. The empty text is no key.
   pub all : (q : List ℕ) (x : ℕ) (k : List ℕ) (z : Objects) (o : Object) → fin.get z (x ∷ k) ≡ Some o → begins q (x ∷ k) ≡ true
       → IsIn (x ∷ k) (keys_below q z)
-  -- each once, in the order of their bytes
+  -- Each is found once, in the order of the bytes.
   pub rises : (q : List ℕ) (z : Objects) → IsStrictlySortedBy text_cmp (keys_below q z)

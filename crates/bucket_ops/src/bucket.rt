@@ -13,7 +13,7 @@ use operations::{Plan, Step, perform};
 use s3_types::{Actor, Bucket, Journal, ObjectStore, Reply, Request};
 use std::alloc::{AllocError, Global};
 
-/// An operation on the objects of one bucket, by its stages. Self is what it names.
+/// An operation on the objects of one bucket, described by its stages. Self is what it names.
 pub trait Phases: Drop {
     type Stage: Drop;
 
@@ -22,39 +22,39 @@ pub trait Phases: Drop {
     /// The first stage.
     ghost first: { Self → Self.Stage };
 
-    /// What a stage asks of the bucket.
+    /// The request of a stage to the bucket.
     ghost asks: { Self → Self.Stage → Ask };
 
     /// Where a reply leads.
     ghost goes: { Self → Self.Stage → Reply → Step Self.Stage Self.Answer };
 
-    /// Begun at those objects, it may be in this stage at these.
+    /// Started at those objects, it may be in this stage at these.
     ghost holds: { Self → Objects → Self.Stage → Objects → Type 0 };
 
-    /// Begun at those objects, it may give this answer and leave these.
+    /// Started at those objects, it may give this answer and leave these.
     ghost gives: { Self → Objects → Self.Answer → Objects → Type 0 };
 
-    /// Begun at those objects, these may stand at any moment.
+    /// Started at those objects, these may be there at any point between two requests.
     ghost always: { Self → Objects → Objects → Type 0 };
 
-    /// Begun at those objects, it may ask this.
+    /// Started at those objects, it may make this request.
     ghost sends: { Self → Objects → Ask → Type 0 };
 
-    /// At most so many stages are to come.
+    /// At most this many stages are to come.
     ghost left: { Self → Self.Stage → Objects → ℕ };
 
-    /// The answer where there is no bucket.
+    /// The answer if there is no bucket.
     ghost absent: { Self.Answer };
 
-    /// The first stage. Takes no memory.
+    /// Returns the first stage. Takes no memory.
     fn start(&self) -> Self::Stage
         ensures { result ≡ first self.now };
 
-    /// The request of a stage.
+    /// Returns the request of a stage.
     fn ask(&self, bucket: &Bucket, stage: &Self::Stage) -> Result<Request, AllocError>
         ensures { IfOk result (λ request. request ≡ request_of bucket.now (asks self.now stage.now)) };
 
-    /// Where the reply leads.
+    /// Returns where the reply leads.
     fn next(
         &self,
         stage: Self::Stage,
@@ -62,13 +62,14 @@ pub trait Phases: Drop {
     ) -> Result<Step<Self::Stage, Self::Answer>, AllocError>
         ensures { IfOk result (λ step. step ≡ goes self.now stage reply.now) };
 
-    /// What holds of these; its stages ask nothing but what it may send. Does nothing.
+    /// The laws of these definitions; its stages make only requests that it may make. Does
+    /// nothing.
     fn laws()
         ensures phases { IsPhases first asks goes holds gives always left absent }
         ensures asked { MayAsk asks holds sends };
 }
 
-/// An operation in a bucket at a stage.
+/// An operation in a bucket, at a stage.
 #[derive(Drop)]
 pub struct InBucket<O, X> {
     pub bucket: Bucket,
@@ -128,9 +129,10 @@ impl<O: Phases> Plan for InBucket<O, O::Stage> {
     }
 }
 
-/// Performs an operation on the objects of a bucket that is alone, whatever the store loses: each request is
-/// sent at most `retries + 1` times. StoreFault comes exactly where a request wore out. The journal gains an
-/// entry for each sending. Nothing but the bucket's objects changes.
+/// Performs an operation on the objects of a bucket that is alone, whatever the store loses. Each
+/// request is sent at most `retries + 1` times. Fails with StoreFault exactly if a request
+/// exhausted its retries. The journal gains an entry for each send. Only the bucket's objects
+/// change.
 pub fn perform_in<O: Phases, S: ObjectStore>(
     alloc: Global,
     bucket: Bucket,

@@ -9,11 +9,11 @@ pub enum Look {
     There,
     Nothing,
     NoBucket,
-    /// The reply answers no look.
+    /// The reply does not answer a look.
     Other,
 }
 
-/// What a reply to a look says. Takes no memory.
+/// Returns what the reply to a look says. Takes no memory.
 pub fn seen_in(reply: &Reply) -> Look
     ensures { result ≡ look_of reply.now }
 {

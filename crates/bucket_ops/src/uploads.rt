@@ -20,7 +20,7 @@ pub struct UploadsBelow {
 
 type Uploads = Option<UploadList>;
 
-/// Where a refusal leads: only a bucket that is not there ends the walk.
+/// Returns where a refusal leads: the walk ends only if the bucket does not exist.
 fn refused(below: UploadsBelow, refusal: &Refusal) -> Step<UploadsBelow, Uploads>
     ensures { result ≡ refused below refusal.now }
 {
@@ -76,9 +76,10 @@ impl Plan for UploadsBelow {
     fn laws() {}
 }
 
-/// Lists the live uploads of a bucket whose keys begin with a prefix, by key and then by id, or None where there is no
-/// bucket, whatever the store loses and however many pages there are. Each request is sent at most `retries + 1`
-/// times. StoreFault comes exactly where a request wore out. (Amazon S3 API: ListMultipartUploads.)
+/// Lists the live uploads of a bucket whose keys begin with a prefix, by key and then by id,
+/// whatever the store loses and however many pages there are. Returns None if the bucket does not
+/// exist. Each request is sent at most `retries + 1` times. Fails with StoreFault exactly if a
+/// request exhausted its retries. (Amazon S3 API: ListMultipartUploads.)
 pub fn list_uploads<S: ObjectStore>(
     alloc: Global,
     bucket: Bucket,

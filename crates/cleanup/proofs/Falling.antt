@@ -1,4 +1,4 @@
--- What a clean has left falls.
+-- The bound on the requests that a clean has left falls.
 use Rattle.cleanup.specs.Fits.{FitsClean}
 use Rattle.cleanup.specs.Laws.{CleansEnd}
 use Rattle.cleanup.specs.Left.{after_left, left_at}
@@ -26,11 +26,11 @@ use Rattle.std.specs.Prelude.{IfSome, codes}
 use Rattle.std.specs.FinMap as fin
 use Rattle.magic_paths.specs.Layout as layout
 
--- what holds of a request that is asked
+-- A fact about the current request.
 pub of_some : (P : Request → Type 0) (o : Option Request) (r : Request) → o ≡ Some r → IfSome o P → P r
 of_some P o r h g = grind arith
 
--- ---- once the uploads are aborted
+-- ---- after the uploads are aborted
 
 after_keeps : (c : Committer) (j : Job) (s : Scene) (r : Request) → adds_key r ≡ false → (apply s r).files ≡ s.files
     → after_left c j (apply s r) ≤ after_left c j s
@@ -53,7 +53,7 @@ aborting_left j us s = grind arith
 removing_left : (j : Job) (ps : List (List ℕ)) (s : Scene) → left_at j (removing ps) s ≡ length ps
 removing_left j ps s = grind arith
 
--- ---- it falls
+-- ---- the bound falls
 
 walked_left : (j : Job) (s : Scene) (n : ℕ) (x : Walked UploadRef) → LessUploads j.dest.bucket (j.dest.key ++ codes "/") s n x
     → left_at j (walking j.committer x) s < n + after_left j.committer j s

@@ -13,13 +13,13 @@ use Rattle.std.proofs.Common.{true, ℕ, ◌++◌, ◌+◌, ◌-◌, ◌<◌, �
 use Rattle.std.proofs.lemmas.List.{length-map, length-take}
 use Rattle.std.specs.FinMap as fin
 
--- no more keys are known and to come than these, and of those to come fewer, where more pages are
+-- The keys known and those to come are no more than before; if more pages follow, fewer keys are to come.
 abbrev pub Moved : List ℕ → List ℕ → Scene → (all more : ℕ) → Walked (List ℕ) → Type 0
 Moved b p s all more (More keys) = (length keys + keys_left b p (last_of keys) s ≤ all) × (keys_left b p (last_of keys) s < more)
 Moved b p s all more (Whole keys) = length keys ≤ all
 
 module _ (b p : List ℕ) (keys : List (List ℕ)) (s : Scene) where
-  -- the keys on a page are as many as its entries
+  -- The keys on a page are as many as its entries.
   known : (l : List PageEntry) → length (keys ++ keys_on (take 1000 l)) ≡ length keys + length (take 1000 l)
   known l = length-append keys (keys_on (take 1000 l)) ∙ ap (λ n. length keys + n) (length-map (take 1000 l) text_in)
 

@@ -16,19 +16,19 @@ use Rattle.std.proofs.Common.{◌-◌, ◌<◌, ◌∙◌, ◌∷◌, ◌≡◌}
 use Rattle.std.proofs.lemmas.List.{drop-drop, drop_all}
 use Rattle.cleanup.specs.declared.held.Stage.TheVariants as stages
 
--- what holds of each list with a first item holds of one that has some
+-- A fact about each list with a first item holds for each list that has items.
 pub some_so : {X : Type 0} (P : List X → Type 0) → ((x : X) (xs : List X) → P (x ∷ xs)) → (xs : List X) → 0 < length xs → P xs
 some_so P h [] some = absurd (omega arith)
 some_so P h (x ∷ xs) some = h x xs
 
--- and of what stands from a place on that is there
+-- The same fact holds for the rest of a list from an index in range on.
 pub some_at : {X : Type 0} (P : List X → Type 0) → ((x : X) (xs : List X) → P (x ∷ xs)) → (at : ℕ) (xs : List X)
     → nat_lt at (length xs) ≡ true → P (drop at xs)
 some_at P h at xs t = let i = below_is at (length xs) t in some_so P h (drop at xs) (omega (arith, i, length-drop at xs))
 
 -- ---- uploads
 
--- the uploads from a place on are aborted, and then the clean goes on
+-- The clean that aborts the uploads from a place on, and then goes on.
 pub aborts_from : (c : Committer) (found : List UploadRef) (paths : List (List ℕ)) (at : ℕ)
     → clean_at (abort_stage c at (length found)) found sweep_start paths at ≡ aborting c (drop at found)
 aborts_from c found paths at =
@@ -42,7 +42,7 @@ aborts_from c found paths at =
 
 -- ---- one after another
 
--- what stands behind the place so many steps on
+-- The rest of a list from the place `step` places further on.
 pub drop_behind : {X : Type 0} (at step : ℕ) (xs : List X) → drop (behind at step (length xs)) xs ≡ drop step (drop at xs)
 drop_behind at step xs = grind (arith, drop-drop, below_not, drop_all)
 
@@ -71,14 +71,14 @@ over_is _ found sweep paths at t = refl
 
 -- ---- requests
 
--- the requests of a clean by its stage
+-- The requests of a clean by its stage.
 pub asks_aborting : (w : Script) (l : List UploadRef) → clean_asks w (aborting_from l) ≡ abort_asks w.dest.bucket l
 asks_aborting w l = grind arith
 
 pub asks_removing : (w : Script) (l : List (List ℕ)) → clean_asks w (removing l) ≡ remove_asks l
 asks_removing w l = grind arith
 
--- ---- the steps, where the stage is told by an equation
+-- ---- the steps, with the stage given by an equation
 
 pub hears_aborting : (w : Script) (r : Reply) (stage : Stage) (found : List UploadRef) (sweep : Sweep) (paths : List (List ℕ)) (at n : ℕ)
     (c : Committer) (new : Clean)

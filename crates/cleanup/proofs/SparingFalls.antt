@@ -1,4 +1,4 @@
--- What a sparing clean has left falls.
+-- The bound on the requests that a sparing clean has left falls.
 use Rattle.cleanup.proofs.Falling.{of_some}
 use Rattle.cleanup.proofs.Pages.{Moved, page_moves}
 use Rattle.cleanup.specs.Laws.{SparingsEnd}
@@ -33,19 +33,19 @@ use Rattle.magic_paths.specs.Layout as layout
 
 -- ---- the numbers alone
 
--- by the committer
+-- The facts about numbers for a committer.
 record Numbers (c : Committer) : Type 0 where
-  -- one more place is read, which named no more than it may
+  -- One more place was read, which named no more uploads than it may.
   read_less : (places named new all : ℕ) → new ≤ named_most c
       → reading_left c places (named + new) all < reading_left c (1 + places) named all
-  -- a page is walked
+  -- A page was walked.
   walk_less : (known more known' more' : ℕ) → known' + more' ≤ known + more → more' < more
       → walking_left c known' more' < walking_left c known more
-  -- all was listed, and no more places are read
+  -- All was listed, and no more places will be read.
   list_less : (places all most : ℕ) → places ≤ all → all ≤ most → reading_left c places 0 all < listing_left c most
   list_walked : (known more n : ℕ) → n < listing_left c (known + more) → n < walking_left c known more
   none_left : (named all : ℕ) → named + all ≤ reading_left c 0 named all
-  -- one thing more is to be listed
+  -- One more item is to be listed.
   one_more : (n n' : ℕ) → n' ≤ n + 1 → listing_left c n' ≤ listing_left c n + (2 + most_commits)
   key_more : (known more more' : ℕ) → more' ≤ more + 1 → walking_left c known more' ≤ walking_left c known more + (3 + most_commits)
   some_walking : (known more : ℕ) → 0 < walking_left c known more
@@ -55,7 +55,7 @@ record Numbers (c : Committer) : Type 0 where
 numbers : (c : Committer) → Numbers c
 numbers c = grind arith
 
--- ---- what is left where a step leads
+-- ---- the bound after a step
 
 deleting_left : (j : Job) (ks : List (List ℕ)) (s : Scene) → sparing_left_at j (deleting ks) s ≡ length ks
 deleting_left j ks s = grind arith
@@ -71,7 +71,7 @@ reading_on_left : (j : Job) (named : List UploadRef) (ps all : List (List ℕ)) 
     → sparing_left_at j (reading_on j.committer named ps all) s ≤ reading_left j.committer (length ps) (length named) (length all)
 reading_on_left j named ps all s = grind arith
 
--- ---- what an answer names
+-- ---- the uploads that an answer names
 
 object_few : (o : Option BucketContent) (next minimum : ℕ) (b k : List ℕ) → length (names (answer_at o next minimum (GetObject b k))) ≤ 1
 object_few None next minimum b k = omega arith
@@ -84,7 +84,7 @@ named_few : (c : Committer) (w : Script) (p : List ℕ) (s : Scene) → NamesFew
     → length (names (answer s (record_request c w p))) ≤ named_most c
 named_few c w p s h = grind arith
 
--- ---- it falls
+-- ---- the bound falls
 
 listed_left : (j : Job) (ps all : List (List ℕ)) (most : ℕ) (s : Scene) → length ps ≤ length all → length all ≤ most
     → sparing_left_at j (reading_on j.committer [] ps all) s < listing_left j.committer most
@@ -133,7 +133,7 @@ falls_at j (Deleting k ks) s = λ h.
 falls_at j (Removing p ps) s = λ h. let e = removing_left j ps (apply s (ClusterDelete p)) in omega (arith, e)
 falls_at j (SparingOver end) s = tt
 
--- ---- it is some while a request is asked, and rises by no more than it may
+-- ---- the bound is positive while there is a request, and rises by no more than allowed
 
 some_left : (j : Job) (x : Sparing) (s : Scene) → IfSome (sparing_asks (job_script j) x) (λ r. 0 < sparing_left_at j x s)
 some_left j x s = grind arith

@@ -1,4 +1,4 @@
--- Places among what a sparing clean listed.
+-- Places among the items that a sparing clean listed.
 use Rattle.cleanup.proofs.Places.{drop_behind, some_at, some_so}
 use Rattle.cleanup.specs.Places.{abort_asks, behind, delete_asks, get_asks, get_file_asks, remove_asks}
 use Rattle.cleanup.specs.SparingHeld.{aborting_from, all_of, lists_keys, places_of, read_asks, reading_from, sparing_at, sparing_of, within}
@@ -16,7 +16,7 @@ use Rattle.s3_types.specs.declared.request.UploadRef.{UploadRef}
 use Rattle.std.proofs.Common.{Bool, List, None, Option, Some, ap, arith, drop, length, length-drop, refl, sym, true, ℕ, ◌++◌, ◌<◌, ◌∙◌, ◌≡◌}
 use Rattle.cleanup.specs.declared.sparing_held.Stage.TheVariants as stages
 
--- ---- a place that is there
+-- ---- a place in range
 
 pub reads_at : (c : Committer) (named : List UploadRef) (places all : List (List ℕ)) (at : ℕ) → at < length places
     → reading_from named (drop at places) all ≡ reading_on c named (drop at places) all
@@ -29,12 +29,12 @@ pub aborts_at : (c : Committer) (named : List UploadRef) (all : List (List ℕ))
 aborts_at c named all at h = some_so (λ us. aborting_from us all ≡ aborting c us all) (λ u us. refl) (drop at named)
     (omega (arith, h, length-drop at named))
 
--- the place so many steps on, as it is counted
+-- The rest of a list from the place `step` places further on, as the code counts it.
 pub next_behind : {X : Type 0} (at step n len : ℕ) (xs : List X) → n ≡ behind at step len → len ≡ length xs
     → drop n xs ≡ drop step (drop at xs)
 next_behind at step n len xs e l = ap (λ m. drop m xs) (e ∙ ap (behind at step) l) ∙ drop_behind at step xs
 
--- ---- what is asked
+-- ---- the next request
 
 pub reads_key : (w : Script) (c : Committer) (h : Held) → c ≡ Magic
     → get_asks w.dest.bucket (drop h.at h.records) ≡ read_asks c w (drop h.at (places_of c h))
@@ -54,7 +54,7 @@ pub not_over : (stage : Stage) → ((end : CleanEnd) → stage ≡ stages.Over e
 not_over stage h = grind arith
 
 module _ (c : Committer) (h : Held) where
-  -- what is kept, at any stage
+  -- The kept values at any stage.
   abbrev kept : Stage → Sparing
   kept s = sparing_at s (keys_on h.walk) (places_of c h) (all_of c h) h.keys h.paths h.named h.at
 

@@ -1,4 +1,4 @@
--- How a clean stands.
+-- The state of a clean.
 use Rattle.cleanup.specs.Fits.{FitsDriving, standing, standing_of}
 use Rattle.job_model.specs.Jobs.{Job}
 use Rattle.job_protocol.specs.AtWork.{clean_told, clean_wants, job_script}
@@ -34,7 +34,7 @@ goes_on j Naming r a e = elim a as (λ a. standing_of (naming a) ≡ Fine) [ Clu
 goes_on j (Removing p ps) r a e = fine_removing ps
 goes_on j (CleanOver end) r a e = refl
 
--- it asks a request until it is over
+-- A clean has a request to send until it is over.
 asks_until : (j : Job) (c : Clean) → is_some (clean_asks (job_script j) c) ≡ is_none (clean_over c)
 asks_until j (CleanOver end) = refl
 asks_until j _ = refl

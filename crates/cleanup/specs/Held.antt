@@ -1,4 +1,4 @@
--- A clean as it is kept.
+-- A clean in progress, as data.
 use Rattle.cleanup.specs.declared.held.Held.{Held}
 use Rattle.cleanup.specs.declared.held.Stage.{Stage}
 use Rattle.job_protocol.specs.Cleanups.{Aborting, Clean, CleanOver, Naming, Sweeping, Walking, removing}
@@ -10,12 +10,12 @@ use Rattle.std.specs.Prelude.{Bool, List, cond, drop, length, nat_lt, true, ℕ,
 use Rattle.job_model.specs.declared.ends.CleanEnd.TheVariants as ends
 use Rattle.cleanup.specs.declared.held.Stage.TheVariants as stages
 
--- one that aborts these uploads; there are some
+-- The clean that aborts these uploads, of which there are some.
 abbrev pub aborting_from : List UploadRef → Clean
 aborting_from [] = CleanOver ends.Done
 aborting_from (u ∷ us) = Aborting u us
 
--- a clean of a stage, the uploads, the sweep, the paths, and the place among the uploads or the paths
+-- The clean at a stage, with the uploads, the sweep, the paths, and the place among the uploads or the paths.
 abbrev pub clean_at : Stage → List UploadRef → Sweep → List (List ℕ) → ℕ → Clean
 clean_at stages.Walking found sweep paths at = Walking found
 clean_at stages.Aborting found sweep paths at = aborting_from (drop at found)
@@ -24,29 +24,29 @@ clean_at stages.Naming found sweep paths at = Naming
 clean_at stages.Removing found sweep paths at = removing (drop at paths)
 clean_at (stages.Over end) found sweep paths at = CleanOver end
 
--- the clean that what is kept stands for
+-- The clean that the kept values represent.
 abbrev pub clean_of : Held → Clean
 clean_of h = clean_at h.stage h.uploads h.sweep h.paths h.at
 
--- the place is one of so many uploads or paths
+-- True if the place is below the number of uploads or paths.
 abbrev pub within : Stage → ℕ → ℕ → ℕ → Bool
 within stages.Aborting at uploads paths = nat_lt at uploads
 within stages.Removing at uploads paths = nat_lt at paths
 within _ at uploads paths = true
 
--- the place is one of the uploads or paths that are kept
+-- True if the place is that of a kept upload or path.
 abbrev pub within_of : Held → Bool
 within_of h = within h.stage h.at (length h.uploads) (length h.paths)
 
--- the stage once all uploads are aborted
+-- The stage after all uploads are aborted.
 abbrev pub stage_after : Committer → Stage
 stage_after Magic = stages.Sweeping
 stage_after _ = stages.Naming
 
--- the stage at a place among the uploads, or behind the last one
+-- The stage at a place among the uploads, or after the last one.
 abbrev pub abort_stage : Committer → ℕ → ℕ → Stage
 abort_stage committer at len = cond (nat_lt at len) stages.Aborting (stage_after committer)
 
--- the stage at a place among the cluster's files, or behind the last one
+-- The stage at a place among the cluster's files, or after the last one.
 abbrev pub remove_stage : ℕ → ℕ → Stage
 remove_stage at len = cond (nat_lt at len) stages.Removing (stages.Over ends.Done)

@@ -1,4 +1,4 @@
--- What a clean has left in a scene.
+-- The requests that a clean has left in a scene.
 use Rattle.job_model.specs.Jobs.{Job}
 use Rattle.job_protocol.specs.AtWork.{Driving}
 use Rattle.job_protocol.specs.Cleanups.{Aborting, Clean, CleanOver, Naming, Removing, Sweeping, Walking}
@@ -10,12 +10,12 @@ use Rattle.s3_types.specs.declared.request.Committer.TheVariants.{Magic}
 use Rattle.std.specs.Prelude.{codes, length, ℕ, ◌++◌, ◌+◌}
 use Rattle.magic_paths.specs.Layout as layout
 
--- once the uploads are aborted: the sweep, or the list of the files and each of them
+-- How many requests follow the aborts of uploads: those of the sweep, or the list of the files and the deletion of each.
 abbrev pub after_left : Committer → Job → Scene → ℕ
 after_left Magic j s = sweep_left j.dest.bucket (layout.magic_prefix j.dest.key j.job) sweep_start s
 after_left _ j s = 1 + files_left (layout.cluster_prefix j.job) s
 
--- the requests that a clean has yet to send
+-- A bound on the requests that a clean has left.
 abbrev pub left_at : Job → Clean → Scene → ℕ
 left_at j (Walking found) s = uploads_left j.dest.bucket (j.dest.key ++ codes "/") found s + after_left j.committer j s
 left_at j (Aborting u us) s = (1 + length us) + after_left j.committer j s
@@ -24,6 +24,6 @@ left_at j Naming s = 1 + files_left (layout.cluster_prefix j.job) s
 left_at j (Removing p ps) s = 1 + length ps
 left_at j (CleanOver end) s = 0
 
--- the requests that a clean of a plan has yet to send
+-- A bound on the requests that a plan's clean has left.
 abbrev pub clean_left : Driving Clean → Scene → ℕ
 clean_left m s = left_at m.plan m.operation s

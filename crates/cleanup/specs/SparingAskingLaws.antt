@@ -1,4 +1,4 @@
--- How a sparing clean goes on.
+-- The state of a sparing clean.
 use Rattle.cleanup.specs.SparingFits.{FitsSparingDriving, sparing_standing, sparing_standing_of}
 use Rattle.job_model.specs.Jobs.{Job}
 use Rattle.job_protocol.specs.AtWork.{job_script, sparing_told, sparing_wants}
@@ -48,7 +48,7 @@ goes_on j (Deleting k ks) r a e = fine_deleting (drop 1000 (k ∷ ks))
 goes_on j (Removing p ps) r a e = fine_removing ps
 goes_on j (SparingOver end) r a e = refl
 
--- it asks a request until it is over
+-- A sparing clean has a request to send until it is over.
 asks_until : (j : Job) (x : Sparing) → is_some (sparing_asks (job_script j) x) ≡ is_none (sparing_over x)
 asks_until j (SparingOver end) = refl
 asks_until j _ = refl

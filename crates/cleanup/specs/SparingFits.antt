@@ -1,4 +1,4 @@
--- The replies that fit a sparing clean, and how it stands.
+-- The replies that fit a sparing clean, and whether it has failed.
 use Rattle.cleanup.specs.Fits.{standing_at}
 use Rattle.job_protocol.specs.AtWork.{Driving}
 use Rattle.job_protocol.specs.Sparing.{Reading, Sparing, SparingOver, Walking, set_names}
@@ -9,30 +9,30 @@ use Rattle.s3_types.specs.declared.reply.Reply.TheVariants.{ClusterBytes}
 use Rattle.std.specs.Prelude.{Bool, length, ℕ, ◌≤◌}
 use Rattle.pending_json.specs.Reading as reading
 
--- the most uploads that a set names: those of an attempt's files
+-- The most uploads that a set names: those of an attempt's files.
 abbrev pub most_commits : ℕ
 most_commits = 20000
 
--- a set that is read names no more uploads than that
+-- A set that was read names at most `most_commits` uploads.
 abbrev pub NamesFew : Reply → Type 0
 NamesFew (ClusterBytes bytes) = length (set_names (reading.set_of bytes)) ≤ most_commits
 NamesFew _ = Unit {0}
 
--- the bucket is there, a page that is not folded has keys alone, and a set names only so many uploads
+-- The bucket exists, an unfolded page lists keys only, and a set names at most `most_commits` uploads.
 abbrev pub FitsSparing : Sparing → Reply → Type 0
 FitsSparing (Walking keys) r = FitsPage r
 FitsSparing (Reading named p ps all) r = NamesFew r
 FitsSparing _ r = Unit {0}
 
--- a reply that a sparing clean of a plan may be told
+-- A reply that a plan's sparing clean may receive.
 abbrev pub FitsSparingDriving : Driving Sparing → Reply → Bool → Type 0
 FitsSparingDriving m r repeated = FitsSparing m.operation r
 
--- how a sparing clean stands by its end
+-- Whether a sparing clean failed, by its end.
 abbrev pub sparing_standing_of : Sparing → Standing
 sparing_standing_of (SparingOver end) = standing_at end
 sparing_standing_of _ = Fine
 
--- how a sparing clean of a plan stands by its end
+-- Whether a plan's sparing clean failed, by its end.
 abbrev pub sparing_standing : Driving Sparing → Standing
 sparing_standing m = sparing_standing_of m.operation

@@ -1,4 +1,4 @@
--- What a sparing clean has left in a scene.
+-- The requests that a sparing clean has left in a scene.
 use Rattle.cleanup.specs.SparingFits.{most_commits}
 use Rattle.job_model.specs.Jobs.{Job}
 use Rattle.job_protocol.specs.AtWork.{Driving}
@@ -11,24 +11,25 @@ use Rattle.s3_types.specs.declared.request.Committer.TheVariants.{Magic}
 use Rattle.std.specs.Prelude.{length, ℕ, ◌*◌, ◌+◌}
 use Rattle.magic_paths.specs.Layout as layout
 
--- the most uploads that a place names: a record its own, a set those of an attempt's files
+-- The most uploads that a place names: one for a record, those of an attempt's files for a set.
 abbrev pub named_most : Committer → ℕ
 named_most Magic = 1
 named_most _ = most_commits
 
--- the reads of so many places, with the abort of all that they may name, of so many more uploads, and the deletion of so many things
+-- A bound on the reads of these places and the aborts of all that they may name, plus the aborts of the uploads named already and the
+-- deletions.
 abbrev pub reading_left : Committer → (places named all : ℕ) → ℕ
 reading_left c places named all = (1 + named_most c) * places + named + all
 
--- the list of so many things, and then for each its read, the abort of all that it may name, and its deletion
+-- A bound on listing `n` items and then, for each, its read, the aborts of all that it may name, and its deletion.
 abbrev pub listing_left : Committer → ℕ → ℕ
 listing_left c n = 1 + (2 + named_most c) * n
 
--- the pages of a walk that knows so many keys where so many are to come, and then what is left of all of them
+-- A bound on the pages of a walk that knows `known` keys and may find `more`, and on all that follows.
 abbrev pub walking_left : Committer → (known more : ℕ) → ℕ
 walking_left c known more = more + listing_left c (known + more)
 
--- the requests that a sparing clean has yet to send: at most so many
+-- A bound on the requests that a sparing clean has left.
 abbrev pub sparing_left_at : Job → Sparing → Scene → ℕ
 sparing_left_at j (Walking keys) s = walking_left j.committer (length keys) (keys_left j.dest.bucket (layout.magic_prefix j.dest.key j.job)
     (last_of keys) s)
@@ -39,6 +40,6 @@ sparing_left_at j (Deleting k ks) s = 1 + length ks
 sparing_left_at j (Removing p ps) s = 1 + length ps
 sparing_left_at j (SparingOver end) s = 0
 
--- the requests that a sparing clean of a plan has yet to send
+-- A bound on the requests that a plan's sparing clean has left.
 abbrev pub sparing_left : Driving Sparing → Scene → ℕ
 sparing_left m s = sparing_left_at m.plan m.operation s

@@ -12,9 +12,10 @@ use s3_types::{Reply, Request, let_go};
 use std::alloc::{AllocError, Global};
 use std::marker::Model;
 
-/// A clean or an abort of a job, with the job's plan. It aborts each live upload below the destination; then for
-/// the magic committer it empties the job's magic directory, and for the staging committers it deletes each of
-/// the job's files in the cluster. (Hadoop, S3A committer architecture: job abort and cleanup.)
+/// A clean or an abort of a job, with the job's plan. It aborts each live upload below the
+/// destination. Then, for the magic committer, it empties the job's magic directory; for the
+/// staging committers, it deletes each of the job's files in the cluster. (Hadoop, S3A committer
+/// architecture: job abort and cleanup.)
 #[derive(Drop)]
 pub struct Cleaning {
     plan: JobPlan,
@@ -37,7 +38,7 @@ impl Model for Cleaning {
 /// A clean of a job.
 pub type CleanJob = Asking<Cleaning>;
 
-/// An abort of a job, which sends what a clean does.
+/// An abort of a job, which sends the same requests as a clean.
 pub type AbortJob = Asking<Cleaning>;
 
 impl Asks for Cleaning {

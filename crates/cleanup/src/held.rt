@@ -12,24 +12,24 @@ use list_walk::{AllKeys, Sweep, UploadWalk};
 use s3_types::{Committer, Reply, Request, TextList, put};
 use std::alloc::{AllocError, Global};
 
-/// Where a clean stands.
+/// The stage of a clean.
 #[derive(Clone, Copy)]
 pub enum Stage {
-    /// It lists live uploads.
+    /// Lists live uploads.
     Walking,
-    /// It aborts the upload at its place.
+    /// Aborts the upload at the current place.
     Aborting,
-    /// It empties the job's magic directory.
+    /// Empties the job's magic directory.
     Sweeping,
-    /// It lists the job's files in the cluster.
+    /// Lists the job's files in the cluster.
     Naming,
-    /// It deletes the file at its place.
+    /// Deletes the file at the current place.
     Removing,
     Over(CleanEnd),
 }
 
-/// A clean as it goes on: its stage, the uploads, the sweep, the cluster's paths, and the place among the
-/// uploads or the paths.
+/// A clean in progress: its stage, the uploads, the sweep, the cluster's paths, and the place among
+/// the uploads or the paths.
 #[derive(Drop)]
 pub struct Held {
     pub stage: Stage,
@@ -39,7 +39,7 @@ pub struct Held {
     pub at: usize,
 }
 
-/// What follows the last upload.
+/// Returns the stage after the last upload.
 fn after_uploads(committer: Committer) -> Stage
     ensures { result ≡ stage_after committer }
 {
@@ -70,7 +70,7 @@ fn stage_of_paths(at: usize, len: usize) -> Stage
 }
 
 impl Held {
-    /// A clean of which nothing was sent yet. Takes no memory.
+    /// Returns a clean that has sent nothing yet. Takes no memory.
     pub fn new(alloc: Global) -> Held
         ensures start { clean_of result ≡ clean_start }
         ensures within { within_of result ≡ true }
@@ -84,7 +84,7 @@ impl Held {
         }
     }
 
-    /// The next request, or None where it is over.
+    /// Returns the next request, or None if the clean is over.
     pub fn request(&self, alloc: Global, plan: &JobPlan) -> Result<Option<Request>, AllocError>
         ensures { IfOk result (λ request. request ≡ clean_asks (job_script plan.now) (clean_of self.now)) }
     {
@@ -102,7 +102,7 @@ impl Held {
         }
     }
 
-    /// Aborts the uploads from this place on, and then goes on.
+    /// Goes to the abort of the upload at this place, or on if none is left.
     fn abort_from(&mut self, alloc: Global, committer: Committer, at: usize)
         ensures goes { clean_of self.new ≡ aborting committer (drop at self.old.uploads) }
         ensures within { within_of self.new ≡ true }
@@ -112,7 +112,7 @@ impl Held {
         put(&mut self.sweep, Sweep::new(alloc));
     }
 
-    /// Deletes the cluster's files from this place on.
+    /// Goes to the deletion of the cluster file at this place, or ends if none is left.
     fn remove_from(&mut self, at: usize)
         ensures goes { clean_of self.new ≡ removing (drop at self.old.paths) }
         ensures within { within_of self.new ≡ true }
@@ -166,7 +166,7 @@ impl Held {
         Ok(())
     }
 
-    /// Takes the reply to its present request.
+    /// Takes the reply to the current request.
     pub fn hear(&mut self, alloc: Global, plan: &JobPlan, reply: &Reply) -> Result<(), AllocError>
         requires there { within_of self.old ≡ true }
         requires fits { FitsClean (clean_of self.old) reply.now }

@@ -1,11 +1,12 @@
 ghost use Rattle.cleanup.specs.Laws.{CleansEnd, SparingsEnd};
 
-/// How many answers and worn requests a clean has left, among others that send.
+/// Bounds the replies and exhausted requests that a clean has left while other actors send too.
 pub fn cleans_end()
     ensures { CleansEnd }
 {}
 
-/// How many answers and worn requests a sparing clean has left, among others that send.
+/// Bounds the replies and exhausted requests that a sparing clean has left while other actors send
+/// too.
 pub fn sparings_end()
     ensures { SparingsEnd }
 {}

@@ -1,19 +1,26 @@
-//! The driver's clean and abort of a job, for every committer: the live uploads below the destination are
-//! aborted, and then a magic job's directory is emptied, or a staging job's files in the cluster are deleted.
-//! At a destination that other jobs use too, only the uploads that the job's own records and sets name are.
+//! The driver's clean and abort of a job, for every committer. It aborts the live uploads below the
+//! destination. Then it empties a magic job's directory, or deletes a staging job's files in the
+//! cluster. At a destination that other jobs use too, it aborts only the uploads that the job's own
+//! records and sets name.
 //!
 //! # What is proved
 //!
-//! `CleanJob`, `AbortJob`: For every committer they ask, go on and end exactly as `job_protocol` has
-//! it of a clean, after every list of replies that fit. After want of memory nothing more is asked, and
-//! the end is NoMemory. What is left falls by each answer and worn request, and rises by at most 3 by a
-//! request of another actor (`cleans_end`). Left open: other replies. A clean takes every live upload
-//! below the destination for the job's own.
+//! `CleanJob`, `AbortJob`: they ask, go on and end exactly as `job_protocol` defines a clean, for
+//! every committer and every list of replies that fit.
 //!
-//! `SparingJob`: The same of a sparing clean, which lists no uploads: it asks, goes on and ends exactly as
-//! `job_protocol` has it, for every committer, after every list of replies that fit. What is left falls by
-//! each answer and worn request where a set that is read names at most 20,000 uploads, and rises by at most
-//! 20,003 by a request of another actor (`sparings_end`). Left open: other replies.
+//! - After memory runs out they send nothing more, and end with NoMemory.
+//! - The bound on the requests left falls with each reply and each request that exhausts its
+//!   retries. Another actor's request raises it by at most 3 (`cleans_end`).
+//! - A clean treats every live upload below the destination as the job's own.
+//!
+//! `SparingJob`: a sparing clean, which lists no uploads, asks, goes on and ends exactly as
+//! `job_protocol` defines it, for every committer and every list of replies that fit.
+//!
+//! - The bound on the requests left falls with each reply and each request that exhausts its
+//!   retries, if each set that it reads names at most 20,000 uploads. Another actor's request
+//!   raises it by at most 20,003 (`sparings_end`).
+//!
+//! Left open: what they do after other replies.
 #![tactic(auto)]
 
 mod cleaning;

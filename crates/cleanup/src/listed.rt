@@ -4,7 +4,7 @@ ghost use Rattle.cleanup.specs.Places.{behind};
 use s3_types::{Sequence, Text, TextList, let_go};
 use std::alloc::{AllocError, Global};
 
-/// The same texts, which are shared.
+/// Returns these texts, shared with the argument.
 pub fn shared_texts(alloc: Global, texts: &[Text]) -> Result<TextList, AllocError>
     ensures { IfOk result (λ copy. copy ≡ texts.now) }
 {
@@ -22,7 +22,7 @@ pub fn shared_texts(alloc: Global, texts: &[Text]) -> Result<TextList, AllocErro
     Ok(copy)
 }
 
-/// The place so many steps on, or the end of so many.
+/// Returns the place `step` places after `at`, but at most `len`.
 pub fn next_place(at: usize, step: usize, len: usize) -> usize
     ensures { result ≡ behind at step len }
 {

@@ -9,14 +9,14 @@ use pending_json::{PendingSet, PendingUpload, RecordFault};
 use s3_types::{Key, KeyList, Reply, UploadList, UploadRef, let_go};
 use std::alloc::{AllocError, Global};
 
-/// Whether a key is a record's, by its end. Takes no memory.
+/// Returns whether a key is that of a record, by its suffix. Takes no memory.
 fn is_record(key: &Key) -> bool
     ensures { result ≡ is_record key.now }
 {
     key.as_bytes().ends_with(b".pending")
 }
 
-/// The keys that are records', which are shared.
+/// Returns the keys of records among these keys, shared with the argument.
 pub fn records_in(alloc: Global, keys: &[Key]) -> Result<KeyList, AllocError>
     ensures { IfOk result (λ records. records ≡ filter is_record keys.now) }
 {
@@ -36,7 +36,7 @@ pub fn records_in(alloc: Global, keys: &[Key]) -> Result<KeyList, AllocError>
     Ok(records)
 }
 
-/// The upload that a record names, whose key is shared.
+/// Returns the upload that a record names; the key is shared.
 fn ref_of(pending: &PendingUpload) -> Result<UploadRef, AllocError>
     ensures { IfOk result (λ upload. upload ≡ ref_of pending.now) }
 {
@@ -46,7 +46,7 @@ fn ref_of(pending: &PendingUpload) -> Result<UploadRef, AllocError>
     })
 }
 
-/// Whether a fault is want of memory. Takes no memory.
+/// Returns whether a fault means that memory ran out. Takes no memory.
 fn is_wanting(fault: &RecordFault) -> bool
     ensures { result ≡ wanting fault.now }
 {
@@ -56,7 +56,7 @@ fn is_wanting(fault: &RecordFault) -> bool
     }
 }
 
-/// Bytes that could not be read are passed over, unless memory was wanting.
+/// Skips bytes that could not be read, unless memory ran out.
 fn pass_over(fault: RecordFault) -> Result<(), AllocError>
     ensures { OnOk result (wanting fault ≡ false) }
 {
@@ -65,7 +65,7 @@ fn pass_over(fault: RecordFault) -> Result<(), AllocError>
     if wanting { Err(AllocError) } else { Ok(()) }
 }
 
-/// Adds the upload that a record names; bytes that are no record name none.
+/// Adds the upload that a record names. Bytes that are no record name none.
 fn add_record(alloc: Global, named: &mut UploadList, bytes: &[u8]) -> Result<(), AllocError>
     ensures { OnOk result (named.new ≡ named.old ++ record_names (pending_of bytes.now)) }
 {
@@ -89,7 +89,7 @@ fn add_all(named: &mut UploadList, commits: &[PendingUpload]) -> Result<(), Allo
     Ok(())
 }
 
-/// Adds the uploads that a set names; bytes that are no set name none.
+/// Adds the uploads that a set names. Bytes that are no set name none.
 fn add_set(alloc: Global, named: &mut UploadList, bytes: &[u8]) -> Result<(), AllocError>
     ensures { OnOk result (named.new ≡ named.old ++ set_names (set_of bytes.now)) }
 {
@@ -103,7 +103,8 @@ fn add_set(alloc: Global, named: &mut UploadList, bytes: &[u8]) -> Result<(), Al
     }
 }
 
-/// Adds the uploads that an answer names: a record its own, a set all of its uploads. Where nothing stands, none.
+/// Adds the uploads that an answer names: a record names its own, a set all of its uploads. An
+/// answer that there is no object or file names none.
 pub fn add_names(alloc: Global, named: &mut UploadList, reply: &Reply) -> Result<(), AllocError>
     ensures { OnOk result (named.new ≡ named.old ++ names reply.now) }
 {

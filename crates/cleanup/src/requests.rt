@@ -10,7 +10,7 @@ use path_keys::S3Path;
 use s3_types::{Bucket, Key, Request, Text, UploadRef, let_go};
 use std::alloc::{AllocError, Global};
 
-/// The request for the next page of live uploads below a destination.
+/// Returns the request for the next page of live uploads below a destination.
 pub fn walk_request(
     alloc: Global,
     dest: &S3Path,
@@ -28,7 +28,7 @@ pub fn walk_request(
     }
 }
 
-/// The request that aborts the first upload behind so many, where there is one.
+/// Returns the request that aborts the upload at place `at`, or None if there is none.
 pub fn abort_request(
     bucket: &Bucket,
     uploads: &[UploadRef],
@@ -45,7 +45,7 @@ pub fn abort_request(
     }
 }
 
-/// The request for the names of a staging job's files in the cluster.
+/// Returns the request for the names of a staging job's files in the cluster.
 pub fn names_request(alloc: Global, job: &Text) -> Result<Option<Request>, AllocError>
     ensures { IfOk result (λ request. request ≡ Some (ClusterList (layout.cluster_prefix job.now))) }
 {
@@ -58,7 +58,7 @@ pub fn names_request(alloc: Global, job: &Text) -> Result<Option<Request>, Alloc
     }
 }
 
-/// The request that deletes the first of the cluster's files behind so many, where there is one.
+/// Returns the request that deletes the cluster file at place `at`, or None if there is none.
 pub fn remove_request(paths: &[Text], at: usize) -> Result<Option<Request>, AllocError>
     ensures { IfOk result (λ request. request ≡ remove_asks (drop at paths.now)) }
 {
@@ -71,7 +71,7 @@ pub fn remove_request(paths: &[Text], at: usize) -> Result<Option<Request>, Allo
     }
 }
 
-/// The next request of the sweep of a job's magic directory.
+/// Returns the next request of the sweep of a job's magic directory.
 pub fn sweep_request(
     alloc: Global,
     dest: &S3Path,
@@ -87,7 +87,7 @@ pub fn sweep_request(
     asked
 }
 
-/// The request for the next page of keys below a job's magic directory.
+/// Returns the request for the next page of keys below a job's magic directory.
 pub fn page_request(
     alloc: Global,
     dest: &S3Path,
@@ -106,7 +106,7 @@ pub fn page_request(
     }
 }
 
-/// The request that reads the object at the first key behind so many, where there is one.
+/// Returns the request that reads the object with the key at place `at`, or None if there is none.
 pub fn get_request(bucket: &Bucket, keys: &[Key], at: usize) -> Result<Option<Request>, AllocError>
     ensures { IfOk result (λ request. request ≡ get_asks bucket.now (drop at keys.now)) }
 {
@@ -119,7 +119,7 @@ pub fn get_request(bucket: &Bucket, keys: &[Key], at: usize) -> Result<Option<Re
     }
 }
 
-/// The request that reads the first of the cluster's files behind so many, where there is one.
+/// Returns the request that reads the cluster file at place `at`, or None if there is none.
 pub fn get_file_request(paths: &[Text], at: usize) -> Result<Option<Request>, AllocError>
     ensures { IfOk result (λ request. request ≡ get_file_asks (drop at paths.now)) }
 {
@@ -132,7 +132,8 @@ pub fn get_file_request(paths: &[Text], at: usize) -> Result<Option<Request>, Al
     }
 }
 
-/// The request that deletes the keys behind so many, at most 1,000 of them, where there are some.
+/// Returns the request that deletes the keys from place `at` on, at most 1,000 of them, or None if
+/// there are none.
 pub fn delete_request(
     alloc: Global,
     bucket: &Bucket,

@@ -12,11 +12,14 @@ use s3_types::{Reply, let_go};
 use std::alloc::{AllocError, Global};
 use std::marker::Model;
 
-/// A clean or an abort of a job at a destination that other jobs use too, with the job's plan. It aborts the uploads
-/// that the job's own records or sets name, and no others: for the magic committer those of the records below the
-/// job's magic directory, whose keys it then deletes; for the staging committers those of the sets among the job's
-/// files in the cluster, which it then deletes. (Hadoop, S3A committer architecture: cleanup by the job's own
-/// pending files.)
+/// A clean or an abort of a job at a destination that other jobs use too, with the job's plan. It
+/// aborts the uploads that the job's own records or sets name, and no others. (Hadoop, S3A
+/// committer architecture: cleanup by the job's own pending files.)
+///
+/// - For the magic committer these are the uploads of the records below the job's magic directory,
+///   whose keys it then deletes.
+/// - For the staging committers these are the uploads of the sets among the job's files in the
+///   cluster, which it then deletes.
 #[derive(Drop)]
 pub struct SparingClean {
     plan: JobPlan,

@@ -18,30 +18,35 @@ use list_walk::KeyWalk;
 use s3_types::{Committer, KeyList, Reply, Request, TextList, UploadList, let_go, put};
 use std::alloc::{AllocError, Global};
 
-/// How many keys a batch has at most. (Amazon S3 API: DeleteObjects.)
+/// The most keys that a batch may have. (Amazon S3 API: DeleteObjects.)
 const BATCH: usize = 1000;
 
-/// Where a sparing clean stands.
+/// The stage of a sparing clean.
 #[derive(Clone, Copy)]
 pub enum Stage {
-    /// It lists the keys below the job's magic directory.
+    /// Lists the keys below the job's magic directory.
     Walking,
-    /// It lists the job's files in the cluster.
+    /// Lists the job's files in the cluster.
     Naming,
-    /// It reads the record or the set at its place.
+    /// Reads the record or the set at the current place.
     Reading,
-    /// It aborts the upload at its place.
+    /// Aborts the upload at the current place.
     Aborting,
-    /// It deletes the keys from its place on.
+    /// Deletes the keys from the current place on.
     Deleting,
-    /// It deletes the file at its place.
+    /// Deletes the file at the current place.
     Removing,
     Over(CleanEnd),
 }
 
-/// A sparing clean as it goes on: its stage; of a magic job the walk over its keys, and once that is whole the
-/// keys and those of them that are records'; of a staging job the paths of its files; the uploads that were named
-/// so far; and the place among the records or paths, the uploads, or the keys or paths.
+/// A sparing clean in progress:
+///
+/// - its stage;
+/// - for a magic job, the walk over its keys and, once that is complete, the keys and those among
+///   them that belong to records;
+/// - for a staging job, the paths of its files;
+/// - the uploads named so far;
+/// - the place among the records or paths, the uploads, or the keys or paths.
 #[derive(Drop)]
 pub struct Held {
     pub stage: Stage,
@@ -53,7 +58,7 @@ pub struct Held {
     pub at: usize,
 }
 
-/// What is listed first.
+/// Returns the first stage, which lists the keys or the files.
 fn start_stage(committer: Committer) -> Stage
     ensures { result ≡ start_stage committer }
 {
@@ -64,7 +69,7 @@ fn start_stage(committer: Committer) -> Stage
 }
 
 impl Held {
-    /// A sparing clean of which nothing was sent yet. Takes no memory.
+    /// Returns a sparing clean that has sent nothing yet. Takes no memory.
     pub fn new(alloc: Global, committer: Committer) -> Held
         ensures start { sparing_of committer result ≡ sparing_start committer }
         ensures within { within_of committer result ≡ true }
@@ -80,7 +85,8 @@ impl Held {
         }
     }
 
-    /// The request that reads the record or the set at its place, where there is one.
+    /// Returns the request that reads the record or the set at the current place, or None if there
+    /// is none.
     fn read_request(&self, plan: &JobPlan) -> Result<Option<Request>, AllocError>
         ensures { IfOk result (λ request. request ≡ read_asks plan.now.committer (job_script plan.now)
             (drop self.now.at (places_of plan.now.committer self.now))) }
@@ -93,7 +99,7 @@ impl Held {
         }
     }
 
-    /// The next request, or None where it is over.
+    /// Returns the next request, or None if the clean is over.
     pub fn request(&self, alloc: Global, plan: &JobPlan) -> Result<Option<Request>, AllocError>
         ensures { IfOk result (λ request. request ≡ sparing_asks (job_script plan.now)
             (sparing_of plan.now.committer self.now)) }
@@ -111,7 +117,7 @@ impl Held {
         }
     }
 
-    /// Deletes the keys from this place on.
+    /// Goes to the deletion of the keys from this place on, or ends if none is left.
     fn delete_from(&mut self, at: usize)
         ensures goes { (c : Committer) → sparing_of c self.new ≡ deleting (drop at self.old.keys) }
         ensures within { (c : Committer) → within_of c self.new ≡ true }
@@ -124,7 +130,7 @@ impl Held {
         self.at = at;
     }
 
-    /// Deletes the cluster's files from this place on.
+    /// Goes to the deletion of the cluster file at this place, or ends if none is left.
     fn remove_from(&mut self, at: usize)
         ensures goes { (c : Committer) → sparing_of c self.new ≡ removing (drop at self.old.paths) }
         ensures within { (c : Committer) → within_of c self.new ≡ true }
@@ -137,7 +143,7 @@ impl Held {
         self.at = at;
     }
 
-    /// Deletes all that was listed.
+    /// Goes to the deletion of all that was listed.
     fn empty(&mut self, committer: Committer)
         ensures goes { sparing_of committer self.new ≡ emptying committer (all_of committer self.old) }
         ensures within { within_of committer self.new ≡ true }
@@ -148,7 +154,8 @@ impl Held {
         }
     }
 
-    /// Aborts the uploads from this place on, and then deletes all that was listed.
+    /// Goes to the abort of the upload at this place, and after the last to the deletion of all
+    /// that was listed.
     fn abort_from(&mut self, committer: Committer, at: usize)
         ensures goes { sparing_of committer self.new ≡ aborting committer (drop at self.old.named)
             (all_of committer self.old) }
@@ -162,7 +169,7 @@ impl Held {
         self.at = at;
     }
 
-    /// How many places are read.
+    /// Returns how many records or sets there are to read.
     fn count(&self, committer: Committer) -> usize
         ensures { result ≡ length (places_of committer self.now) }
     {
@@ -172,7 +179,8 @@ impl Held {
         }
     }
 
-    /// Reads the records or the sets from this place on, and then aborts what they name.
+    /// Goes to the read of the record or set at this place, and after the last to the aborts of the
+    /// named uploads.
     fn read_from(&mut self, committer: Committer, at: usize)
         ensures goes { sparing_of committer self.new ≡ reading_on committer self.old.named
             (drop at (places_of committer self.old)) (all_of committer self.old) }
@@ -186,7 +194,7 @@ impl Held {
         self.at = at;
     }
 
-    /// Reads these records, of these keys of a magic job.
+    /// Goes to the read of these records, which are among these keys of a magic job.
     fn read_records(&mut self, alloc: Global, committer: Committer, keys: KeyList, records: KeyList)
         requires { lists_keys committer ≡ true }
         ensures goes { sparing_of committer self.new ≡ reading_on committer [] records keys }
@@ -198,7 +206,7 @@ impl Held {
         self.read_from(committer, 0);
     }
 
-    /// Reads the sets that a staging job has at these paths.
+    /// Goes to the read of the sets that a staging job has at these paths.
     fn read_sets(&mut self, alloc: Global, committer: Committer, paths: TextList)
         requires { lists_keys committer ≡ false }
         ensures goes { sparing_of committer self.new ≡ reading_on committer [] paths paths }
@@ -253,7 +261,7 @@ impl Held {
         Ok(())
     }
 
-    /// The record or the set at its place was read: the next one is.
+    /// Notes the uploads of the record or the set at the current place, and goes to the next.
     fn hear_read(
         &mut self,
         alloc: Global,
@@ -273,7 +281,7 @@ impl Held {
         Ok(())
     }
 
-    /// The upload at its place was aborted: the next one is.
+    /// Goes to the next upload after the current one was aborted.
     fn abort_next(&mut self, committer: Committer)
         ensures goes { sparing_of committer self.new ≡ aborting committer (drop 1 (drop self.old.at self.old.named))
             (all_of committer self.old) }
@@ -283,7 +291,7 @@ impl Held {
         self.abort_from(committer, at);
     }
 
-    /// The batch at its place was deleted: the next one is.
+    /// Goes to the next batch after the current one was deleted.
     fn delete_next(&mut self)
         ensures goes { (c : Committer) → sparing_of c self.new ≡ deleting (drop 1000 (drop self.old.at self.old.keys)) }
         ensures within { (c : Committer) → within_of c self.new ≡ true }
@@ -292,7 +300,7 @@ impl Held {
         self.delete_from(at);
     }
 
-    /// The file at its place was deleted: the next one is.
+    /// Goes to the next file after the current one was deleted.
     fn remove_next(&mut self)
         ensures goes { (c : Committer) → sparing_of c self.new ≡ removing (drop 1 (drop self.old.at self.old.paths)) }
         ensures within { (c : Committer) → within_of c self.new ≡ true }
@@ -301,7 +309,7 @@ impl Held {
         self.remove_from(at);
     }
 
-    /// Takes the reply to its present request.
+    /// Takes the reply to the current request.
     pub fn hear(&mut self, alloc: Global, plan: &JobPlan, reply: &Reply) -> Result<(), AllocError>
         requires there { within_of plan.now.committer self.old ≡ true }
         requires fits { FitsSparing (sparing_of plan.now.committer self.old) reply.now }

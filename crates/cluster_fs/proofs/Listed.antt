@@ -1,4 +1,4 @@
--- The paths that begin with a text stand in a row.
+-- The paths that begin with a text are next to one another.
 use Rattle.basics.proofs.Bools.{contrary}
 use Rattle.basics.proofs.Less.{le_le, le_not, lt, lt_not}
 use Rattle.basics.specs.Order.{text_cmp, text_total}
@@ -22,7 +22,7 @@ none_after p k (q ∷ ks) g n h =
     let m : begins p q ≡ false = contrary (begins p q) (λ t. sym n ∙ between p k q g h.0 t) in
     ap (λ b. cond b (q ∷ filter (begins p) ks) (filter (begins p) ks)) m ∙ none_after p q ks (le_le text_total p k q g h.0) m h.1
 
--- behind a path that does not begin with p there is none that does
+-- After a path that does not begin with p, no path begins with p.
 pub none_left : (p k : List ℕ) (ks : List (List ℕ)) → Follows p (k ∷ ks) → begins p k ≡ false → filter (begins p) (k ∷ ks) ≡ []
 none_left p k ks h n = ap (λ b. cond b (k ∷ filter (begins p) ks) (filter (begins p) ks)) n ∙ none_after p k ks h.0 n h.1
 
@@ -73,7 +73,7 @@ follow_from p (k ∷ ks) s = by (follow_from p ks (sorted_tail text_cmp k ks s))
     by ih true t = (not-true _ (sym (is_from p k) ∙ t), kept_follows (from_on p) k ks s)
     by ih false t = ih
 
--- those before p do not begin with it
+-- The paths before p do not begin with p.
 all_from : (p : List ℕ) (ks : List (List ℕ)) → filter (begins p) (filter (from_on p) ks) ≡ filter (begins p) ks
 all_from p [] = refl
 all_from p (k ∷ ks) = by (begins p k) refl (from_on p k) refl (all_from p ks)
@@ -88,7 +88,7 @@ all_from p (k ∷ ks) = by (begins p k) refl (from_on p k) refl (all_from p ks)
         ih
     by false t false u ih = ih
 
--- what stands from p on in a tree's entries
+-- The entries of a tree from p on.
 pub record IsRest {X : Type 0} (p : List ℕ) (es rest : List (List ℕ × X)) : Type 0 where
   pub follows : Follows p (keys_of rest)
   pub all : filter (begins p) (keys_of rest) ≡ filter (begins p) (keys_of es)

@@ -1,4 +1,4 @@
--- A file that is put at the target and then taken from the source.
+-- A rename as a put at the target followed by a removal at the source.
 use Rattle.basics.proofs.Tree.{tied}
 use Rattle.basics.specs.Order.{text_cmp, text_eq, text_ties, text_total}
 use Rattle.s3_types.specs.Store.{Files}
@@ -8,14 +8,14 @@ use Rattle.std.proofs.lemmas.Map.Lookups.{exact_bytes}
 use Rattle.std.specs.FinMap.{get, get-insert, get-remove, insert, remove, same_map}
 use Rattle.std.specs.Ordering.{eq_by_cmp}
 
--- whether two paths are one
+-- True if the two paths are equal.
 abbrev is_at : List ℕ → List ℕ → Bool
 is_at q k = eq_by_cmp text_cmp q k
 
 at_same : (q k : List ℕ) → is_at q k ≡ true → q ≡ k
 at_same q k h = exact_bytes q k (tied (text_cmp q k) h)
 
--- onto itself
+-- A rename onto itself.
 pub onto_itself : (m : Files) (s t : List ℕ) (v : List ℕ) → text_eq s t ≡ true → insert m t v ≡ insert (remove m s) t v
 onto_itself m s t v h = same_map text_total exact_bytes _ _ (λ q. get-insert text_total m t v q ∙ by q (is_at q t) refl ∙ sym
     (get-insert text_total (remove m s) t v q))
@@ -30,7 +30,7 @@ onto_itself m s t v h = same_map text_total exact_bytes _ _ (λ q. get-insert te
         ∙ sym (get-remove text_total m s q ∙ ap (λ b. cond b None (get m q)) (ap (is_at q) same ∙ e))
         ∙ sym (ap (λ b. cond b (Some v) (get (remove m s) q)) e)
 
--- onto another path
+-- A rename onto another path.
 pub onto_another : (m : Files) (s t : List ℕ) (v : List ℕ) → text_eq s t ≡ false → remove (insert m t v) s ≡ insert (remove m s) t v
 onto_another m s t v h = same_map text_total exact_bytes _ _ (λ q.
     get-remove text_total (insert m t v) s q

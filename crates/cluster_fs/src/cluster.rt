@@ -16,8 +16,9 @@ use std::collections::btree_map::Range;
 use std::marker::Model;
 use std::ops::Bound;
 
-/// The files of a cluster by their paths, which clauses see as a finite map. The paths are ordered by
-/// their bytes. In the costs below n is the number of files; no call copies a file's bytes.
+/// The files of a cluster by their paths. Contracts see them as a finite map. The paths are
+/// ordered by their bytes. In the costs below, n is the number of files. No call copies the bytes
+/// of a file.
 #[derive(Drop)]
 pub struct Cluster {
     alloc: Global,
@@ -36,7 +37,7 @@ impl Model for Cluster {
     ghost view = { λ c. map.from_entries c.held.entries };
 }
 
-/// The paths of the files that are left which begin with a prefix. They stand in front.
+/// Returns those of the remaining paths that begin with a prefix. They come first.
 fn paths_of(
     alloc: Global,
     rest: Range<'_, Text, Bytes>,
@@ -114,7 +115,7 @@ impl Cluster {
         }
     }
 
-    /// The paths that begin with a prefix, in O(log n + k) for k of them.
+    /// Returns the paths that begin with a prefix, in O(log n + k) for k of them.
     fn list(&self, prefix: &Text) -> Result<TextList, AllocError>
         ensures { IfOk result (λ paths. paths ≡ filter (begins prefix.now) (map.keys self.now)) }
     {
@@ -122,8 +123,9 @@ impl Cluster {
         paths_of(self.alloc, rest, prefix)
     }
 
-    /// Does a request to the cluster, in O(log n), and for a listing of k paths in O(log n + k). After
-    /// want of memory all is as before. A rename replaces what stands at the target in one step.
+    /// Does a request to the cluster and returns the answer, in O(log n), and for a listing of k
+    /// paths in O(log n + k). If memory runs out, everything is as before. A rename replaces the
+    /// file at the target in one step.
     pub fn apply(&mut self, request: &Request) -> Result<Reply, AllocError>
         requires { is_cluster request.now ≡ true }
         ensures reply { (content : Content) → IfOk result (λ r. r ≡ answer (beside content self.old) request.now) }

@@ -2,8 +2,8 @@
 //!
 //! # What is proved
 //!
-//! `Cluster`: `apply` answers `answer` and leaves `apply` of the cluster's files, which are a finite
-//! map.
+//! `Cluster`: `apply` answers as `answer` says, and changes the cluster's files as `apply` of the
+//! definitions says. The files are a finite map.
 #![tactic(auto)]
 
 mod cluster;

@@ -1,4 +1,4 @@
--- a commit ends by its own entries
+-- A job commit ends as its own entries say.
 use Rattle.basics.proofs.Lists.{get_before}
 use Rattle.basics.proofs.Members.{none_some, some_is}
 use Rattle.basics.proofs.Naturals.{below_is, below_not}
@@ -46,7 +46,7 @@ get_last : (sets : Sets) (s : PendingSet) → slice_get (sets ++ s ∷ []) (leng
 get_last [] s = refl
 get_last (x ∷ xs) s = get_last xs s
 
--- one more set that is of the next task
+-- One more set, which is that of the next task.
 pub read_more : (j : Job) (sets : Sets) (s : PendingSet) → AreRead j sets → IsSetOf j (length sets) s → AreRead j (sets ++ s ∷ [])
 read_more j sets s each new = λ n x e.
     let len : length (sets ++ s ∷ []) ≡ length sets + 1 = length-append sets (s ∷ []) in
@@ -61,11 +61,11 @@ read_more j sets s each new = λ n x e.
 abbrev at : Job → List ℕ → Commit → Committing
 at j p c = record { plan = j; picked = p; operation = c }
 
--- the path that picks of these sets share
+-- The path that two chosen attempts of these sets write.
 abbrev shared_of : Job → Sets → Option CommitEnd
 shared_of j s = same_path (read_script j s) (picks_of s)
 
--- an end that is no fault is the one that is due
+-- An end that is no fault is the one that `due` names.
 abbrev EndOk : Job → Sets → CommitEnd → Type 0
 EndOk j s (ends.StoreFault stage) = Unit {0}
 EndOk j s end = end ≡ due None None (shared_of j s)
@@ -110,9 +110,9 @@ nothing_heard q o e = grind arith
 sweep_reads : (bucket prefix : List ℕ) (s : Sweep) → reads (sweep_asks bucket prefix s) ≡ false
 sweep_reads bucket prefix s = grind arith
 
--- ---- once all is read
+-- ---- after all sets are read
 
--- a commit that has read these sets
+-- A commit that has read these sets.
 abbrev IsLate : Job → Sets → Commit → Type 0
 IsLate j s (Fetching sets m) = ⊥
 IsLate j s (Replacing sets p ps w m) = (sets ≡ s) × RequestsApart s × (shared_of j s ≡ None)
@@ -148,7 +148,7 @@ late_missed j s w _ lost h = grind arith
 late_next : (j : Job) (s : Sets) (w : Script) (c : Commit) (o : Outcome) → IsLate j s c → IsLate j s (commit_tells w c o)
 late_next j s w c o h = grind (arith, late_heard, late_missed)
 
--- the script of these sets tells it the same
+-- The script of these sets leads it to the same state.
 late_tells : (j : Job) (s : Sets) (c : Commit) (o : Outcome) → IsLate j s c
     → commit_tells (read_script j (sets_after c o)) c o ≡ commit_tells (read_script j s) c o
 late_tells j s c o h = grind arith
@@ -159,14 +159,14 @@ late_asks j s c h = grind arith
 late_sound : (j : Job) (s : Sets) (c : Commit) → IsLate j s c → Sound c
 late_sound j s c h = grind arith
 
--- it reads no more
+-- It reads no set any more.
 late_quiet : (j : Job) (s : Sets) (p : List ℕ) (c : Commit) (e : Entry) → IsLate j s c → commit_wants (at j p c) ≡ Some e.request
     → reads e.request ≡ false
 late_quiet j s p c e h f = grind (arith, sweep_reads)
 
 -- ---- a run by one script
 
--- the run from c on is one by the script of these sets, and its end is due by them
+-- The run from `c` on is a run by the script of these sets, and its end is the one that they give.
 record Ran (j : Job) (s : Sets) (p : List ℕ) (c : Commit) (es : List Entry) : Type 0 where
   pub follows : Follows (commit_asks (read_script j s)) (commit_tells (read_script j s)) c es
   pub sound : AllSound (read_script j s) c es
@@ -203,7 +203,7 @@ decided_late : (j : Job) (s : Sets) (o : Option CommitEnd) → AreRead j s → l
     → IsLate j s (decided (read_script j s) s o)
 decided_late j s o h g e = grind (arith, late_replacing, sets_apart)
 
--- the run of a commit that has read these and reads on
+-- The run of a commit that has read these sets and reads on.
 record Fetched (j : Job) (sets : Sets) (p : List ℕ) (c : Commit) (es : List Entry) : Type 0 where
   pub all : Sets
   pub ran : Ran j all p c es
@@ -214,7 +214,7 @@ ReadsOn j es = (sets : Sets) (m : ℕ) (p : List ℕ) → AreRead j sets → len
     → Follows commit_wants commit_told (at j p (Fetching sets m)) es → AllFit (at j p (Fetching sets m)) es
     → Fetched j sets p (Fetching sets m) es
 
--- what follows on a set, and that the script of all sets tells it the same
+-- The run after a set, and that the script of all sets leads to the same state.
 record AfterSet (j : Job) (s : Sets) (p : List ℕ) (c : Commit) (es : List Entry) : Type 0 where
   pub all : Sets
   pub ran : Ran j all p c es
@@ -247,11 +247,11 @@ after_set j es later s p false e each few f k =
           (λ v. cond v (Fetching s 0) (decided (read_script j s) s (shared_of j s))) e;
     }
 
--- the request of a read is the same by each script of the job
+-- The request of a read is the same for each script of the job.
 asks_any : (c : Committer) (j : Job) (s t : Sets) (n : ℕ) → set_request c (read_script j s) n ≡ set_request c (read_script j t) n
 asks_any c j s t n = grind arith
 
--- the set that is heard by an outcome
+-- The set in an outcome, or None.
 abbrev heard_of : Outcome → Option PendingSet
 heard_of (Answered r) = set_read r
 heard_of _ = None

@@ -1,4 +1,4 @@
--- a commit has less left after each sending
+-- A job commit has less left after each send.
 use Rattle.basics.proofs.Less.{lt}
 use Rattle.basics.proofs.Members.{none_some, some_is}
 use Rattle.basics.proofs.Naturals.{below_is}
@@ -52,7 +52,7 @@ use Rattle.std.specs.Option.{option_map, unwrap_or}
 use Rattle.job_model.specs.declared.ends.CommitEnd.TheVariants as ends
 use Rattle.job_model.specs.declared.ends.Stage.TheVariants as stages
 
--- what is asked next
+-- The request that the commit sends next.
 abbrev asks : Job → Commit → Option Request
 asks j c = commit_asks (read_script j (sets_in c)) c
 
@@ -78,7 +78,7 @@ turn_some : (r total : ℕ) (x : Turn) → 2 * r + 3 ≤ turn_left r total x
 turn_some r total x = let h : 0 * (2 * r + 3) + (2 * r + 3) ≤ (1 + (total - x.number)) * (2 * r + 3) = step_times 0 (1 + (total - x.number))
     (2 * r + 3) (omega arith) in omega arith
 
--- a lane's next upload leaves less, by more than a request of a revert
+-- A lane's next upload leaves less, by more than a request of a revert.
 turn_next : (r total n lanes : ℕ) (missed : ℕ) → 0 < lanes → n + lanes < total
     → (1 + (total - (n + lanes))) * (2 * r + 3) + (r - 0) + (r + 1) < (1 + (total - n)) * (2 * r + 3) + missed
 turn_next r total n lanes missed some low = let h : (1 + (total - (n + lanes))) * (2 * r + 3) + (2 * r + 3) ≤ (1 + (total - n)) *
@@ -172,7 +172,7 @@ more_times : (lanes k r q t d s : ℕ) → lanes * ((1 + (t + d)) * k + r) + (3 
     * q + s + d * (lanes * k + 3 * q)
 more_times lanes k r q t d s = omega arith
 
--- a set of at most so many uploads adds at most so much
+-- A set of at most `most` uploads adds at most this to the bound.
 all_more : (r lanes most t d : ℕ) → d ≤ most → all_left r lanes (t + d) ≤ all_left r lanes t + most * (lanes * (2 * r + 3) + 3 * (r + 1))
 all_more r lanes most t d h =
     let a : all_left r lanes (t + d) ≡ all_left r lanes t + d * (lanes * (2 * r + 3) + 3 * (r + 1)) = more_times lanes (2 * r + 3) r (r + 1)
@@ -183,7 +183,7 @@ all_more r lanes most t d h =
 
 -- ---- a deletion
 
--- a key below a prefix is a key of the bucket
+-- A key below a prefix is a key of the bucket.
 count_any : {E : Type 0} (t q : E → Bool) (es : List E) → ((e : E) → t e ≡ true → q e ≡ true) → count t es ≤ count q es
 count_any t q [] h = omega arith
 count_any t q (e ∷ es) h = grind (arith, count_more t e es, count_more q e es, count_any t q es h, h e)
@@ -194,7 +194,7 @@ keys_any b p s = grind (arith, count_any, is_left, and_parts, lt, listed_count)
 first_sweep : (j : Job) (p : List ℕ) (s : Scene) → sweep_left j.dest.bucket p sweep_start s ≤ any_sweep j s
 first_sweep j p s = let k = keys_any j.dest.bucket p s in omega (arith, k)
 
--- a request that adds no key adds to no sweep
+-- A request that adds no key raises the bound of no sweep.
 none_added : (j : Job) (s : Scene) (q : Request) → adds_key q ≡ false → any_sweep j (apply s q) ≤ any_sweep j s
 none_added j s q e = let o = sweep_laws.others j.dest.bucket [] sweep_start s q in let z = ap one_if e in omega (arith, o, z)
 
@@ -204,7 +204,7 @@ sweep_adds bucket prefix w = grind arith
 read_adds : (c : Committer) (w : Script) (n : ℕ) → adds_key (set_request c w n) ≡ false
 read_adds c w n = grind arith
 
--- numbers
+-- Numbers.
 
 right_le : (k a b : ℕ) → a ≤ b → k * a ≤ k * b
 right_le k a b h = grind arith
@@ -263,12 +263,12 @@ partitions_length : (most : ℕ) (j : Job) (sets : Sets) (picks : Picks)
     → length (partitions (wanted_paths (read_script j sets) picks)) ≤ j.tasks * widest most sets
 partitions_length most j sets picks = grind (arith, ordered_length, dirs_length, length-map, below_length)
 
--- a set of at most so many uploads makes none wider
+-- A set of at most `most` uploads does not raise `widest`.
 widest_more : (most : ℕ) (sets : Sets) (s : PendingSet) → length s.commits ≤ most → widest most (sets ++ s ∷ []) ≤ widest most sets
 widest_more most [] s h = omega arith
 widest_more most (x ∷ xs) s h = let ih = widest_more most xs s h in omega (arith, ih)
 
--- ---- what follows on the last set
+-- ---- after the last set
 
 module _ (most : ℕ) (j : Job) (sc : Scene) (sets : Sets) where
   abbrev all_now : ℕ
@@ -278,7 +278,7 @@ module _ (most : ℕ) (j : Job) (sc : Scene) (sets : Sets) where
       all_now
   begun_left w h = grind (arith, completing_left, dealt_left)
 
-  -- below these prefixes
+  -- The bound of a commit that has these prefixes left.
   below_left : (w : Script) (ps : List (List ℕ)) → w.lanes ≡ j.lanes
       → left_of most j (replacing w sets ps) sc ≤ length ps * any_sweep j sc * (j.retries + 1) + j.retries + all_now
   below_left w [] e = let a = begun_left w e in omega (arith, a)
@@ -320,7 +320,7 @@ module _ (most : ℕ) (j : Job) (sc : Scene) (sets : Sets) where
   decided_left (Some end) = omega arith
   decided_left None = replaced_left (displaced j.committer j.mode) refl
 
--- after a set there is less than before it
+-- After a set there is less left than before it.
 fetching_left : (most : ℕ) (j : Job) (sc now : Scene) (sets : Sets) (s : PendingSet) (m : ℕ) (b : Bool)
     → nat_lt (length (sets ++ s ∷ [])) j.tasks ≡ b → any_sweep j now ≤ any_sweep j sc → length s.commits ≤ most
     → left_of most j (cond b (Fetching (sets ++ s ∷ []) 0) (decided (read_script j (sets ++ s ∷ [])) (sets ++ s ∷ [])
@@ -365,7 +365,7 @@ set_left most j sc now sets m None still fit few = absurd fit
 set_left most j sc now sets m (Some s) still fit few = fetching_left most j sc now sets s m (nat_lt (length (sets ++ s ∷ [])) j.tasks) refl
     still few
 
--- a sweep that goes on, or is over below its prefix
+-- A sweep that goes on, or is over below its prefix.
 module _ (most : ℕ) (j : Job) (sc now : Scene) (sets : Sets) (p : List ℕ) (ps : List (List ℕ)) (w : Sweep) (m : ℕ)
     (still : any_sweep j now ≤ any_sweep j sc) where
   goes_left : (next : Sweep) → sweep_left j.dest.bucket p next now < sweep_left j.dest.bucket p w sc
@@ -424,7 +424,7 @@ counted_left : (most : ℕ) (j : Job) (sc now : Scene) (b : Bool) (c d e : Commi
     → left_of most j (cond b c d) now < left_of most j e sc
 counted_left most j sc now b c d e m h g f = grind arith
 
--- where nothing is heard of the request, whether it took effect or not
+-- The commit received no reply to the request, whether or not the request took effect.
 record Unheard (j : Job) (sc now : Scene) (c : Commit) : Type 0 where
   reads : (sets : Sets) (m : ℕ) → c ≡ Fetching sets m → any_sweep j now ≤ any_sweep j sc
   sweeps : (sets : Sets) (p : List ℕ) (ps : List (List ℕ)) (w : Sweep) (m : ℕ) → c ≡ Replacing sets p ps w m

@@ -1,4 +1,4 @@
--- What holds of a job's commit alone.
+-- Laws of a job commit alone.
 use Rattle.commit_laws.specs.Fitting.{FitsCommit}
 use Rattle.commit_parts.specs.Tables.{listed}
 use Rattle.job_model.specs.Jobs.{Job}
@@ -27,36 +27,37 @@ use Rattle.s3_types.specs.declared.request.Request.TheVariants.{ClusterGet, GetO
 use Rattle.std.specs.Prelude.{List, None, Option, Some, length, max, ℕ, [], ◌*◌, ◌++◌, ◌+◌, ◌-◌, ◌<◌, ◌∷◌, ◌≡◌, ◌≤◌}
 use Rattle.job_model.specs.declared.ends.CommitEnd.TheVariants as ends
 
--- the commit of a job as it begins, by the least task that none reported
+-- The commit of a job as it begins; `missing` is the lowest task that did not report.
 abbrev pub start : Job → Option ℕ → Committing
 start j missing = record { plan = j; picked = []; operation = commit_start (read_script j []) missing }
 
--- each outcome fits where it was
+-- Each outcome fits the commit that received it.
 abbrev pub AllFit : Committing → List Entry → Type 0
 AllFit m [] = Unit {0}
 AllFit m (e ∷ es) = FitsCommit m e.outcome × AllFit (commit_told m e.outcome) es
 
 -- ---- its end
 
--- the set that the read of a set was answered with, or none
+-- The set in the answer to the read of a set, or None.
 abbrev pub set_heard : Request → Outcome → Option PendingSet
 set_heard (GetObject bucket key) (Answered r) = set_read r
 set_heard (ClusterGet path) (Answered r) = set_read r
 set_heard _ _ = None
 
--- the sets that these entries' answered reads brought
+-- The sets that the answered reads of these entries returned.
 abbrev pub sets_heard : List Entry → Sets
 sets_heard [] = []
 sets_heard (e ∷ es) = listed (set_heard e.request e.outcome) ++ sets_heard es
 
--- a missing task, then the first request that wore out, then a path that two tasks write, and else none of these
+-- The end of a commit: Missing of a task, else StoreFault of the first request that exhausted its retries, else a path that two tasks
+-- write, else Committed.
 abbrev pub due : Option ℕ → Option Request → Option CommitEnd → CommitEnd
 due (Some t) worn shared = ends.Missing t
 due None (Some r) shared = ends.StoreFault (stage_of r)
 due None None (Some end) = end
 due None None None = ends.Committed
 
--- a job's commit ends so by its own entries alone
+-- A job commit ends as `due` says of its own entries.
 pub record EndsByEntries : Type 0 where
   pub ends : (j : Job) (missing : Option ℕ) → 0 < j.lanes → (es : List Entry) → Follows commit_wants commit_told (start j missing) es
       → AllFit (start j missing) es
@@ -66,50 +67,51 @@ pub record EndsByEntries : Type 0 where
 
 -- ---- how much it has left
 
--- a lane from a turn on: its uploads that are not answered, each with its sendings and with one request of a revert
+-- A bound on the sends of a lane from this turn on: for each upload that is not answered, the sends of its completion and those of one
+-- request of a revert.
 abbrev pub turn_left : ℕ → ℕ → Turn → ℕ
 turn_left retries total x = (1 + (total - x.number)) * (2 * retries + 3) + (retries - x.missed)
 
--- the sendings that these lanes have yet to make
+-- A bound on the sends that these lanes have left.
 abbrev pub turns_left : ℕ → ℕ → List Turn → ℕ
 turns_left retries total [] = 0
 turns_left retries total (x ∷ xs) = turn_left retries total x + turns_left retries total xs
 
--- lanes, then a revert of so many uploads of which so many are done, then the marker
+-- A bound on the sends of the lanes, then of a revert with `done` completed uploads, then of the marker.
 abbrev pub lanes_left : ℕ → ℕ → List Turn → ℕ → ℕ
 lanes_left retries total xs done = turns_left retries total xs + (3 * total + done + 3) * (retries + 1) + (retries + 2)
 
--- all completions of so many uploads in so many lanes
+-- A bound on the sends that complete `total` uploads in `lanes` lanes, with a revert and the marker.
 abbrev pub all_left : ℕ → ℕ → ℕ → ℕ
 all_left retries lanes total = lanes * ((1 + total) * (2 * retries + 3) + retries) + (3 * total + 3) * (retries + 1) + (retries + 2)
 
--- a read of a set of at most so many uploads, with all that it may bring
+-- A bound on the sends of the read of a set of at most `most` uploads, with all that its uploads add.
 abbrev pub read_left : ℕ → ℕ → ℕ → ℕ
 read_left retries lanes most = most * (lanes * (2 * retries + 3) + 3 * (retries + 1)) + (retries + 2)
 
--- the most uploads of one of these sets, but no fewer than so many
+-- The largest number of uploads in one of these sets, but at least `most`.
 abbrev pub widest : ℕ → Sets → ℕ
 widest most [] = most
 widest most (s ∷ ss) = max (length s.commits) (widest most ss)
 
--- a replace mode deletes below at most so many prefixes, where no set has more uploads than that
+-- A bound on the prefixes below which a replace mode deletes, if no set has more than `most` uploads.
 abbrev pub prefixes_most : Job → ℕ → ℕ
 prefixes_most j most = 1 + j.tasks * most
 
--- a sweep below any prefix of the bucket, from its beginning: at most so many pages and batches
+-- A bound on the requests of a sweep below any prefix of the bucket, from its beginning.
 abbrev pub any_sweep : Job → Scene → ℕ
 any_sweep j s = sweep_left j.dest.bucket [] sweep_start s
 
--- the magic committer deletes nothing
+-- The number, or 0 for the magic committer, which deletes nothing.
 abbrev pub if_staging : Committer → ℕ → ℕ
 if_staging Magic n = 0
 if_staging _ n = n
 
--- a deletion that is to come, where no set has more uploads than so many
+-- A bound on the sends of a deletion that is still to come, if no set has more than `most` uploads.
 abbrev pub deletion_left : Job → ℕ → Scene → ℕ
 deletion_left j most s = if_staging j.committer (prefixes_most j most * any_sweep j s * (j.retries + 1))
 
--- at most so many sendings are to come, where each set has at most so many uploads
+-- A bound on the sends that are still to come, if each set has at most `most` uploads.
 abbrev pub left_of : ℕ → Job → Commit → Scene → ℕ
 left_of most j (Fetching sets m) s = all_left j.retries j.lanes (length (all_commits sets)) + (1 + (j.tasks - length sets)) * read_left
     j.retries j.lanes most + (j.retries - m) + deletion_left j (widest most sets) s
@@ -120,41 +122,41 @@ left_of most j (Marking sets m) s = j.retries - m + 1
 left_of most j (Reverting q qs m) s = length qs * (j.retries + 1) + (j.retries - m + 1)
 left_of most j (CommitOver end) s = 0
 
--- the most sendings that a job's commit has yet to make, where a set has at most so many uploads
+-- A bound on the sends that a job commit has left, if each set has at most `most` uploads.
 abbrev pub left : ℕ → Committing → Scene → ℕ
 left most m s = left_of most m.plan m.operation s
 
--- by how much a key that another adds may raise what is left of a commit at this stage
+-- By how much a key that another actor adds may raise the bound at this stage.
 abbrev pub rise_of : ℕ → Job → Commit → ℕ
 rise_of most j (Fetching sets m) = if_staging j.committer (prefixes_most j (widest most sets) * (j.retries + 1))
 rise_of most j (Replacing sets p ps w m) = (1 + length ps) * (j.retries + 1)
 rise_of most j _ = 0
 
--- by how much a key that another adds may raise what is left
+-- By how much a key that another actor adds may raise the bound.
 abbrev pub rise : ℕ → Committing → ℕ
 rise most m = rise_of most m.plan m.operation
 
--- a set that was read has at most so many uploads
+-- A set that was read has at most `most` uploads.
 abbrev pub HasFew : ℕ → Option PendingSet → Type 0
 HasFew most None = Unit {0}
 HasFew most (Some s) = length s.commits ≤ most
 
--- a set that is read has at most so many uploads
+-- A set that this outcome returns has at most `most` uploads.
 abbrev pub ReadsFew : ℕ → Commit → Outcome → Type 0
 ReadsFew most (Fetching sets m) (Answered r) = HasFew most (set_read r)
 ReadsFew most _ _ = Unit {0}
 
--- the outcome fits, of a job that has a lane
+-- The outcome fits, the job has a lane, and a set that the outcome returns has at most `most` uploads.
 pub record FitsFew (most : ℕ) (m : Committing) (o : Outcome) : Type 0 where
   pub lanes : 0 < m.plan.lanes
   pub fits : FitsCommit m o
   pub few : ReadsFew most m.operation o
 
--- a commit sends no more than it has left
+-- A job commit sends no more requests than it has left.
 pub record CommitFalls : Type 0 where
-  -- it falls with each sending, whatever becomes of it
+  -- The bound falls with each send, whatever its outcome.
   pub falls : (most : ℕ) (m : Committing) (s : Scene) (r : Request) (o : Outcome) → commit_wants m ≡ Some r → FitsFew most m o
       → ((a : Reply) → o ≡ Answered a → a ≡ answer s r) → left most (commit_told m o) (effect s r o) < left most m s
-  -- a request of another actor raises it by at most so many, where it may add a key
+  -- A request of another actor raises the bound by at most `rise`, and only if it may add a key.
   pub others : (most : ℕ) (m : Committing) (s : Scene) (r : Request)
       → left most m (apply s r) ≤ left most m s + rise most m * one_if (adds_key r)

@@ -1,21 +1,22 @@
-//! How the commit of a job ends, by its own entries alone, and that it ends.
+//! Laws of a job commit: how it ends, which its own entries alone decide, and that it ends.
 //!
 //! # What is proved
 //!
-//! `ends_by_entries`, `falls`: The commit of a job ends by its own entries alone: Missing, or
-//! StoreFault of the stage of the first request that wore out, or SamePath, or Committed, in this
-//! order. Where each set has at most so many uploads it has less left after each sending of its own; a
-//! key that another adds raises that by no more than so much, and of a magic job by nothing.
+//! - `ends_by_entries`: a job commit ends with Missing; else with StoreFault of the stage of the
+//!   first request that exhausted its retries; else with SamePath; else with Committed.
+//! - `falls`: if each set has at most `most` uploads, the bound on the sends left falls with each
+//!   send of the commit. A key that another actor adds raises the bound by at most `rise`, and not
+//!   at all for a magic job.
 #![tactic(auto)]
 
 ghost use Rattle.commit_laws.specs.Laws.{EndsByEntries, CommitFalls};
 
-/// How a commit ends.
+/// How a job commit ends.
 pub fn ends_by_entries()
     ensures { EndsByEntries }
 {}
 
-/// A commit sends no more than it has left.
+/// A job commit sends no more requests than it has left.
 pub fn falls()
     ensures { CommitFalls }
 {}

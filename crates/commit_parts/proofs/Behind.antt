@@ -1,4 +1,4 @@
--- what follows a key and a `/`
+-- The text after a key and a `/`.
 use Rattle.basics.proofs.Lists.{front_cancels}
 use Rattle.path_keys.specs.Paths.{relative_in}
 use Rattle.std.proofs.Common.{Bool, Bor, List, None, Option, Some, ap, append_assoc, arith, cond, drop, false, length, nat_eq, refl, subst}
@@ -37,7 +37,7 @@ relative_none [] text h absent = absurd (omega arith)
 relative_none (x ∷ xs) text h absent = cut_no ((x ∷ xs) ++ 47 ∷ []) text (starts_with nat_eq text ((x ∷ xs) ++ 47 ∷ [])) refl
     (λ rest e. absent rest (e ∙ append_assoc (x ∷ xs) (47 ∷ []) rest))
 
--- what is left of a text without a key at its front, and then without a `/`
+-- The rest of a text after the key at its front is removed, and then the `/`.
 pub behind_front : (key text rest : List ℕ) → 0 < length key → StripsPrefix (FindsTextPrefix key) text rest → (o : Option (Bor (List ℕ)))
     → MatchOption o (FindsTextPrefix (47 ∷ []) rest None) (λ x. StripsPrefix (FindsTextPrefix (47 ∷ [])) rest x.now)
     → option_map (λ (r : Bor (List ℕ)). r.now) o ≡ relative_in key text

@@ -1,4 +1,4 @@
--- uploads of picks that write absent path twice are of different keys
+-- If no two chosen attempts write the same path, their uploads go to different keys.
 use Rattle.commit_parts.proofs.Placing.{nth_get, nth_left, nth_right}
 use Rattle.commit_parts.proofs.SamePaths.{item_writes}
 use Rattle.commit_parts.specs.Clashes.{Item, NoClash, items_from}
@@ -19,7 +19,7 @@ use Rattle.std.proofs.Common.{List, None, Some, ap, arith, inl, inr, length, len
 use Rattle.std.proofs.Common.{[], ◌++◌, ◌+◌, ◌-◌, ◌<◌, ◌∙◌, ◌∷◌, ◌≡◌, ◌≤◌}
 use Rattle.std.proofs.lemmas.Bool.{cases_lt}
 
--- two uploads of a set are of two keys
+-- Two uploads of a set go to different keys.
 abbrev SetsApart : Sets → Type 0
 SetsApart sets = (i : ℕ) (s : PendingSet) → slice_get sets i ≡ Some s → (m n : ℕ) (c d : Pending) → slice_get s.commits m ≡ Some c
     → slice_get s.commits n ≡ Some d → c.destination ≡ d.destination → m ≡ n
@@ -29,7 +29,7 @@ in_nth [] n h = absurd (omega arith)
 in_nth (p ∷ ps) zero h = inl refl
 in_nth (p ∷ ps) (suc n) h = inr (in_nth ps n (omega arith))
 
--- an upload of later sets is of a later task
+-- An upload of later sets belongs to a later task.
 later_item : (k : ℕ) (sets : Sets) (c : Pending) → In c (all_commits sets) → (t : ℕ) × (k ≤ t)
     × In (let i : Item = (c.destination, t) in i) (items_from k sets)
 later_item k [] c h = absurd h
@@ -44,7 +44,7 @@ later_item k (s ∷ ss) c h = elim (in_append c s.commits (all_commits ss) h) [
       (r.0, (omega arith), in_right (c.destination, r.0) (map (λ c. (c.destination, k)) s.commits) (items_from (k + 1) ss) r.2)
 ]
 
--- an upload of this set and one of a later set are of two keys
+-- An upload of this set and one of a later set go to different keys.
 never : (k : ℕ) (s : PendingSet) (ss : Sets) (c d : Pending) → NoClash (items_from k (s ∷ ss)) → In c s.commits → In d (all_commits ss)
     → c.destination ≡ d.destination → ⊥
 never k s ss c d absent i j e =
@@ -88,7 +88,7 @@ keys_apart k (s ∷ ss) apart absent m n low high e =
       ]
     ]
 
--- where absent path is shared absent two of the uploads are of one key
+-- If no two tasks write the same path, no two of the uploads go to the same key.
 no_clash : (j : Job) (sets : Sets) → AreRead j sets → length sets ≡ j.tasks → same_path (read_script j sets) (picks_of sets) ≡ None
     → NoClash (items_from 0 sets)
 no_clash j sets each all none = λ q v x less a b.

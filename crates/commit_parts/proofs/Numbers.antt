@@ -1,4 +1,4 @@
--- a set of numbers that grows
+-- A growing set of numbers.
 use Rattle.job_protocol.specs.Lanes.{is_in}
 use Rattle.std.proofs.Common.{Bool, List, ap, arith, cond, false, get_or, length, nat_eq, refl, reverse, subst, suc, sym, take, true, ℕ, []}
 use Rattle.std.proofs.Common.{◌+◌, ◌<◌, ◌||◌, ◌∙◌, ◌∷◌, ◌≡◌, ◌⊎◌}

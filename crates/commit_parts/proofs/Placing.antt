@@ -1,4 +1,4 @@
--- the places of uploads
+-- The places of uploads.
 use Rattle.basics.proofs.Lists.{get_left}
 use Rattle.commit_parts.specs.Places.{places_from, row}
 use Rattle.commit_parts.specs.declared.places.Place.{Place}
@@ -11,7 +11,7 @@ use Rattle.std.proofs.Common.{◌++◌, ◌+◌, ◌-◌, ◌<◌, ◌∙◌, �
 use Rattle.std.proofs.lemmas.Bool.{cases_lt}
 use Rattle.std.proofs.lemmas.Option.{get_or_from_slice_get, slice_get_within}
 
--- where an upload stands
+-- An upload is at this place.
 pub record IsAt (n : ℕ) (sets : Sets) (p : Place) (c : Pending) : Type 0 where
   pub set : PendingSet
   pub low : n ≤ p.set
@@ -60,7 +60,7 @@ nth_right [] ys n h = same_nth ys n (n - 0) (omega arith)
 nth_right (x ∷ xs) ys zero h = absurd (omega arith)
 nth_right (x ∷ xs) ys (suc n) h = nth_right xs ys n (omega arith) ∙ same_nth ys (n - length xs) (suc n - suc (length xs)) (omega arith)
 
--- each upload has its place
+-- Each upload has its place.
 pub placed_at : (k : ℕ) (sets : Sets) (n : ℕ) → n < length (all_commits sets) → (p : Place) × (slice_get (places_from k sets) n ≡ Some p)
     × IsAt k sets p (nth (all_commits sets) n)
 placed_at k [] n h = absurd (omega arith)
@@ -94,7 +94,7 @@ placed_at k (s ∷ ss) n h =
           )
     ]
 
--- as many places as uploads
+-- There are as many places as uploads.
 pub places_length : (k : ℕ) (sets : Sets) → length (places_from k sets) ≡ length (all_commits sets)
 places_length k [] = refl
 places_length k (s ∷ ss) =
@@ -106,7 +106,7 @@ places_length k (s ∷ ss) =
     c)
     ∙ sym (length-append s.commits (all_commits ss))
 
--- what is read of the tables of places, of sets and of a set's uploads
+-- The entries of the tables of places, of sets and of a set's uploads for upload `n`.
 record PlacedHere (sets : Sets) (places : List Place) (n : ℕ) (p : Place) : Type 0 where
   pub within : n < length places
   pub held : PendingSet

@@ -1,4 +1,4 @@
--- what the picks of the sets that were read write
+-- The files that the chosen attempts of the sets write.
 use Rattle.basics.proofs.Members.{some_is}
 use Rattle.basics.specs.Order.{text_cmp, text_eq}
 use Rattle.commit_parts.proofs.Placing.{places_length}
@@ -44,11 +44,11 @@ use Rattle.std.specs.Option.{option_map, unwrap_or}
 use Rattle.std.specs.Prelude.{IfOk, Result}
 use Rattle.magic_paths.specs.Layout as layout
 
--- an upload's file, whose bytes are not told
+-- An upload's file, whose bytes are not known.
 abbrev pub file_of : Path → Pending → File
 file_of dest c = (relative_of dest c.destination, [])
 
--- ---- the files of a pick
+-- ---- the files of a chosen attempt
 
 abbrev TasksFrom : ℕ → Sets → Type 0
 TasksFrom n sets = (t : ℕ) (s : PendingSet) → slice_get sets t ≡ Some s → s.task ≡ n + t
@@ -88,7 +88,7 @@ same_files (f ∷ fs) = ap (λ v. f ∷ v) (same_files fs)
 tasks_of : (j : Job) (sets : Sets) → AreRead j sets → TasksFrom 0 sets
 tasks_of j sets each = λ t s e. (let k : s.task ≡ t = (each t s e).task in omega arith)
 
--- a pick's files are those of its set
+-- A chosen attempt's files are those of its set.
 pub files_at : (j : Job) (sets : Sets) (t : ℕ) (s : PendingSet) → AreRead j sets → slice_get sets t ≡ Some s
     → files_picked (read_script j sets) t (picks_of sets t) ≡ map (file_of j.dest) s.commits
 files_at j sets t s each e =
@@ -138,7 +138,7 @@ paths_all dest (s ∷ ss) =
     ∙ ap (λ v. map (λ c. relative_of dest c.destination) s.commits ++ v) (paths_all dest ss)
     ∙ sym (map-append (λ (c : Pending). relative_of dest c.destination) s.commits (all_commits ss))
 
--- the paths that are wanted are those of the uploads
+-- The wanted paths are those of the uploads.
 pub wanted_are : (j : Job) (sets : Sets) → AreRead j sets → length sets ≡ j.tasks
     → map (λ f. f.0) (wanted (read_script j sets) (picks_of sets)) ≡ map (λ c. relative_of j.dest c.destination) (all_commits sets)
 wanted_are j sets h g = grind (arith, wanted_of, take_all, paths_all)
@@ -172,7 +172,7 @@ in_has dest (d ∷ cs) c (inr i) = by (text_eq (relative_of dest c.destination) 
         true
     by b h = grind arith
 
--- the uploads with the tasks of their sets
+-- An item is an upload of a set together with the set's task.
 pub item_at : (n : ℕ) (sets : Sets) (k : List ℕ) (t : ℕ) → In (let i : Item = (k, t) in i) (items_from n sets) → (i : ℕ) × (s : PendingSet)
     × (c : Pending) × (t ≡ n + i) × (slice_get sets i ≡ Some s) × In c s.commits × (c.destination ≡ k)
 item_at n [] k t h = absurd h
@@ -203,7 +203,7 @@ at_item n (x ∷ xs) (suc i) s c e m =
     subst P z (in_right (c.destination, n + 1 + i) (map (λ c. (c.destination, n)) x.commits) (items_from (n + 1) xs)
     (at_item (n + 1) xs i s c e m))
 
--- the paths that are wanted, in order
+-- The wanted paths, in order.
 pub wanted_ordered : (j : Job) (sets : Sets) → AreRead j sets → length sets ≡ j.tasks
     → ordered (paths_below j.dest (all_commits sets)) ≡ wanted_paths (read_script j sets) (picks_of sets)
 wanted_ordered j sets each all = ap ordered (sym (wanted_are j sets each all))
@@ -227,7 +227,7 @@ pub paths_more : (dest : Path) (sets : Sets) (n m : ℕ) (keys new : List (List 
     → new ≡ ordered (paths_below dest (drop n (all_commits sets)))
 paths_more dest sets n m keys new path d u h g e f p q r = grind (arith, drop_nth)
 
--- ---- requests that are made
+-- ---- requests
 
 pub get_asked : {E : Type 0} (r : Result Request E) (b c k l : List ℕ) → IfOk r (λ q. q ≡ GetObject b k) → b ≡ c → k ≡ l
     → IfOk r (λ q. q ≡ GetObject c l)
@@ -244,7 +244,7 @@ wanted_listed r j sets places keys h g all =
     IfOk-weaker r (λ l. l ≡ keys) (λ l. l ≡ wanted_paths (read_script j sets) (picks_of sets))
     (λ l e. e ∙ (g ∙ wanted_ordered j sets all.each all.all)) h
 
--- the read of a set, by the committer
+-- The read of a set for this committer.
 pub stored_asked : {E : Type 0} (r : Result Request E) (j : Job) (t : ℕ) (c : Committer) → c ≡ Magic → c ≡ j.committer
     → IfOk r (λ q. q ≡ GetObject j.dest.bucket (layout.set_key j.dest.key j.job t))
     → IfOk r (λ q. q ≡ set_request j.committer (job_script j) t)

@@ -1,4 +1,4 @@
--- the path that two picks write is below the key that the search finds
+-- The path that two chosen attempts write is that of the key that the search finds.
 use Rattle.basics.proofs.Less.{equal_self}
 use Rattle.basics.proofs.Members.{false_true}
 use Rattle.basics.specs.Order.{text_cmp, text_total}
@@ -43,11 +43,11 @@ split_by pre text true e h = let same : pre ≡ take (length pre) text = (bytes_
     (take-append-drop (length pre) text) ∙ ap (λ v. v ++ drop (length pre) text) (sym same)
 split_by pre text false e h = absurd (cc)
 
--- a key that is below a destination has its path behind
+-- A key below a destination is the destination's prefix followed by its path.
 pub key_parts : (dest : Path) (key : List ℕ) → is_some (relative_in dest.key key) ≡ true → key ≡ below dest.key [] ++ relative_of dest key
 key_parts dest key h = split_by (below dest.key []) key (starts_with nat_eq key (below dest.key [])) refl h
 
--- a common front does not matter
+-- A common prefix does not change the order of two texts.
 front_cmp : (pre p q : List ℕ) → text_cmp (pre ++ p) (pre ++ q) ≡ text_cmp p q
 front_cmp [] p q = refl
 front_cmp (x ∷ pre) p q = ap (λ o. ordering_then o (text_cmp (pre ++ p) (pre ++ q))) (equal_self (nat_cmp x x) (nat_cmp_total.antisymm x x))
@@ -87,7 +87,7 @@ writes_by j sets p t (Some s) e each h =
     let T : ℕ → Type 0 = λ n. In (let i : Item = (below j.dest.key [] ++ p, n) in i) (items_from 0 sets) in
     record { within = slice_get_within sets t s e; item = subst T z (subst P key (at_item 0 sets t s r.0 e r.1)) }
 
--- what a pick writes is an item
+-- A file of a chosen attempt is an item.
 writes_item : (j : Job) (sets : Sets) (p : List ℕ) (t : ℕ) → AreRead j sets → writes (read_script j sets) (picks_of sets) p t ≡ true
     → Writes j sets p t
 writes_item j sets p t each h = writes_by j sets p t (slice_get sets t) refl each h
@@ -97,7 +97,7 @@ pub record Written (j : Job) (sets : Sets) (k : List ℕ) (t : ℕ) : Type 0 whe
   pub key : k ≡ below j.dest.key [] ++ relative_of j.dest k
   pub writes_it : writes (read_script j sets) (picks_of sets) (relative_of j.dest k) t ≡ true
 
--- an item is what a pick writes
+-- An item is a file of a chosen attempt.
 pub item_writes : (j : Job) (sets : Sets) (k : List ℕ) (t : ℕ) → AreRead j sets → In (let i : Item = (k, t) in i) (items_from 0 sets)
     → Written j sets k t
 item_writes j sets k t each h =

@@ -1,4 +1,4 @@
--- the search for a key that two tasks write, upload by upload
+-- The search for a key that two tasks write, upload by upload.
 use Rattle.basics.proofs.Bools.{contrary}
 use Rattle.basics.proofs.Less.{irrefl, lt_trans}
 use Rattle.basics.proofs.Members.{eq_nat, false_true, nat_true, same_or_other, text_false, text_true}
@@ -31,7 +31,7 @@ task_is e = ap (λ (i : Item). i.1) e
 
 -- ---- the owners
 
--- an upload of another key changes no owner
+-- An upload to another key changes no owner.
 other_owner : (items : List Item) (q k : List ℕ) (x : ℕ) (o : Option ℕ) → (q ≡ k → ⊥) → IsOwner items k o
     → IsOwner (items ++ (q, x) ∷ []) k o
 other_owner items q k x None ne h = λ v i. elim (in_push (k, v) items (q, x) i) [ inl j ↦ h v j | inr e ↦ ne (key_is e) ]
@@ -41,7 +41,7 @@ other_owner items q k x (Some t) ne h = (
       [ inl j ↦ h.1 v j | inr e ↦ absurd (ne (key_is e)) ],
 )
 
--- the first upload of a key
+-- The first upload to a key.
 first_owner : (items : List Item) (q : List ℕ) (x : ℕ) → IsOwner items q None → IsOwner (items ++ (q, x) ∷ []) q (Some x)
 first_owner items q x h = (
   in_last items (q, x),
@@ -49,7 +49,7 @@ first_owner items q x h = (
       [ inl j ↦ absurd (h v j) | inr e ↦ let f : x ≡ v = task_is e in omega arith ],
 )
 
--- a later one
+-- A later upload to a key.
 later_owner : (items : List Item) (q : List ℕ) (x f : ℕ) → f ≤ x → IsOwner items q (Some f) → IsOwner (items ++ (q, x) ∷ []) q (Some f)
 later_owner items q x f le h = (
   in_left (q, f) items ((q, x) ∷ []) h.0,
@@ -57,14 +57,14 @@ later_owner items q x f le h = (
       [ inl j ↦ h.1 v j | inr e ↦ let g : x ≡ v = task_is e in omega arith ],
 )
 
--- ---- what was found
+-- ---- the key found so far
 
--- the first upload of a key
+-- The first upload to a key.
 best_new : (items : List Item) (q : List ℕ) (x : ℕ) (best : Option Clash) → IsOwner items q None → IsBest items best
     → IsBest (items ++ (q, x) ∷ []) best
 best_new items q x best h g = grind (arith, in_push, key_is, task_is, in_left)
 
--- the same upload once more
+-- The same upload once more.
 again_in : (items : List Item) (i j : Item) → In j items → In i (items ++ j ∷ []) → In i items
 again_in items i j h m = elim (in_push i items j m) [ inl a ↦ a | inr e ↦ let P : Item → Type 0 = λ l. In l items in subst P e h ]
 
@@ -79,12 +79,12 @@ best_same items q x (Some c) at h = record {
   least_key = λ k v y less i j. h.least_key k v y less (again_in items (k, v) (q, x) at i) (again_in items (k, y) (q, x) at j);
 }
 
--- a key that is no better than the one that was found
+-- A key that is no better than the one found so far.
 best_kept : (items : List Item) (q : List ℕ) (x : ℕ) (c : Clash) → ((k : List ℕ) (v : ℕ) → In (k, v) items → v ≤ x)
     → is_lt (text_cmp q c.key) ≡ false → IsBest items (Some c) → IsBest (items ++ (q, x) ∷ []) (Some c)
 best_kept items q x c h g e = grind (arith, in_left, in_push, task_is, key_is)
 
--- what clashes among these comes no sooner than a better key
+-- A key that two tasks write among these items is not below a better key.
 old_later : (items : List Item) (q k : List ℕ) (v y : ℕ) (best : Option Clash) → is_better q best ≡ true → IsBest items best → v < y
     → In (k, v) items → In (k, y) items → is_lt (text_cmp k q) ≡ false
 old_later items q k v y None better h less a b = absurd (h k v y less a b)
@@ -95,7 +95,7 @@ no_older : (items : List Item) (q : List ℕ) (f v : ℕ) (best : Option Clash) 
     → In (q, f) items → In (q, v) items → ⊥
 no_older items q f v best h g e p r = grind arith
 
--- a better key
+-- A better key.
 best_better : (items : List Item) (q : List ℕ) (x f : ℕ) (best : Option Clash) → ((k : List ℕ) (v : ℕ) → In (k, v) items → v ≤ x)
     → (f ≡ x → ⊥) → IsOwner items q (Some f) → is_better q best ≡ true → IsBest items best
     → IsBest (items ++ (q, x) ∷ []) (Some (record { key = q; first = f; second = x }))
@@ -127,7 +127,7 @@ best_better items q x f best most ne owner better h =
 abbrev AtMost : List Item → ℕ → Type 0
 AtMost items x = (k : List ℕ) (v : ℕ) → In (k, v) items → v ≤ x
 
--- of a new key
+-- One more upload, to a new key.
 pub finds_new : (items : List Item) (q : List ℕ) (x : ℕ) (owner owner' : List ℕ → Option ℕ) (best : Option Clash) → owner q ≡ None
     → owner' q ≡ Some x → ((k : List ℕ) → (q ≡ k → ⊥) → owner' k ≡ owner k)
     → Finds items owner best → Finds (items ++ (q, x) ∷ []) owner' best
@@ -159,7 +159,7 @@ owner_in : (items : List Item) (q : List ℕ) (f : ℕ) (owner : List ℕ → Op
     → ((k : List ℕ) → IsOwner items k (owner k)) → IsOwner items q (Some f)
 owner_in items q f owner some h = let N : Option ℕ → Type 0 = λ o. IsOwner items q o in subst N some (h q)
 
--- of a key that is no better
+-- One more upload, to a key that is no better.
 pub finds_kept : (items : List Item) (q : List ℕ) (x f : ℕ) (owner : List ℕ → Option ℕ) (best : Option Clash) → owner q ≡ Some f
     → AtMost items x → is_better q best ≡ false → Finds items owner best → Finds (items ++ (q, x) ∷ []) owner best
 finds_kept items q x f owner None some most not s = absurd (false_true not refl)
@@ -169,7 +169,7 @@ finds_kept items q x f owner (Some c) some most not s = record {
   best = best_kept items q x c most not s.best;
 }
 
--- of a better key that another task writes
+-- One more upload, to a better key that another task writes.
 pub finds_better : (items : List Item) (q : List ℕ) (x f : ℕ) (owner : List ℕ → Option ℕ) (best : Option Clash) → owner q ≡ Some f
     → AtMost items x → (f ≡ x → ⊥) → is_better q best ≡ true → Finds items owner best
     → Finds (items ++ (q, x) ∷ []) owner (Some (record { key = q; first = f; second = x }))
@@ -181,7 +181,7 @@ finds_better items q x f owner best some most ne better s =
           s.best;
     }
 
--- ---- what calls leave
+-- ---- the results of calls
 
 finds_by : (items : List Item) (q : List ℕ) (x f : ℕ) (owner : List ℕ → Option ℕ) (best : Option Clash) (b c : Bool) → nat_eq f x ≡ b
     → is_better q best ≡ c → owner q ≡ Some f → AtMost items x → Finds items owner best
@@ -196,17 +196,17 @@ finds_by items q x f owner best false false e g some most s = finds_kept items q
 finds_by items q x f owner best false true e g some most s = finds_better items q x f owner best some most
     (λ i. false_true e (nat_true f x i)) g s
 
--- the owner of the key is what it was, or this task
+-- The owner of the key stays the same, or becomes this task.
 owner_stays : {S : Type 0} (q : List ℕ) (x : ℕ) (o : Option ℕ) (m n : HashMap (List ℕ) ℕ S) → get text_eq m q ≡ o
     → Updates text_eq m n q (Some (unwrap_or o x)) → get text_eq n q ≡ Some (unwrap_or o x)
 owner_stays q x o m n e up = up.0 q ∙ ap (λ b. cond b (Some (unwrap_or o x)) (get text_eq m q)) (text_true q q refl)
 
--- and those of the others are what they were
+-- The owners of other keys stay the same.
 others_stay : {S : Type 0} (q k : List ℕ) (w : Option ℕ) (m n : HashMap (List ℕ) ℕ S) → Updates text_eq m n q w → (q ≡ k → ⊥)
     → get text_eq n k ≡ get text_eq m k
 others_stay q k w m n up ne = up.0 k ∙ ap (λ b. cond b w (get text_eq m k)) (text_false q k ne)
 
--- owners that are the same at each key
+-- Owners that are the same at each key.
 same_finds : (items : List Item) (owner owner' : List ℕ → Option ℕ) (best : Option Clash) → ((k : List ℕ) → owner' k ≡ owner k)
     → Finds items owner best → Finds items owner' best
 same_finds items owner owner' best same f = record {
@@ -231,7 +231,7 @@ finds_at items q x (Some f) m n best e up most s =
     ])
     (finds_by items q x f (get text_eq m) best (nat_eq f x) (is_better q best) refl refl e most s)
 
--- one more upload, of which this task or an earlier one is the owner
+-- One more upload; this task or an earlier one is the owner of its key.
 pub finds_one : {S : Type 0} (items : List Item) (q : List ℕ) (x first : ℕ) (m n : HashMap (List ℕ) ℕ S) (best best' : Option Clash)
     → first ≡ unwrap_or (get text_eq m q) x → Updates text_eq m n q (Some (unwrap_or (get text_eq m q) x)) → best' ≡ clash_of q first x best
     → AtMost items x → Finds items (get text_eq m) best → Finds (items ++ (q, x) ∷ []) (get text_eq n) best'

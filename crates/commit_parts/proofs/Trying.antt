@@ -1,4 +1,4 @@
--- members by their numbers
+-- Items of a list by their indices.
 use Rattle.job_protocol.specs.LaneTable.{In}
 use Rattle.job_protocol.specs.Lanes.{Turn, is_tried}
 use Rattle.std.proofs.Common.{List, ap, arith, get_or, inl, inr, length, nat_eq, nat_lt, refl, suc, sym, take, zero, ℕ, [], ◌&&◌, ◌++◌, ◌+◌}
@@ -10,7 +10,7 @@ pub tried_any : (xs : List Turn) (n : ℕ) → list_any (λ (x : Turn). nat_eq n
 tried_any [] n = refl
 tried_any (x ∷ xs) n = ap (λ b. (nat_eq n x.number && nat_lt 0 x.missed) || b) (tried_any xs n)
 
--- a number of a list is a member
+-- The number at an index of a list is an item of the list.
 pub in_at : (xs : List ℕ) (i d : ℕ) → i < length xs → In (get_or xs i d) xs
 in_at [] i d h = absurd (omega arith)
 in_at (x ∷ xs) zero d h = inl refl

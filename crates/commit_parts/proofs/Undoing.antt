@@ -1,4 +1,4 @@
--- the list of what is taken back, built from its end
+-- The list of a revert, built from its end.
 use Rattle.commit_parts.proofs.Trying.{in_at}
 use Rattle.commit_parts.specs.Undos.{Adds, IsRevert, NumbersWithin, number_in, undo_request, with_tried, with_unsent}
 use Rattle.commit_parts.specs.declared.undo.Undo.{Undo}
@@ -14,9 +14,9 @@ use Rattle.std.proofs.Math.ListN.{drop_of_length-le}
 use Rattle.std.proofs.Math.Seq.{drop-cons}
 use Rattle.std.proofs.lemmas.List.{reverse-append}
 
--- ---- what is added from number n on
+-- ---- the steps added from number n on
 
--- of the uploads that a test chooses
+-- The requests of the uploads that a test chooses.
 abbrev pub chosen_part : (List Pending → List Request) → (ℕ → Bool) → ℕ → List Pending → List Request
 chosen_part w test n all = w (chosen test n (drop n all))
 
@@ -44,14 +44,14 @@ chosen_at test all n b h t =
 none_left : (all : List Pending) (total : ℕ) → length all ≡ total → drop total all ≡ []
 none_left all total e = drop_of_length-le all {i = total} (omega arith)
 
--- ---- what a test chooses
+-- ---- the uploads that a test chooses
 
 module _ (w : List Pending → List Request) (test : ℕ → Bool) (total : ℕ) where
   pub adds_begin : (l : List Undo) → [] ≡ w [] → Adds total (chosen_part w test total) l l
   adds_begin l z = λ all e. ap (λ v. v ++ map (undo_request all) l) z ∙ ap (λ v. w (chosen test total v) ++ map (undo_request all) l)
       (sym (none_left all total e))
 
-  -- one more upload, where the test says so
+  -- One more upload, if the test chooses it.
   adds_turn : (n m : ℕ) (old new last : List Undo) (put : Bool → List Undo) (b : Bool) → n < total → m ≡ n + 1 → test n ≡ b → last ≡ put b
       → put false ≡ new
       → ((all ps : List Pending) → map (undo_request all) new ≡ w ps ++ map (undo_request all) old
@@ -70,14 +70,14 @@ module _ (w : List Pending → List Request) (test : ℕ → Bool) (total : ℕ)
       → Adds total (λ all. w (chosen test 0 all)) old new
   adds_end n old new z a = λ all e. a all e ∙ ap (λ k. w (chosen test k (drop k all)) ++ map (undo_request all) old) z
 
--- what was sent and got no answer
+-- One more upload, if its completion was sent and got no answer.
 pub tried_turn : (total : ℕ) (xs : List Turn) (n m : ℕ) (old new last : List Undo) → n < total → m ≡ n + 1
     → last ≡ with_tried (is_tried xs n) n new → Adds total (tried_part xs m) old new → Adds total (tried_part xs n) old last
 tried_turn total xs n m old new last h i e a =
     adds_turn undo (is_tried xs) total n m old new last (λ b. with_tried b n new) (is_tried xs n) h i refl e refl
     (λ all ps k. ap (λ v. abort (nth all n) ∷ deletion (nth all n) ∷ v) k) a
 
--- what was never sent; `sent` is told by three tests
+-- One more upload, if its completion was never sent; three tests decide `sent`.
 pub unsent_turn : (total worn : ℕ) (xs : List Turn) (f : List ℕ) (n m : ℕ) (old new last : List Undo) (sent : Bool) → n < total → m ≡ n + 1
     → sent ≡ (nat_eq n worn || (is_tried xs n || is_in f n)) → last ≡ with_unsent sent n new → Adds total (unsent_part worn xs f m) old new
     → Adds total (unsent_part worn xs f n) old last
@@ -89,7 +89,7 @@ unsent_turn total worn xs f n m old new last sent h i s e a =
     (e ∙ same) refl
     (λ all ps k. ap (λ v. abort (nth all n) ∷ v) k) a
 
--- ---- what is done
+-- ---- completed uploads
 
 pub done_begin : (total : ℕ) (f : List ℕ) (n : ℕ) (l : List Undo) → n ≡ length f → Adds total (done_part f n) l l
 done_begin total f n l h = λ all e. ap (λ v. map deletion (map (nth all) v) ++ map (undo_request all) l)

@@ -8,7 +8,7 @@ use Rattle.pending_json.specs.Pending.{Pending}
 use Rattle.pending_json.specs.declared.records.PendingSet.{PendingSet}
 use Rattle.std.specs.Prelude.{List, Some, is_some, length, slice_get, true, ℕ, ◌≡◌}
 
--- the set of a task of the job: its uploads are of the destination's bucket, and of different keys below the destination
+-- The set of a task of the job: its uploads go to different keys below the destination, in the destination's bucket.
 pub record IsSetOf (j : Job) (t : ℕ) (s : PendingSet) : Type 0 where
   pub job : s.job ≡ j.job
   pub task : s.task ≡ t
@@ -17,11 +17,11 @@ pub record IsSetOf (j : Job) (t : ℕ) (s : PendingSet) : Type 0 where
   pub apart : (m n : ℕ) (c d : Pending) → slice_get s.commits m ≡ Some c → slice_get s.commits n ≡ Some d → c.destination ≡ d.destination
       → m ≡ n
 
--- each is the set of its task
+-- Each set is that of the task with its index.
 abbrev pub AreRead : Job → Sets → Type 0
 AreRead j sets = (n : ℕ) (s : PendingSet) → slice_get sets n ≡ Some s → IsSetOf j n s
 
--- all sets were read, and these are the places of their uploads
+-- All sets were read, and these are the places of their uploads.
 pub record HasAll (j : Job) (sets : Sets) (places : List Place) : Type 0 where
   pub each : AreRead j sets
   pub all : length sets ≡ j.tasks

@@ -7,8 +7,8 @@ use std::alloc::{AllocError, Global};
 use std::collections::VecDeque;
 use std::marker::Model;
 
-/// A lane's turn: the number of its least upload that is not answered, how many sendings of its completion
-/// got no answer, and whether one of these was lost.
+/// The state of one lane: the number of its lowest upload that is not answered, how many sends of
+/// its completion got no answer, and whether one of these was lost.
 #[derive(Clone, Copy)]
 pub struct LaneTurn {
     number: usize,
@@ -27,7 +27,7 @@ impl Model for LaneTurn {
 }
 
 impl LaneTurn {
-    /// The first turn of an upload.
+    /// Returns the turn of an upload whose completion was never sent.
     pub fn fresh(number: usize) -> LaneTurn
         ensures { result ≡ fresh_turn number }
     {
@@ -38,7 +38,7 @@ impl LaneTurn {
         }
     }
 
-    /// The next turn of the same upload, a sending of which got no answer.
+    /// Returns the turn of the same upload after one more send without an answer.
     pub fn again(self, lost: bool) -> LaneTurn
         requires { self.missed + 1 < 2 ^ 32 }
         ensures { result ≡ again self lost }
@@ -50,21 +50,21 @@ impl LaneTurn {
         }
     }
 
-    /// The number of the upload that is in turn.
+    /// Returns the number of the upload in turn.
     pub fn number(self) -> usize
         ensures { result ≡ self.number }
     {
         self.number
     }
 
-    /// How many sendings of its completion got no answer.
+    /// Returns how many sends of the upload's completion got no answer.
     pub fn missed(self) -> u32
         ensures { result ≡ self.missed }
     {
         self.missed
     }
 
-    /// Whether one of these was lost, and not merely slow.
+    /// Returns whether one of these sends was lost, not merely slow.
     pub fn lost(self) -> bool
         ensures { result ≡ self.lost }
     {
@@ -72,7 +72,7 @@ impl LaneTurn {
     }
 }
 
-/// The first turn of the upload that comes behind this one in its lane, where there is one.
+/// Returns the first turn of the next upload in the lane of upload `number`, if there is one.
 pub fn next_turn(lanes: u32, total: usize, number: usize) -> Option<LaneTurn>
     ensures { result ≡ next_turn lanes total number }
 {
@@ -84,8 +84,8 @@ pub fn next_turn(lanes: u32, total: usize, number: usize) -> Option<LaneTurn>
     }
 }
 
-/// The lanes that have uploads to complete, in the order of their turns, and the numbers of the uploads
-/// that are done, in the order of their completion.
+/// The lanes that still have uploads to complete, in the order of their turns, and the numbers of
+/// the completed uploads, in the order of their completion.
 #[derive(Drop)]
 pub struct Lanes {
     turns: VecDeque<LaneTurn>,
@@ -101,7 +101,7 @@ impl Model for Lanes {
     ghost view = { λ l. record { turns = l.turns.items; finished = reverse l.finished.items } };
 }
 
-/// The first turns of so many lanes.
+/// Returns the first turns of `count` lanes.
 fn first_turns(alloc: Global, count: usize) -> Result<VecDeque<LaneTurn>, AllocError>
     ensures { IfOk result (λ turns. turns.items ≡ first_turns count) }
 {
@@ -113,7 +113,7 @@ fn first_turns(alloc: Global, count: usize) -> Result<VecDeque<LaneTurn>, AllocE
 }
 
 impl Lanes {
-    /// So many uploads, dealt to so many lanes.
+    /// Deals `total` uploads to `lanes` lanes.
     pub fn dealt(alloc: Global, lanes: u32, total: usize) -> Result<Lanes, AllocError>
         ensures { IfOk result (λ l. l ≡ record { turns = dealt lanes total; finished = [] }) }
     {
@@ -124,7 +124,7 @@ impl Lanes {
         })
     }
 
-    /// The turn that is next. Takes no memory.
+    /// Returns the turn that is next. Takes no memory.
     pub fn first(&self) -> Option<LaneTurn>
         ensures { result ≡ first_of self.now.turns }
     {
@@ -134,7 +134,8 @@ impl Lanes {
         }
     }
 
-    /// The lane in turn goes behind the others with this turn, or out.
+    /// Moves the lane in turn to the end of the queue with turn `next`, or removes it if `next` is
+    /// None.
     pub fn go_on(&mut self, next: Option<LaneTurn>) -> Result<(), AllocError>
         ensures { OnOk result (self.new ≡ record {
           turns = drop 1 self.old.turns ++ listed next;
@@ -148,7 +149,7 @@ impl Lanes {
         Ok(())
     }
 
-    /// The completion of an upload was answered.
+    /// Notes that the completion of an upload was answered.
     pub fn finish(&mut self, number: usize) -> Result<(), AllocError>
         ensures { OnOk result (self.new ≡ record { turns = self.old.turns; finished = number ∷ self.old.finished }) }
     {
@@ -164,14 +165,15 @@ impl Lanes {
             .any(|turn| number == turn.number && 0 < turn.missed)
     }
 
-    /// Whether an upload is in turn, and its completion was sent. Takes no memory.
+    /// Returns whether an upload is in turn and its completion was sent. Takes no memory.
     pub fn is_tried(&self, number: usize) -> bool
         ensures { result ≡ is_tried self.now.turns number }
     {
         self.some_tried(number)
     }
 
-    /// The numbers of the uploads that are done, in the order of their completion. Takes no memory.
+    /// Returns the numbers of the completed uploads, in the order of their completion. Takes no
+    /// memory.
     pub fn finished(&self) -> &[usize]
         ensures { reverse result.now ≡ self.now.finished }
     {

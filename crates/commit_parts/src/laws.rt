@@ -1,11 +1,12 @@
 ghost use Rattle.commit_parts.specs.Apart.{SetsAreApart, PathIsFound};
 
-/// Uploads of the sets of a job whose picks write no path twice are different requests.
+/// If no two tasks of a job write the same path, the uploads of their sets lead to different
+/// requests.
 pub fn sets_apart()
     ensures { SetsAreApart }
 {}
 
-/// The path that two picks write is the one below the key that two tasks write.
+/// The search by keys finds the path that two tasks write, exactly as `same_path` defines it.
 pub fn same_paths()
     ensures { PathIsFound }
 {}

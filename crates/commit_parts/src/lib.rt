@@ -1,13 +1,15 @@
-//! The parts of a job's commit: lanes and their uploads, what is taken back, the search for a path that
-//! two tasks write, and requests. (Hadoop, S3A committer architecture: job commit.)
+//! The parts of a job's commit: lanes and their uploads, the requests of a revert, the search for a
+//! path that two tasks write, and requests. (Hadoop, S3A committer architecture: job commit.)
 //!
 //! # What is proved
 //!
-//! lanes, reverts, the search for a shared path, requests: The table of lanes is dealt and turned as
-//! the definitions have it; a revert's list is the definition's; the least key that two tasks write is
-//! found with its two least tasks, and is the one of the path that two picks write (`same_paths`);
-//! uploads of sets of which no two write one path are different requests (`sets_apart`); each request
-//! is the definition's, the marker's with the wanted paths in the order of their bytes.
+//! - The table of lanes is dealt and turned as the definitions say.
+//! - The list of a revert is the one that the definition names.
+//! - The search finds the least key that two tasks write, with its two lowest tasks. This key is
+//!   that of the path that two chosen attempts write (`same_paths`).
+//! - Uploads of sets of which no two write the same path lead to different requests (`sets_apart`).
+//! - Each request is the one that its definition names. The marker lists the wanted paths in the
+//!   order of their bytes.
 #![tactic(auto)]
 
 mod lanes;

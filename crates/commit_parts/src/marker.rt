@@ -17,7 +17,7 @@ use s3_types::{Key, Request, Sequence, Text, TextList};
 use std::alloc::{AllocError, Global};
 use std::collections::BTreeSet;
 
-/// What follows a key and a `/` in a text that begins so.
+/// Returns the text after `key` and a `/`, if the text begins with these.
 fn behind<'a>(key: &str, text: &'a str) -> Option<&'a str>
     requires { 0 < length key.now }
     ensures { option_map (λ r. r.now) result ≡ relative_in key.now text.now }
@@ -28,7 +28,7 @@ fn behind<'a>(key: &str, text: &'a str) -> Option<&'a str>
     }
 }
 
-/// The path of a key below the destination, or an empty one where it is not below it.
+/// Returns the path of a key below the destination, or an empty path if the key is not below it.
 pub fn relative(alloc: Global, dest: &S3Path, key: &Key) -> Result<Text, AllocError>
     requires { 0 < length dest.now.key }
     ensures { IfOk result (λ path. path ≡ relative_of dest.now key.now) }
@@ -39,7 +39,7 @@ pub fn relative(alloc: Global, dest: &S3Path, key: &Key) -> Result<Text, AllocEr
     }
 }
 
-/// The paths of all uploads, each once, in the order of their bytes.
+/// Returns the paths of all uploads, each once, in the order of their bytes.
 fn ordered_paths(
     alloc: Global,
     dest: &S3Path,
@@ -70,7 +70,7 @@ fn listed(alloc: Global, paths: &BTreeSet<Text>) -> Result<TextList, AllocError>
     Ok(list)
 }
 
-/// The paths that the tasks of these sets write, each once, in the order of their bytes.
+/// Returns the paths that the tasks of these sets write, each once, in the order of their bytes.
 pub fn wanted_paths(
     alloc: Global,
     plan: &JobPlan,
@@ -84,7 +84,7 @@ pub fn wanted_paths(
     listed(alloc, &paths)
 }
 
-/// The put of the marker of a committed job: its files are the paths that were wanted.
+/// Returns the put of a committed job's marker, which lists the wanted paths as its files.
 pub fn mark_request(
     alloc: Global,
     plan: &JobPlan,

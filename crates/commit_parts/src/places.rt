@@ -7,7 +7,7 @@ use pending_json::{PendingSet, PendingUpload};
 use s3_types::Sequence;
 use std::alloc::{AllocError, Global};
 
-/// Where an upload stands: in which set, and where in it.
+/// The place of an upload: the index of its set, and its index in that set.
 #[derive(Clone, Copy)]
 pub struct Place {
     pub set: usize,
@@ -23,7 +23,7 @@ fn add_row(places: &mut Sequence<Place>, set: usize, count: usize) -> Result<(),
     Ok(())
 }
 
-/// The places of all uploads, by their numbers.
+/// Returns the places of all uploads, by number.
 pub fn placed(alloc: Global, sets: &[PendingSet]) -> Result<Sequence<Place>, AllocError>
     ensures { IfOk result (λ places. places ≡ places_from 0 sets.now) }
 {
@@ -55,7 +55,7 @@ fn upload_in(set: &PendingSet, number: usize) -> &PendingUpload
     &set.commits.as_slice()[number]
 }
 
-/// The upload with this number. Takes no memory.
+/// Returns the upload with this number. Takes no memory.
 pub fn upload<'a>(sets: &'a [PendingSet], places: &[Place], number: usize) -> &'a PendingUpload
     requires places { places.now ≡ places_from 0 sets.now }
     requires within { number < length (all_commits sets.now) }

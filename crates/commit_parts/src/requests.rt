@@ -11,7 +11,7 @@ use pending_json::PendingUpload;
 use s3_types::{Committer, Request, named_parts};
 use std::alloc::{AllocError, Global};
 
-/// The read of a task's set from the store.
+/// Returns the read of a task's set from S3.
 fn stored_set(alloc: Global, plan: &JobPlan, task: u32) -> Result<Request, AllocError>
     ensures { IfOk result (λ request. request ≡ GetObject plan.now.dest.bucket
         (layout.set_key plan.now.dest.key plan.now.job task)) }
@@ -20,7 +20,7 @@ fn stored_set(alloc: Global, plan: &JobPlan, task: u32) -> Result<Request, Alloc
     Request::get_object(plan.dest.bucket(), &key)
 }
 
-/// The read of a task's set from the cluster's file system.
+/// Returns the read of a task's set from the cluster's file system.
 fn staged_set(alloc: Global, plan: &JobPlan, task: u32) -> Result<Request, AllocError>
     ensures { IfOk result (λ request. request ≡ ClusterGet (layout.staged_set_path plan.now.job task)) }
 {
@@ -28,8 +28,8 @@ fn staged_set(alloc: Global, plan: &JobPlan, task: u32) -> Result<Request, Alloc
     Request::cluster_get(&path)
 }
 
-/// The read of a task's set: the magic committer has it in the store, and the staging committers in the cluster's file
-/// system.
+/// Returns the read of a task's set. The magic committer stores sets in S3, the staging committers
+/// in the cluster's file system.
 pub fn set_request(alloc: Global, plan: &JobPlan, task: u32) -> Result<Request, AllocError>
     ensures { IfOk result (λ request. request ≡ set_request plan.now.committer (job_script plan.now) task) }
 {
@@ -39,7 +39,7 @@ pub fn set_request(alloc: Global, plan: &JobPlan, task: u32) -> Result<Request, 
     }
 }
 
-/// The completion of an upload.
+/// Returns the request that completes an upload.
 pub fn completion(alloc: Global, upload: &PendingUpload) -> Result<Request, AllocError>
     ensures { IfOk result (λ request. request ≡ completion upload.now) }
 {
@@ -52,14 +52,14 @@ pub fn completion(alloc: Global, upload: &PendingUpload) -> Result<Request, Allo
     })
 }
 
-/// The abort of an upload.
+/// Returns the request that aborts an upload.
 pub fn abort(upload: &PendingUpload) -> Result<Request, AllocError>
     ensures { IfOk result (λ request. request ≡ abort upload.now) }
 {
     Request::abort_upload(upload.bucket(), upload.destination(), upload.upload())
 }
 
-/// The deletion of an upload's key.
+/// Returns the request that deletes an upload's key.
 pub fn deletion(upload: &PendingUpload) -> Result<Request, AllocError>
     ensures { IfOk result (λ request. request ≡ deletion upload.now) }
 {

@@ -10,7 +10,7 @@ use crate::undo::{Undo, UndoList};
 use std::alloc::{AllocError, Global};
 use std::collections::BTreeSet;
 
-/// These numbers, to be found again.
+/// Returns these numbers as a set for look-ups.
 fn numbers_in(alloc: Global, numbers: &[usize]) -> Result<BTreeSet<usize>, AllocError>
     ensures { IfOk result (λ set. (n : ℕ) → contains nat_cmp set n ≡ is_in (reverse numbers.now) n) }
 {
@@ -34,14 +34,15 @@ fn has(set: &BTreeSet<usize>, n: usize) -> bool
     set.contains(&n)
 }
 
-/// Whether an upload's completion was sent.
+/// Returns whether the completion of upload `n` was sent.
 fn is_sent(worn: usize, lanes: &Lanes, done: &BTreeSet<usize>, n: usize) -> bool
     ensures { result ≡ (nat_eq n worn || (is_tried lanes.now.turns n || contains nat_cmp done.now n)) }
 {
     n == worn || (lanes.is_tried(n) || has(done, n))
 }
 
-/// An upload that was sent and got no answer is aborted, and its key deleted.
+/// Adds the abort of an upload and the deletion of its key, if its completion was sent and got no
+/// answer.
 fn add_if_tried(list: &mut UndoList, lanes: &Lanes, n: usize) -> Result<(), AllocError>
     ensures { OnOk result (list.new ≡ with_tried (is_tried lanes.now.turns n) n list.old) }
 {
@@ -52,7 +53,7 @@ fn add_if_tried(list: &mut UndoList, lanes: &Lanes, n: usize) -> Result<(), Allo
     list.add(Undo::Abort(n))
 }
 
-/// An upload that was never sent is aborted.
+/// Adds the abort of an upload whose completion was never sent.
 fn add_if_unsent(list: &mut UndoList, was_sent: bool, n: usize) -> Result<(), AllocError>
     ensures { OnOk result (list.new ≡ with_unsent was_sent n list.old) }
 {
@@ -62,7 +63,7 @@ fn add_if_unsent(list: &mut UndoList, was_sent: bool, n: usize) -> Result<(), Al
     list.add(Undo::Abort(n))
 }
 
-/// Each upload that was never sent is aborted.
+/// Adds the abort of each upload whose completion was never sent.
 fn add_unsent(
     list: &mut UndoList,
     worn: usize,
@@ -84,7 +85,7 @@ fn add_unsent(
     Ok(())
 }
 
-/// Each completed key is deleted, in the order of completion.
+/// Adds the deletion of each completed key, in the order of completion.
 fn add_completed(list: &mut UndoList, finished: &[usize], total: usize) -> Result<(), AllocError>
     requires { (n : ℕ) → In n finished.now → n < total }
     ensures adds { OnOk result (Adds total (λ all. map deletion (in_turn all (reverse finished.now)))
@@ -100,7 +101,7 @@ fn add_completed(list: &mut UndoList, finished: &[usize], total: usize) -> Resul
     Ok(())
 }
 
-/// Each upload that was sent and got no answer is aborted, and its key deleted.
+/// Adds the abort and the deletion of each upload whose completion was sent and got no answer.
 fn add_tried(list: &mut UndoList, lanes: &Lanes, total: usize) -> Result<(), AllocError>
     ensures adds { OnOk result (Adds total (λ all. undo (chosen (is_tried lanes.now.turns) 0 all)) list.old list.new) }
     ensures within { OnOk result (NumbersWithin total list.old → NumbersWithin total list.new) }
@@ -113,10 +114,13 @@ fn add_tried(list: &mut UndoList, lanes: &Lanes, total: usize) -> Result<(), All
     Ok(())
 }
 
-/// What is left to do where the completion of an upload wore out, which is no more in turn: it is aborted
-/// and its key deleted, then the same of each other upload that was sent and got no answer, by number;
-/// then each completed key is deleted, in the order of completion; then each upload that was never sent is
-/// aborted, by number.
+/// Returns the requests of a revert after the completion of upload `worn` exhausted its retries.
+/// That upload is no longer in turn. The order is:
+///
+/// - its abort, and the deletion of its key;
+/// - the same for each other upload whose completion was sent and got no answer, by number;
+/// - the deletion of each completed key, in the order of completion;
+/// - the abort of each upload whose completion was never sent, by number.
 pub fn revert(
     alloc: Global,
     worn: usize,

@@ -19,14 +19,14 @@ pub struct Clash {
     pub second: u32,
 }
 
-/// The least task that writes each key, and the least key that two tasks write.
+/// The lowest task that writes each key, and the least key that two tasks write.
 #[derive(Drop)]
 pub struct Search {
     owners: HashMap<Text, u32>,
     best: Option<Clash>,
 }
 
-/// Whether a key comes before the one that is found already.
+/// Returns whether a key comes before the one found so far.
 fn is_better(key: &Key, best: &Option<Clash>) -> bool
     ensures { result ≡ is_better key.now best.now }
 {
@@ -36,7 +36,8 @@ fn is_better(key: &Key, best: &Option<Clash>) -> bool
     }
 }
 
-/// The task that is the first to write a key, which is this one where none was before. In one look-up.
+/// Returns the first task that writes a key, which becomes `task` if there was none. Takes one
+/// look-up.
 fn owner_of(owners: &mut HashMap<Text, u32>, key: &Key, task: u32) -> Result<u32, AllocError>
     ensures first { IfOk result (λ first. first ≡ unwrap_or (found text_eq owners.old key.now) task) }
     ensures owners { OnOk result (Updates text_eq owners.old owners.new key.now
@@ -46,7 +47,7 @@ fn owner_of(owners: &mut HashMap<Text, u32>, key: &Key, task: u32) -> Result<u32
     Ok(first)
 }
 
-/// One more upload of a key that this task is the first to write.
+/// Notes that `task` writes a key that `first` was the first to write.
 fn add_clash(best: &mut Option<Clash>, key: &Key, first: u32, task: u32) -> Result<(), AllocError>
     ensures { OnOk result (best.new ≡ clash_of key.now first task best.old) }
 {
@@ -65,7 +66,7 @@ fn add_clash(best: &mut Option<Clash>, key: &Key, first: u32, task: u32) -> Resu
     Ok(())
 }
 
-/// One more upload, of a task that is none before those of the uploads so far.
+/// Adds an upload of a task that is not below the tasks added before.
 fn add(search: &mut Search, key: &Key, task: u32) -> Result<(), AllocError>
     ensures { OnOk result ((items : List Item) → ((k : List ℕ) (v : ℕ) → In (k, v) items → v ≤ task)
         → Finds items (found text_eq search.old.owners) search.old.best
@@ -75,7 +76,7 @@ fn add(search: &mut Search, key: &Key, task: u32) -> Result<(), AllocError>
     add_clash(&mut search.best, key, first, task)
 }
 
-/// The uploads of one more task.
+/// Adds the uploads of one more task.
 fn add_all(search: &mut Search, uploads: &[PendingUpload], task: u32) -> Result<(), AllocError>
     ensures { OnOk result ((items : List Item) → ((k : List ℕ) (v : ℕ) → In (k, v) items → v ≤ task)
         → Finds items (found text_eq search.old.owners) search.old.best
@@ -88,8 +89,8 @@ fn add_all(search: &mut Search, uploads: &[PendingUpload], task: u32) -> Result<
     Ok(())
 }
 
-/// The least key that two tasks write, with the two least tasks that do, or None where no two write one
-/// key. In time linear in the uploads, mostly.
+/// Returns the least key that two tasks write with the two lowest such tasks, or None if no two
+/// tasks write the same key. Usually takes time linear in the uploads.
 pub fn shared(alloc: Global, sets: &[PendingSet]) -> Result<Option<Clash>, AllocError>
     requires { length sets.now < 2 ^ 32 }
     ensures { IfOk result (λ best. IsBest (items_from 0 sets.now) best) }

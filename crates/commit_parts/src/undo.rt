@@ -4,16 +4,16 @@ ghost use Rattle.commit_parts.specs.Tables.{first_of};
 use std::alloc::{AllocError, Global};
 use std::marker::Model;
 
-/// A request that takes something back, by the number of its upload.
+/// A request of a revert, by the number of its upload.
 #[derive(Clone, Copy)]
 pub enum Undo {
     /// Aborts the upload.
     Abort(usize),
-    /// Deletes its key.
+    /// Deletes the upload's key.
     Delete(usize),
 }
 
-/// Requests that take things back, the next one first.
+/// The requests of a revert, the next one first.
 #[derive(Drop)]
 pub struct UndoList {
     held: Vec<Undo>,
@@ -29,7 +29,7 @@ impl Model for UndoList {
 }
 
 impl UndoList {
-    /// Nothing. Takes no memory.
+    /// Returns an empty list. Takes no memory.
     pub fn new(alloc: Global) -> UndoList
         ensures { result ≡ [] }
     {
@@ -38,7 +38,7 @@ impl UndoList {
         }
     }
 
-    /// Adds one before the others.
+    /// Adds a request in front of the others.
     pub fn add(&mut self, undo: Undo) -> Result<(), AllocError>
         ensures { OnOk result (self.new ≡ undo ∷ self.old) }
     {
@@ -46,7 +46,7 @@ impl UndoList {
         Ok(())
     }
 
-    /// The next one. Takes no memory.
+    /// Returns the next request. Takes no memory.
     pub fn first(&self) -> Option<Undo>
         ensures { result ≡ first_of self.now }
     {
@@ -56,7 +56,7 @@ impl UndoList {
         }
     }
 
-    /// Drops the next one, if there is one. Takes no memory.
+    /// Drops the next request, if there is one. Takes no memory.
     pub fn drop_first(&mut self)
         ensures { self.new ≡ drop 1 self.old }
     {

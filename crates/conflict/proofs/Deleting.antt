@@ -1,4 +1,4 @@
--- Where replies lead a deletion, by the prefixes and the place of the one that it has come to.
+-- A deletion after a reply, by its prefixes and the place of the current one.
 use Rattle.basics.proofs.Naturals.{at_most_is, at_most_not}
 use Rattle.conflict.specs.Checks.{is_none}
 use Rattle.conflict.specs.Deletions.{Deletion, FitsBelow, FitsDeletion, deletion_hears, hears_below, swept_on}
@@ -16,7 +16,7 @@ first_of [] at h = absurd (omega arith)
 first_of (x ∷ xs) zero h = (x, refl)
 first_of (x ∷ xs) (suc i) h = let y = first_of xs i (omega arith) in (y.0, y.1 ∙ rw (add-one, add-one) refl)
 
--- nothing is left behind so many
+-- Nothing is left after the last prefix.
 pub none_left : (ps : List (List ℕ)) (n at : ℕ) → n ≡ length ps → nat_le n at ≡ is_none (drop at ps)
 none_left ps n at e = by (nat_le n at) refl
   where

@@ -1,4 +1,4 @@
--- What a check before a commit has left falls.
+-- The bound on the requests that a check before a commit has left falls.
 use Rattle.basics.proofs.Members.{false_true}
 use Rattle.conflict.specs.Fits.{FitsLook}
 use Rattle.conflict.specs.Laws.{ChecksFall}

@@ -1,4 +1,4 @@
--- Texts in order are told by which they are.
+-- Which texts there are decides their ordered list.
 use Rattle.basics.proofs.Members.{text_exact}
 use Rattle.basics.specs.Members.{IsIn}
 use Rattle.basics.specs.Order.{text_cmp, text_total}
@@ -92,7 +92,7 @@ first_same x y xs ys r q (inr i) (inr k) = absurd (not_self x (text_total.trans 
 abbrev Within : List (List ℕ) → List (List ℕ) → Type 0
 Within xs ys = (p : List ℕ) → IsIn p xs → IsIn p ys
 
--- what is behind the first of the one is behind the first of the other
+-- The items after the first of one list are among those after the first of the other.
 rest_within : (x y : List ℕ) (xs ys : List (List ℕ)) → x ≡ y → Rises (x ∷ xs) → Within (x ∷ xs) (y ∷ ys) → Within xs ys
 rest_within x y xs ys e r h p i = elim (h p (inr i)) [
   | inr m ↦ m

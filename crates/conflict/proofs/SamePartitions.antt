@@ -1,4 +1,4 @@
--- The partitions of paths are told by which paths they are.
+-- Which paths there are decides their partitions.
 use Rattle.basics.specs.Members.{IsIn}
 use Rattle.conflict.proofs.Rising.{from_ordered, in_ordered, ordered_same}
 use Rattle.job_protocol.specs.Conflicts.{dir_of, dirs_of, partitions, with_dir}
@@ -11,7 +11,7 @@ dir_in d p (q ∷ ps) (inl is) e = subst (λ o. IsIn d (with_dir o (dirs_of ps))
 dir_in d p (q ∷ ps) (inr i) e = (elim (dir_of q) as (λ o. IsIn d (dirs_of ps) → IsIn d (with_dir o (dirs_of ps)))
     [ Some x ↦ λ h. inr h | None ↦ λ h. h ]) (dir_in d p ps i e)
 
--- a directory is that of some of the paths
+-- The directory is that of one of the paths.
 record Holder (d : List ℕ) (ps : List (List ℕ)) : Type 0 where
   pub path : List ℕ
   pub there : IsIn path ps

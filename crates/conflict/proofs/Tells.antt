@@ -1,4 +1,4 @@
--- Checks and deletions lead where the operations that hold them go.
+-- Checks and deletions go on as the operations that use them do.
 use Rattle.conflict.specs.Checks.{found_below, left_after}
 use Rattle.conflict.specs.Deletions.{swept_on}
 use Rattle.conflict.specs.Laws.{ChecksTell, DeletionsTell, commit_after_check, commit_deleting, deletion_of}

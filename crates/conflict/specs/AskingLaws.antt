@@ -1,4 +1,4 @@
--- How a check before a commit stands.
+-- The state of a check before a commit.
 use Rattle.conflict.specs.Fits.{FitsCheck, standing, standing_of}
 use Rattle.conflict.specs.Rechecks.{check_told, check_wants}
 use Rattle.job_model.specs.JobScript.{Script}
@@ -31,7 +31,7 @@ goes_on w (Probing d ds) r (Page entries more) e = fine_probed d ds entries
 goes_on w (Probing d ds) r _ e = refl
 goes_on w (CheckOver end) r a e = refl
 
--- it asks a request until it is over
+-- A check has a request to send until it is over.
 asks_until : (w : Script) (c : Check) → is_some (check_asks w c) ≡ is_none (check_over c)
 asks_until w (CheckOver end) = refl
 asks_until w _ = refl

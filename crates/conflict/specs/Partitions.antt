@@ -3,7 +3,7 @@ use Rattle.basics.specs.Order.{text_cmp}
 use Rattle.std.specs.BTreeSet.{insert_key}
 use Rattle.std.specs.Prelude.{List, None, Option, Some, ℕ}
 
--- partitions with one more, where there is one
+-- The partitions with one more, if there is one.
 abbrev pub with_partition : Option (List ℕ) → List (List ℕ) → List (List ℕ)
 with_partition (Some d) ds = insert_key text_cmp ds d
 with_partition None ds = ds

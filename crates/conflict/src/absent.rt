@@ -8,7 +8,7 @@ use s3_types::{PageLimit, Reply, Request, Text, TextList};
 use std::alloc::{AllocError, Global};
 use std::marker::Model;
 
-/// What the keys below a partition of a destination begin with.
+/// Returns the prefix of the keys below a partition of a destination.
 pub fn partition_prefix(alloc: Global, dest: &S3Path, partition: &Text) -> Result<Text, AllocError>
     ensures { IfOk result (λ prefix. prefix ≡ below dest.now.key (partition.now ++ codes "/")) }
 {
@@ -17,7 +17,7 @@ pub fn partition_prefix(alloc: Global, dest: &S3Path, partition: &Text) -> Resul
     Text::new(alloc, dest.text_below(alloc, folder.as_str())?)
 }
 
-/// The request for one key below a partition.
+/// Returns the request for one key below a partition.
 fn key_request(
     alloc: Global,
     dest: &S3Path,
@@ -34,7 +34,8 @@ fn key_request(
     }
 }
 
-/// A look for a key below each of some partitions in order, seen as the partitions that are left to look at.
+/// A look for a key below each of some partitions in order. Contracts see it as the list of the
+/// partitions left to check.
 #[derive(Drop)]
 pub struct CheckAbsent {
     partitions: TextList,
@@ -50,21 +51,22 @@ impl Model for CheckAbsent {
 }
 
 impl CheckAbsent {
-    /// A look below these partitions, none of which was looked at yet. Takes no memory.
+    /// Returns a look below these partitions that has checked none yet. Takes no memory.
     pub fn new(partitions: TextList) -> CheckAbsent
         ensures { result ≡ partitions }
     {
         CheckAbsent { partitions, at: 0 }
     }
 
-    /// Whether no partition is left to look at. Takes no memory.
+    /// Returns whether no partition is left to check. Takes no memory.
     pub fn is_over(&self) -> bool
         ensures { result ≡ is_none self.now }
     {
         self.at >= self.partitions.len()
     }
 
-    /// The request for a key below the next partition of a destination, or None where none is left.
+    /// Returns the request for a key below the next partition of a destination, or None if none is
+    /// left.
     pub fn request(&self, alloc: Global, dest: &S3Path) -> Result<Option<Request>, AllocError>
         ensures { IfOk result (λ request. request ≡ check_asks dest.now self.now) }
     {
@@ -74,8 +76,8 @@ impl CheckAbsent {
         }
     }
 
-    /// Takes the reply to its present request: the partition, where a key is below it, and else it goes on to
-    /// the next one.
+    /// Takes the reply to the current request. Returns the partition if a key is below it; else
+    /// goes on to the next partition.
     pub fn hear(&mut self, reply: &Reply) -> Result<Option<Text>, AllocError>
         ensures found { IfOk result (λ found. found ≡ found_below self.old reply.now) }
         ensures left { OnOk result (self.new ≡ left_after self.old reply.now) }

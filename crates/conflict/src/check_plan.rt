@@ -1,7 +1,8 @@
 use job_model::JobPlan;
 use s3_types::TextList;
 
-/// What a check before a commit goes by: the job's plan, and the partitions of the files that the commit would show.
+/// The data of a check before a commit: the job's plan, and the partitions of the files that the
+/// commit would make visible.
 #[derive(Drop)]
 pub struct CheckPlan {
     pub job: JobPlan,

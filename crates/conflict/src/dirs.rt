@@ -6,7 +6,7 @@ use s3_types::{Sequence, Text, TextList};
 use std::alloc::{AllocError, Global};
 use std::collections::BTreeSet;
 
-/// The directory that a path is in, where it has a `/`. Takes no memory.
+/// Returns the directory of a path, if the path has a `/`. Takes no memory.
 fn dir_of(path: &str) -> Option<&str>
     ensures { option_map (λ d. d.now) result ≡ dir_of path.now }
 {
@@ -16,7 +16,7 @@ fn dir_of(path: &str) -> Option<&str>
     }
 }
 
-/// Adds the directory that a path is in, where there is one.
+/// Adds the directory of a path, if there is one.
 fn add_dir(alloc: Global, dirs: &mut BTreeSet<Text>, path: &Text) -> Result<(), AllocError>
     ensures { OnOk result (dirs.new.keys ≡ with_partition (dir_of path.now) dirs.old.keys) }
 {
@@ -50,8 +50,8 @@ fn listed(alloc: Global, texts: &BTreeSet<Text>) -> Result<TextList, AllocError>
     Ok(list)
 }
 
-/// The directories that these paths are in, each once, rising by their bytes; a path without a `/` is in
-/// none. Takes time in the order of the paths' count times its logarithm.
+/// Returns the directories of these paths, each once, in the order of their bytes. A path without a
+/// `/` has no directory. Takes time proportional to the number of paths times its logarithm.
 pub fn partitions(alloc: Global, paths: &[Text]) -> Result<TextList, AllocError>
     ensures { IfOk result (λ dirs. dirs ≡ partitions paths.now) }
 {

@@ -4,7 +4,8 @@ ghost use Rattle.job_protocol.specs.Conflicts.{checks_partitions, displaced};
 use job_model::Displaced;
 use s3_types::{Committer, Mode};
 
-/// What a committer's mode deletes of the files that stood at a destination before the job. Takes no memory.
+/// Returns which of the files that existed at a destination before the job its mode deletes. Takes
+/// no memory.
 pub fn displaced(committer: Committer, mode: Mode) -> Displaced
     ensures { result ≡ displaced committer mode }
 {
@@ -15,7 +16,8 @@ pub fn displaced(committer: Committer, mode: Mode) -> Displaced
     }
 }
 
-/// Whether a job's mode is to fail for files in the partitions that it writes. Takes no memory.
+/// Returns whether a job's mode fails if there are files in the partitions that the job writes.
+/// Takes no memory.
 pub fn checks_partitions(committer: Committer, mode: Mode) -> bool
     ensures { result ≡ checks_partitions committer mode }
 {

@@ -18,17 +18,18 @@ use list_walk::KeyWalk;
 use s3_types::{Reply, Request, Sequence, Text, TextList, put};
 use std::alloc::{AllocError, Global};
 
-/// Where a check before a commit stands.
+/// The stage of a check before a commit.
 #[derive(Clone, Copy)]
 pub enum Stage {
-    /// It looks for a file of the whole destination.
+    /// Looks for a file in the whole destination.
     Looking,
-    /// It looks for a key below each of the partitions that are left.
+    /// Looks for a key below each of the partitions that are left.
     Probing,
     Over,
 }
 
-/// A check as it goes on: its stage, the walk, the partitions that are left to look at, and the end once it is over.
+/// A check in progress: its stage, the walk, the partitions left to check, and the end once it is
+/// over.
 #[derive(Drop)]
 pub struct Held {
     pub stage: Stage,
@@ -37,7 +38,7 @@ pub struct Held {
     pub end: CheckEnd,
 }
 
-/// The same texts, which are shared.
+/// Returns these texts, shared with the argument.
 fn shared_texts(alloc: Global, texts: &[Text]) -> Result<TextList, AllocError>
     ensures { IfOk result (λ copy. copy ≡ texts.now) }
 {
@@ -49,7 +50,8 @@ fn shared_texts(alloc: Global, texts: &[Text]) -> Result<TextList, AllocError>
 }
 
 impl Held {
-    /// A check of a stage of which nothing was sent yet, with these partitions to look at. Takes no memory.
+    /// Returns a check at a stage, with these partitions to check, that has sent nothing yet. Takes
+    /// no memory.
     fn begun(alloc: Global, stage: Stage, partitions: TextList) -> Held
         ensures { check_of result ≡ check_at stage [] partitions CheckEnd.Clear }
     {
@@ -61,7 +63,7 @@ impl Held {
         }
     }
 
-    /// A check of a plan of which nothing was sent yet.
+    /// Returns the check of a plan, which has sent nothing yet.
     pub fn new(alloc: Global, plan: &CheckPlan) -> Result<Held, AllocError>
         ensures { IfOk result (λ held. check_of held ≡ check_of_plan plan.now) }
     {
@@ -76,7 +78,7 @@ impl Held {
         Ok(Held::begun(alloc, Stage::Over, TextList::new(alloc)))
     }
 
-    /// Ends here. Takes no memory.
+    /// Ends the check with `end`. Takes no memory.
     pub fn finish(&mut self, end: CheckEnd)
         ensures { check_of self.new ≡ CheckOver end }
     {
@@ -84,7 +86,7 @@ impl Held {
         self.stage = Stage::Over;
     }
 
-    /// How it ended, or None while it asks a request. Takes no memory.
+    /// Returns how the check ended, or None while it has a request to send. Takes no memory.
     pub fn end(&self) -> Option<&CheckEnd>
         ensures { option_copied result ≡ check_over (check_of self.now) }
     {
@@ -96,7 +98,7 @@ impl Held {
         }
     }
 
-    /// The next request, or None where it is over.
+    /// Returns the next request, or None if the check is over.
     pub fn request(&self, alloc: Global, plan: &JobPlan) -> Result<Option<Request>, AllocError>
         ensures { IfOk result (λ request. request ≡ check_asks (job_script plan.now) (check_of self.now)) }
     {
@@ -142,7 +144,7 @@ impl Held {
         Ok(())
     }
 
-    /// Takes the reply to its present request.
+    /// Takes the reply to the current request.
     pub fn hear(&mut self, alloc: Global, plan: &JobPlan, reply: &Reply) -> Result<(), AllocError>
         requires asked { IsSome (check_asks (job_script plan.now) (check_of self.old)) }
         requires fits { FitsLook (check_of self.old) reply.now }

@@ -6,7 +6,7 @@ use crate::displacing::displaced;
 use job_model::Displaced;
 use s3_types::{Committer, Mode, Text};
 
-/// Whether a path is below a directory.
+/// Returns whether a path is below a directory.
 fn is_below(dir: &[u8], path: &[u8]) -> bool
     ensures { result ≡ begins (dir.now ++ 47 ∷ []) path.now }
 {
@@ -22,8 +22,8 @@ fn is_below_any(dirs: &[Text], path: &[u8]) -> bool
     dirs.iter().any(|dir| is_below(dir.as_bytes(), path))
 }
 
-/// Whether a file that stood at a path below the destination before the job stays, where the job writes
-/// these partitions. Takes no memory.
+/// Returns whether a file that existed at a path below the destination before the job stays, if the
+/// job writes these partitions. Takes no memory.
 pub fn keeps(committer: Committer, mode: Mode, partitions: &[Text], path: &[u8]) -> bool
     ensures { result ≡ keeps committer mode partitions.now path.now }
 {

@@ -13,7 +13,7 @@ use s3_types::{Bucket, Committer, Mode, Reply, Request, Sequence, Text, TextList
 use std::alloc::{AllocError, Global};
 use std::marker::Model;
 
-/// What the keys below the magic directories of a destination begin with.
+/// Returns the prefix of the keys below the magic directories of a destination.
 fn magic_prefix(alloc: Global, dest: &S3Path) -> Result<Text, AllocError>
     ensures { IfOk result (λ prefix. prefix ≡ spared dest.now) }
 {
@@ -37,7 +37,7 @@ fn partition_prefixes(
     Ok(prefixes)
 }
 
-/// What the keys below a whole destination begin with.
+/// Returns the prefix of the keys below a whole destination, as a list.
 fn whole(alloc: Global, dest: &S3Path) -> Result<TextList, AllocError>
     ensures { IfOk result (λ prefixes. prefixes ≡ (dest.now.key ++ codes "/") ∷ []) }
 {
@@ -47,7 +47,8 @@ fn whole(alloc: Global, dest: &S3Path) -> Result<TextList, AllocError>
     Ok(prefixes)
 }
 
-/// Below which prefixes a replace mode of a committer deletes, where these partitions are written.
+/// Returns the prefixes below which a replace mode of a committer deletes, if the job writes these
+/// partitions.
 fn prefixes(
     alloc: Global,
     dest: &S3Path,
@@ -63,9 +64,9 @@ fn prefixes(
     }
 }
 
-/// The deletion of what a replace mode does not keep: all keys below the destination, or below each of the
-/// partitions that are written, but those below the destination's magic directories. Seen as the prefixes
-/// below which it still deletes, and the sweep below the first of them.
+/// The deletion of what a replace mode does not keep: all keys below the destination, or below each
+/// partition that the job writes. Keys below the destination's magic directories stay. Contracts
+/// see it as the prefixes below which it still deletes, and the sweep below the first of them.
 #[derive(Drop)]
 pub struct DeleteKept {
     prefixes: TextList,
@@ -84,7 +85,8 @@ impl Model for DeleteKept {
 }
 
 impl DeleteKept {
-    /// A deletion for a committer's replace mode, where these partitions are written; nothing was sent yet.
+    /// Returns the deletion of a committer's replace mode for these partitions, which has sent
+    /// nothing yet.
     pub fn new(
         alloc: Global,
         dest: &S3Path,
@@ -107,7 +109,7 @@ impl DeleteKept {
         })
     }
 
-    /// The next request, or None where all is deleted.
+    /// Returns the next request, or None if all is deleted.
     pub fn request(&self, alloc: Global, bucket: &Bucket) -> Result<Option<Request>, AllocError>
         ensures { IfOk result (λ request. request ≡ deletion_asks bucket.now self.now) }
     {
@@ -117,7 +119,8 @@ impl DeleteKept {
         self.sweep.ask(alloc, bucket, prefix)
     }
 
-    /// Takes the reply to its present request. After want of memory it is of no more use.
+    /// Takes the reply to the current request. If memory runs out, the deletion can no longer be
+    /// used.
     pub fn hear(&mut self, alloc: Global, reply: &Reply) -> Result<(), AllocError>
         requires { FitsDeletion self.old reply.now }
         ensures { OnOk result (self.new ≡ deletion_hears self.old reply.now) }

@@ -1,21 +1,22 @@
 ghost use Rattle.conflict.specs.Laws.{ChecksFall, ChecksTell, DeletionsTell, PartitionsTell};
 
-/// The order in which paths come does not matter to their partitions.
+/// The partitions of paths do not depend on the order of the paths.
 pub fn partitions_tell()
     ensures { PartitionsTell }
 {}
 
-/// A task's commit that checks its partitions goes where this check leads.
+/// A task commit that checks its partitions goes on as this check does.
 pub fn checks_tell()
     ensures { ChecksTell }
 {}
 
-/// A job's commit that deletes for a replace mode goes where this deletion leads.
+/// A job commit that deletes for a replace mode goes on as this deletion does.
 pub fn deletions_tell()
     ensures { DeletionsTell }
 {}
 
-/// How many answers and worn requests a check before a commit has left, among others that send.
+/// Bounds the replies and exhausted requests that a check before a commit has left while other
+/// actors send too.
 pub fn checks_end()
     ensures { ChecksFall }
 {}

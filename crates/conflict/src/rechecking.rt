@@ -13,10 +13,13 @@ use s3_types::{Reply, let_go};
 use std::alloc::{AllocError, Global};
 use std::marker::Model;
 
-/// A check before the commit of a job at a shared destination, with its plan. For the directory committer with the
-/// mode `fail` it looks for a file of the destination; for the partitioned committer with that mode it looks for a key
-/// below each of the partitions, in their order; for the others it looks at nothing. (Hadoop, S3A committers:
-/// fs.s3a.committer.staging.conflict-mode.)
+/// A check before the commit of a job at a shared destination, with its plan. (Hadoop, S3A
+/// committers: fs.s3a.committer.staging.conflict-mode.)
+///
+/// - The directory committer in mode `fail` looks for a file of the destination.
+/// - The partitioned committer in mode `fail` looks for a key below each of the partitions, in
+///   their order.
+/// - The others check nothing.
 #[derive(Drop)]
 pub struct Rechecking {
     plan: CheckPlan,
@@ -32,8 +35,12 @@ impl Model for Rechecking {
     ghost view = { λ c. record { plan = c.plan; operation = check_of c.held } };
 }
 
-/// A check before a commit. Its end is Conflict with the first path on a page at which a reader is shown a file, or
-/// with the first partition below which a key is; StoreFault exactly where a request wore out; and else Clear.
+/// A check before a commit. It ends with:
+///
+/// - Conflict and the first path on a page at which readers see a file, or the first partition that
+///   has a key;
+/// - StoreFault exactly if a request exhausted its retries;
+/// - else Clear.
 pub type Recheck = Asking<Rechecking>;
 
 impl Asks for Rechecking {

@@ -22,7 +22,7 @@ use Rattle.std.proofs.Common.{arith, inl, inr, refl, subst, sym, ◌∙◌}
 use Rattle.std.specs.Prelude.{Err, List, Ok, drop, ℕ, [], ◌∷◌, ◌≡◌}
 use Rattle.std.specs.FinMap as fin
 
--- ---- where one path is a root, the first look ends it
+-- ---- if one path is a root, the first look ends the copy
 
 abbrev On : CopyPaths → Objects → CopyStage → Objects → Type 0
 On o z s m = Goes (holds o z) (gives o z) (on o s (reply_in m (asks o s))) (edited (asks o s) m)
@@ -47,7 +47,7 @@ asks_at (x ∷ p) [] z (Copy c count) m h = absurd (h.0.place.source.apart (inr 
 asks_at (x ∷ p) (y ∷ t) z (Copy c count) m h = sent_copy z x p y t c m h.0 h.2
 asks_at p t z _ m h = inl refl
 
--- ---- at any moment
+-- ---- at every point
 
 during : (p t : List ℕ) (z : Objects) (s : CopyStage) (m : Objects) → holds (record { source = p; target = t }) z s m
     → MayStandCopied p t z m

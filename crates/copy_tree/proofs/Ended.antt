@@ -15,7 +15,7 @@ use Rattle.s3_types.specs.declared.request.Actor.{Actor}
 use Rattle.std.proofs.Common.{Err, IfOk, List, None, Result, arith, length, subst, ℕ, ◌≡◌}
 use Rattle.std.specs.Prelude.{Option, Some, ◌*◌, ◌+◌, ◌≤◌}
 
--- what a copy is kept as
+-- The route of a copy.
 abbrev kept : List ℕ → CopyPaths → List ℕ → Route
 kept b o c = record { bucket = b; source = o.source; to_bucket = c; target = o.target }
 
@@ -31,9 +31,9 @@ module _ {A : Type 0} {actor : Actor} {event retries : ℕ} {old new : Seen} {re
   performed_in b o c r e h = subst (λ (r : Route). Performed actor event retries (StandsCopied r old.scene) (CopySends r old.scene) old new
       result) e h
 
--- ---- how many requests it sends
+-- ---- the number of its requests
 
--- what is left at its beginning
+-- The bound at its beginning.
 most_left : (o : CopyPaths) (x : Option Objects)
     → left_at x left o (first_stage o) + 1
     ≡ most_in x (λ m. 8 + length (climb o.target) + 4 * length (all_below (prefix_of o.source) m) + 2 * length

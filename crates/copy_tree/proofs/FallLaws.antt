@@ -1,4 +1,4 @@
--- A copy comes to an end.
+-- A copy ends.
 use Rattle.basics.specs.Order.{text_eq}
 use Rattle.bucket_ops.proofs.Sweeps.{length_keys}
 use Rattle.bucket_ops.proofs.Walks.{walk_falls, walk_fits}
@@ -82,7 +82,7 @@ module _ (o : CopyPaths) (m : Objects) where
 
   -- ---- the paths above the target
 
-  -- so much is left when they were looked at
+  -- the bound after they were looked at
   abbrev Behind : List (List ℕ) → ℕ
   Behind ks = walk_left (prefix_of o.target) [] m + 2 * length ks + 3
 

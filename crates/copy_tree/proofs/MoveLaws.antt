@@ -1,4 +1,4 @@
--- The moves of a directory, in order, and those of them whose new key stands or is absent.
+-- The moves of a directory, in order, and those of them whose new key exists or is absent.
 use Rattle.basics.proofs.Less.{lt}
 use Rattle.basics.proofs.Members.{none_or_some, none_some}
 use Rattle.basics.specs.Members.{IsIn, RisesFrom}
@@ -32,7 +32,7 @@ use Rattle.std.specs.Prelude.{List, None, Some, false, take, true, ℕ, [], ◌+
 use Rattle.store_frame.proofs.Flat.{listed_rises}
 use Rattle.std.specs.FinMap as fin
 
--- a new key keeps the order of keys
+-- New keys are in the order of their keys.
 module _ (P Q : List ℕ) where
   new_rise : (r : List ℕ) (ks : List (List ℕ)) → ((k : List ℕ) → IsIn k ks → begins P k ≡ true) → RisesFrom (P ++ r) ks
       → RisesFrom (Q ++ r) (targets (moves_to P Q ks))
@@ -83,7 +83,7 @@ module _ (z : Objects) (x : ℕ) (p : List ℕ) (y : ℕ) (t : List ℕ) where
     below : RisesFrom [] (targets (moves O z)) × ((l : List ℕ) → IsIn l (targets (moves O z)) → begins (marker_of (y ∷ t)) l ≡ true)
     below = (places_rise, λ l i. let w = is_target (moves O z) l i in move_below x p y t z w.0 l d (from_move w.0 l w.1))
 
-    -- those whose new key stands, and those whose new key is absent
+    -- the moves whose new key exists, and those whose new key is absent
     pub standing_each : (k l : List ℕ) → IsOneOf k l (standing O z) → IsMove z (x ∷ p) (y ∷ t) k l × Stands z l
     standing_each k l i =
         let w = kept_each (marker_of (y ∷ t)) z true [] (moves O z) (all_below (marker_of (y ∷ t)) z) below (all_shown y (t ++ 47 ∷ []) z) k
@@ -120,13 +120,13 @@ module _ (z : Objects) (x : ℕ) (p : List ℕ) (y : ℕ) (t : List ℕ) where
 
     -- ---- while they are copied
 
-    -- what stands, and what is no new key, is not touched
+    -- what existed, and what is no new key, is not changed
     not_touched : (n : ℕ) (q : List ℕ) → ((k : List ℕ) → IsOneOf k q (absent O z) → ⊥)
         → fin.get (copied_all z (take n (absent O z))) q ≡ fin.get z q
     not_touched n q f = copies_keep z (take n (absent O z)) q (λ i. let w = is_target (take n (absent O z)) q i in f w.0
         (one_in_take n w.0 q (absent O z) w.1))
 
-    -- they come in the order of their keys
+    -- the copies come in the order of their keys
     order : MayCopy z (x ∷ p) (y ∷ t) → (n : ℕ) (k l j i : List ℕ) → IsMove z (x ∷ p) (y ∷ t) k l → IsMove z (x ∷ p) (y ∷ t) j i
         → fin.get z l ≡ None
         → is_lt (text_cmp j k) ≡ true → fin.get (copied_all z (take n (absent O z))) l ≡ fin.get z k

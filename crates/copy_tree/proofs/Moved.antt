@@ -1,4 +1,4 @@
--- The moves of a directory to a place, where neither path is the other or below it.
+-- The moves of a directory to a place, if neither path is the other or below it.
 use Rattle.basics.proofs.Members.{in_append, none_or_some, none_some, true_or_false}
 use Rattle.basics.specs.Members.{IsIn}
 use Rattle.dir_markers.specs.Markers.{keys_above, marker_of}
@@ -17,7 +17,7 @@ use Rattle.std.proofs.lemmas.List.{append_cancel_left}
 use Rattle.std.specs.Prelude.{List, None, Some, length, true, ℕ, [], ◌++◌, ◌+◌, ◌∷◌, ◌≡◌, ◌≤◌, ◌⊎◌}
 use Rattle.std.specs.FinMap as fin
 
--- a key and its new key have the same rest behind the markers of their directories
+-- Holds if a key and its new key have the same rest after the markers of their directories.
 abbrev pub SameRest : List ℕ → List ℕ → List ℕ → List ℕ → Type 0
 SameRest p t k l = (rest : List ℕ) × (k ≡ marker_of p ++ rest) × (l ≡ marker_of t ++ rest)
 
@@ -31,7 +31,7 @@ module _ (x : ℕ) (p : List ℕ) (y : ℕ) (t : List ℕ) where
   abbrev pub Q : List ℕ
   Q = marker_of (y ∷ t)
 
-  -- a move of a directory is of a key that stands below it
+  -- a move of a directory is of an existing key below it
   pub moved_rest : (z : Objects) (k l : List ℕ) → IsDirectory z (x ∷ p) → IsMove z (x ∷ p) (y ∷ t) k l → Stands z k
       × SameRest (x ∷ p) (y ∷ t) k l
   moved_rest z k l h g = grind arith
@@ -43,7 +43,7 @@ module _ (x : ℕ) (p : List ℕ) (y : ℕ) (t : List ℕ) where
   pub move_below : (z : Objects) (k l : List ℕ) → IsDirectory z (x ∷ p) → IsMove z (x ∷ p) (y ∷ t) k l → begins Q l ≡ true
   move_below z k l h m = let r = (moved_rest z k l h m).1 in begins_rest Q l r.0 r.2
 
-  -- a new key is that of one key
+  -- a new key is that of exactly one key
   pub one_source : (z : Objects) (k j l : List ℕ) → IsDirectory z (x ∷ p) → IsMove z (x ∷ p) (y ∷ t) k l → IsMove z (x ∷ p) (y ∷ t) j l
       → k ≡ j
   one_source z k j l h g e = grind (arith, moved_rest, append_cancel_left)
@@ -64,7 +64,7 @@ module _ (x : ℕ) (p : List ℕ) (y : ℕ) (t : List ℕ) where
           let same : w.1.0 ≡ rest = append_cancel_left Q w.1.0 rest (sym w.1.2 ∙ e) in
           none_some n (ap (fin.get z) (ap (λ v. P ++ v) (sym same) ∙ sym w.1.1) ∙ w.0.1))
 
-  -- a path above the target, and the target, is no new key
+  -- a path above the target, or the target itself, is no new key
   pub not_above : (a : List ℕ) → IsIn a (to_target (y ∷ t)) → begins Q a ≡ true → ⊥
   not_above a i b = elim (in_append a (keys_above (y ∷ t)) ((y ∷ t) ∷ []) i) [
     | inl g ↦ omega (arith, begins_length (marker_of a) (y ∷ t) (above_begins a (y ∷ t) g), length-append a (47 ∷ []), long, more)

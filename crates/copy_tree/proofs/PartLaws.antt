@@ -1,4 +1,4 @@
--- Of the moves those are kept whose new key stands, or those whose new key does not.
+-- Of the moves those are kept whose new key exists, or those whose new key does not.
 use Rattle.basics.proofs.Less.{irrefl, lt, lt_not, lt_trans}
 use Rattle.basics.proofs.Members.{false_true, text_is, text_true}
 use Rattle.basics.specs.Members.{IsIn, RisesFrom}
@@ -64,7 +64,7 @@ module _ (l : List ℕ) where
 
 -- ---- what a listing shows
 
--- each entry stands, and each key that stands below the prefix behind a text has one
+-- Each entry exists, and each existing key below the prefix and after a text has an entry.
 pub record Shows (q : List ℕ) (z : Objects) (b : List ℕ) (es : List PageEntry) : Type 0 where
   pub low : List ℕ
   pub rises : RisesFrom low (map text_in es)
@@ -75,7 +75,7 @@ pub all_shown : (x : ℕ) (q : List ℕ) (z : Objects) → Shows (x ∷ q) z [] 
 all_shown x q z = grind (arith, listed_rises, below_stands, stands_below)
 
 module _ (q : List ℕ) (z : Objects) where
-  -- a new key stands, or is absent
+  -- holds if a new key exists (true), or is absent (false)
   abbrev pub IsTold : Bool → List ℕ → Type 0
   IsTold true l = Stands z l
   IsTold false l = fin.get z l ≡ None
@@ -88,7 +88,7 @@ module _ (q : List ℕ) (z : Objects) where
     all = λ t g m o. from_has l t es (lt_not text_total l t m) (s.all t g (lt_trans text_total b l t h m) o);
   }
 
-  -- the first entry from a new key tells
+  -- the first entry from a new key on shows which
   first_tells : (b l : List ℕ) (es : List PageEntry) → lt text_cmp b l ≡ true → begins q l ≡ true → Shows q z b es
       → IsTold (is_first l (from_text l es)) l
   first_tells b l es h g s = by (is_first l (from_text l es)) refl
@@ -108,7 +108,7 @@ module _ (q : List ℕ) (z : Objects) where
   wanted_is w t h = grind arith
 
   module _ (w : Bool) where
-    -- the targets rise behind a text and are below the prefix
+    -- the targets rise, come after a text and are below the prefix
     abbrev Below : List ℕ → List Move → Type 0
     Below b ps = RisesFrom b (targets ps) × ((l : List ℕ) → IsIn l (targets ps) → begins q l ≡ true)
 
@@ -165,7 +165,7 @@ chosen_sources w ps es = chosen_by (λ (p : Move). p.0) w ps es
 pub chosen_targets : (w : Bool) (ps : List Move) (es : List PageEntry) → chosen w (targets ps) (targets ps) es ≡ targets (kept w ps es)
 chosen_targets w ps es = chosen_by (λ (p : Move). p.1) w ps es
 
--- they rise as all do
+-- They rise as all do.
 kept_rise : (f : Move → List ℕ) (w : Bool) (b : List ℕ) (ps : List Move) (es : List PageEntry) → RisesFrom b (map f ps)
     → RisesFrom b (map f (kept w ps es))
 kept_rise f w b [] es h = tt
@@ -183,7 +183,7 @@ pub targets_rise : (w : Bool) (b : List ℕ) (ps : List Move) (es : List PageEnt
     → RisesFrom b (targets (kept w ps es))
 targets_rise w b ps es h = kept_rise (λ (p : Move). p.1) w b ps es h
 
--- together they are as many
+-- Together they are no more than all keys.
 pub all_counted : (ks ls : List (List ℕ)) (es : List PageEntry) → length (chosen true ks ls es) + length (chosen false ks ls es) ≤ length ks
 all_counted [] ls es = omega arith
 all_counted (k ∷ ks) [] es = omega arith

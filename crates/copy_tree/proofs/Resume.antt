@@ -33,7 +33,7 @@ module _ (x : ℕ) (p : List ℕ) (y : ℕ) (t : List ℕ) (z m : Objects) (may 
       let w = moved_rest x p y t z k l may.place.source.directory i in
       is_move x p y t m k l directory (w.0.0, source_kept k (begins_rest (marker_of (x ∷ p)) k w.1.0 w.1.1) ∙ w.0.1) w.1
 
-  -- a key that is moved is as it was
+  -- a key that is copied is as it was
   moved_kept : (k l : List ℕ) → IsMove z (x ∷ p) (y ∷ t) k l → fin.get m k ≡ fin.get z k
   moved_kept k l i = let w = (moved_rest x p y t z k l may.place.source.directory i).1 in source_kept k
       (begins_rest (marker_of (x ∷ p)) k w.0 w.1)

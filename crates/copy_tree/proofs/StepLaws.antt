@@ -90,7 +90,7 @@ module _ (z : Objects) (x : ℕ) (p : List ℕ) (y : ℕ) (t : List ℕ) where
   abbrev O : CopyPaths
   O = record { source = x ∷ p; target = y ∷ t }
 
-  -- a step leads on
+  -- what holds after a step
   abbrev On : Step CopyStage Answer → Objects → Type 0
   On s m = Goes (holds O z) (gives O z) s m
 
@@ -121,7 +121,7 @@ module _ (z : Objects) (x : ℕ) (p : List ℕ) (y : ℕ) (t : List ℕ) where
       → IsCopied z (absent O z) c m → On (on_copied n c) m
   copied_on c n m h g e = grind (arith, tree_copied)
 
-  -- ---- the pairs of which and_parts stand
+  -- ---- the pairs of which both exist
 
   pairs_on : (c : Parts) → c ≡ all_parts O z → IsPlaced O z → (r : List (List ℕ)) → c.stood ≡ r → On (pairs c r) z
   pairs_on c e h [] f =
@@ -157,7 +157,7 @@ module _ (z : Objects) (x : ℕ) (p : List ℕ) (y : ℕ) (t : List ℕ) where
         by None f = absurd (none_some f (moved_rest x p y t z s.0 s.1 h.placed.place.source.directory is_moved.0).0.1)
         by (Some v) f = (refl, h, subst (λ r. StandsFirst z r v.bytes v.header) (sym stood_is) f)
 
-    -- each agrees or is behind this one
+    -- each pair agrees or comes after this one
     agree_on : fin.get z s.1 ≡ fin.get z s.0 → (k l : List ℕ) → IsOneOf k l (standing O z) → (fin.get z l ≡ fin.get z k) ⊎ IsOneOf k l rest
     agree_on g k l i = elim (h.agree k l i) [
       | inl f ↦ inl f
@@ -315,7 +315,7 @@ module _ (z : Objects) (x : ℕ) (p : List ℕ) (y : ℕ) (t : List ℕ) where
 
   -- ---- each stage
 
-  -- what is asked leads on
+  -- what holds after the reply to the request of a stage
   abbrev Led : CopyStage → Objects → Type 0
   Led s m = On (on O s (reply_in m (asks O s))) (edited (asks O s) m)
 
@@ -334,7 +334,7 @@ module _ (z : Objects) (x : ℕ) (p : List ℕ) (y : ℕ) (t : List ℕ) where
   each (Copy c count) m h = copied_on (copied_next (has_more c) c) count (edited (copy_asks c) m) h.0 h.1
       (copying_goes z (absent O z) c m h.2)
 
-  -- ---- what is copied
+  -- ---- the copies that are sent
 
   pub sent_copy : (c : Copying) (m : Objects) → MayCopy z (x ∷ p) (y ∷ t) → IsCopying z (absent O z) c m → sends O z (copy_asks c)
   sent_copy c m h g =

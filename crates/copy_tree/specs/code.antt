@@ -1,3 +1,3 @@
--- A copy stage by stage, as the code goes through it. What it answers and leaves is said in `fs_tree` and by `Public`.
+-- A copy stage by stage, as the code goes through it. `fs_tree` and `Public` state what it answers and leaves.
 pub mod Copy
 pub mod Meaning

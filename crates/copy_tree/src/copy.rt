@@ -12,8 +12,9 @@ use s3_types::{Actor, Bucket, Journal, ObjectStore, both};
 use std::alloc::{AllocError, Global};
 use std::marker::Model;
 
-/// How a copy of a tree ends: each key of the source stands at its new place, so many of them copied, or it is
-/// refused, or a request wore out, or memory was wanting.
+/// How a copy of a tree ends: each key of the source has its copy, with the number of keys that
+/// were copied and of those that were there already; or the copy is refused, or a request ran out
+/// of retries, or memory ran out.
 pub type CopyEnd = Result<Result<CopyCount, CopyRefusal>, DriveStop>;
 
 /// The copy of all that is below a source to a target.
@@ -38,7 +39,7 @@ impl Model for CopyTree {
 }
 
 impl CopyTree {
-    /// The copy of all that is below a directory to a target of its bucket.
+    /// The copy of all that is below a directory to a target in the same bucket.
     pub fn new(alloc: Global, source: &S3Path, target: &S3Path) -> Result<CopyTree, AllocError>
         ensures { IfOk result (λ copy. copy ≡ record {
           bucket = source.now.bucket;
@@ -56,24 +57,35 @@ impl CopyTree {
         })
     }
 
-    /// Copies all keys below the source, its marker and the markers below it among them, header included: what a key
-    /// has behind the source's marker its copy has behind the target's. They are copied one by one, in order; a new
-    /// key that stands with the same bytes and header is left as it is. Tells how many keys were copied, and how
-    /// many stood.
+    /// Copies all keys below the source, header included, with its own marker and the markers below
+    /// it. The new key of a key has the same rest after the target's marker as the key has after
+    /// the source's. Keys are copied one by one, in order. A new key that exists with the same
+    /// bytes and header is left as it is. Returns how many keys were copied, and how many existed.
+    /// (Hadoop FileSystem shell, cp.)
     ///
-    /// Refused, with nothing changed, by the first that is so: OtherBucket where the target is in another bucket;
-    /// NoSuchBucket; Overlap where one path is the other or below it; SourceIsFile; SourceMissing where no key is
-    /// below the source; TargetFile with the first path from the root on, of those above the target and its own, at
-    /// which a file stands; TooLong with the first key of the source whose new key would be over its limit, which is
-    /// 1,024 bytes for a marker and else 1,023; and Differs with the least new key that stands with other bytes or
-    /// another header than its source. Nothing is copied before all of this is decided.
+    /// The copy is refused, with nothing changed, by the first that applies:
     ///
-    /// At any moment, whatever the store loses and wherever it stops, each new key that was absent is so or is the
-    /// whole copy of its source, and all else is as it was: the same copy can be made again, and ends as one that was
-    /// never stopped. A look at the source, a page for each 1,000 keys below both paths, a look at each path above
-    /// the target and its own, two reads for each new key that stood, and a copy for each other; what is proved is the
-    /// looser bound `most_copies`. Memory for the keys and the new keys, and no bytes are copied. (Hadoop FileSystem
-    /// shell, cp.)
+    /// - `OtherBucket` if the target is in another bucket.
+    /// - `NoSuchBucket`.
+    /// - `Overlap` if one path is the other or below it.
+    /// - `SourceIsFile`, and `SourceMissing` if no key is below the source.
+    /// - `TargetFile` with the first path from the root down, of those above the target and its
+    ///   own, at which a file exists.
+    /// - `TooLong` with the first key of the source whose new key would be over its limit, which is
+    ///   1,024 bytes for a marker and otherwise 1,023.
+    /// - `Differs` with the least new key that exists with other bytes or another header than its
+    ///   source.
+    ///
+    /// All of this is decided before anything is copied.
+    ///
+    /// At every point, whatever the store loses and wherever it stops, each new key that was absent
+    /// is still absent or is the whole copy of its source, and all else is as it was. So the same
+    /// copy can be made again, and ends as one that was never stopped.
+    ///
+    /// It sends a look at the source, a page for each 1,000 keys below both paths, a look at each
+    /// path above the target and at its own, two reads for each new key that existed, and a copy
+    /// for each other. The bound that is proved, `most_copies`, is looser. It takes memory for the
+    /// keys and the new keys, and copies no bytes itself.
     pub fn perform<S: ObjectStore>(
         self,
         alloc: Global,

@@ -12,8 +12,12 @@ use s3_types::{Key, KeyList, both, let_go};
 use std::alloc::{AllocError, Global};
 use std::marker::Model;
 
-/// The source and the target of a copy, the keys of the paths above the target and its own, the target as a new
-/// place, and whether one path is the other or below it.
+/// The paths of a copy.
+///
+/// - `source`, `target`: the source and the target.
+/// - `above`: the keys of the paths above the target, and its own.
+/// - `to`: the target as a new place.
+/// - `overlap`: true if one path is the other or below it.
 #[derive(Drop)]
 pub(crate) struct CopyNames {
     pub(crate) alloc: Global,
@@ -48,7 +52,7 @@ fn add_key(keys: &mut KeyList, key: Option<&Key>) -> Result<(), AllocError>
     }
 }
 
-/// The keys of the paths above a target and its own.
+/// The keys of the paths above a target, and its own.
 fn climb_to(alloc: Global, target: &S3Path, place: &Place) -> Result<KeyList, AllocError>
     ensures { IfOk result (λ keys. keys ≡ keys_above target.now.key ++ one_of (key_if place.now)) }
 {

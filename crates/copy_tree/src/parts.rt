@@ -9,7 +9,7 @@ use s3_types::{Key, KeyList, PageEntry, Text};
 use std::alloc::{AllocError, Global};
 use std::cmp::Ordering;
 
-/// Whether an entry stands before a text.
+/// True if the entry is before the text in order.
 fn is_before(entry: &PageEntry, text: &Text) -> bool
     ensures { result ≡ is_lt (text_cmp (text_in entry.now) text.now) }
 {
@@ -19,7 +19,7 @@ fn is_before(entry: &PageEntry, text: &Text) -> bool
     }
 }
 
-/// The entries from the first that is not less than a text.
+/// The entries from the first that is not less than the text.
 fn from_text<'t>(text: &Text, entries: &'t [PageEntry]) -> &'t [PageEntry]
     ensures { result.now ≡ from_text text.now entries.now }
 {
@@ -33,7 +33,7 @@ fn from_text<'t>(text: &Text, entries: &'t [PageEntry]) -> &'t [PageEntry]
     left
 }
 
-/// Whether the first of these entries is at a text.
+/// True if the first of these entries is at the text.
 fn is_first(text: &Text, entries: &[PageEntry]) -> bool
     ensures { result ≡ is_first text.now entries.now }
 {
@@ -49,7 +49,7 @@ fn is_wanted(wanted: bool, stands: bool) -> bool
     if wanted { stands } else { !stands }
 }
 
-/// Adds a key that is wanted.
+/// Adds the key if it is wanted.
 fn add_if(wanted: bool, keys: &mut KeyList, key: &Key) -> Result<(), AllocError>
     ensures { OnOk result (keys.new ≡ keys.old ++ cond wanted (key.now ∷ []) []) }
 {
@@ -60,8 +60,8 @@ fn add_if(wanted: bool, keys: &mut KeyList, key: &Key) -> Result<(), AllocError>
     }
 }
 
-/// Of keys those whose new key stands in a listing, or those whose new key does not, in their order. The new keys
-/// and the listing rise, and each is gone over once.
+/// The keys whose new key is in the listing (`wanted`), or those whose new key is not, in their
+/// order. The new keys and the listing rise, and each is read once.
 pub(crate) fn chosen(
     alloc: Global,
     wanted: bool,

@@ -21,7 +21,8 @@ use s3_types::{
 };
 use std::alloc::{AllocError, Global};
 
-/// The keys of a source and their new keys: those whose new key stands, and those whose new key is absent.
+/// The keys of a source and their new keys: `stood` and `stood_at` if the new key exists, `keys`
+/// and `places` if it is absent.
 #[derive(Drop)]
 pub struct Parts {
     pub stood: KeyList,
@@ -30,37 +31,37 @@ pub struct Parts {
     pub places: KeyList,
 }
 
-/// Where a copy stands.
+/// The stage of a copy.
 #[derive(Drop)]
 pub enum CopyStage {
-    /// Whether a file stands at the source.
+    /// Asks whether a file exists at the source.
     Here,
-    /// The keys below the source are listed.
+    /// Lists the keys below the source.
     Walk(KeyWalk),
-    /// Whether a file stands at one of the paths above the target, or at its own.
+    /// Asks whether a file exists at one of the paths above the target, or at its own.
     Up {
         keys: KeyList,
         climb: Climb,
     },
-    /// The keys below the target are listed.
+    /// Lists the keys below the target.
     WalkTarget {
         keys: KeyList,
         places: KeyList,
         walk: KeyWalk,
     },
-    /// So many keys agree with their new keys; the next one is read.
+    /// Reads the next key to compare; `done` keys agree with their new keys.
     Source {
         parts: Parts,
         done: usize,
     },
-    /// And its new key is read, against what was read.
+    /// Reads its new key, to compare it with what was read.
     Target {
         parts: Parts,
         done: usize,
         bytes: Bytes,
         header: Option<LengthHeader>,
     },
-    /// The keys are copied whose new key is absent.
+    /// Copies the keys whose new key is absent.
     Copy {
         copying: Copying,
         count: CopyCount,
@@ -69,7 +70,7 @@ pub enum CopyStage {
 
 type Answer = Result<CopyCount, CopyRefusal>;
 
-/// The reading of the first of these keys. Where there is none, the bucket is looked at.
+/// The request that reads the first of these keys. If there is none, it looks at the bucket.
 fn read_of(alloc: Global, bucket: &Bucket, keys: &[Key]) -> Result<Request, AllocError>
     ensures { IfOk result (λ request. request ≡ request_of bucket.now (read_of keys.now)) }
 {
@@ -112,7 +113,7 @@ fn copies(count: CopyCount, keys: KeyList, places: KeyList) -> Step<CopyStage, A
     })
 }
 
-/// All that stands agrees.
+/// The step after all new keys that exist were found to agree.
 fn begun(parts: Parts) -> Step<CopyStage, Answer>
     ensures { result ≡ copy.begun parts }
 {
@@ -258,7 +259,7 @@ fn too_long(key: &Key) -> Result<Step<CopyStage, Answer>, AllocError>
 }
 
 impl CopyNames {
-    /// No file stands at the target or above it.
+    /// The step after no file was found at the target or above it.
     fn placed(&self, keys: KeyList) -> Result<Step<CopyStage, Answer>, AllocError>
         ensures { IfOk result (λ step. step ≡ copy.placed self.now (place_of self.now.source self.now.target) keys) }
     {
@@ -300,7 +301,7 @@ impl CopyNames {
         }
     }
 
-    /// All keys below the source were listed.
+    /// The step after all keys below the source were listed.
     fn listed(&self, keys: KeyList) -> Result<Step<CopyStage, Answer>, AllocError>
         ensures { IfOk result (λ step. step ≡ copy.listed self.now keys) }
     {

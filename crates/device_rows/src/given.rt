@@ -8,7 +8,7 @@ const HEAD: &str = "job j1\ndest s3a://lake/out\ncommitter magic\n";
 /// The image of a store with the bucket `lake`, up to the number of its objects.
 const LAKE: [u8; 38] = *b"S3AIMG01\0\0\0\0\0\x50\0\0\0\0\0\0\0\0\0\x01\0\0\0\0\0\0\0\x01\0\x04lake";
 
-/// An object of one byte without a header, behind its key.
+/// An object of one byte without a header, as it follows its key.
 const ONE_BYTE: [u8; 17] = *b"\0\0\0\0\0\0\0\0\0\0\0\0\0\0\0\x01x";
 
 /// What a run is given: its words, its input, and the file that the disk has at first.
@@ -32,7 +32,7 @@ impl Given {
     }
 }
 
-/// The words of a command, with blanks between them.
+/// The words of a command, which are separated by blanks.
 pub fn words_in(alloc: Global, line: &str) -> Result<Vec<Text>, AllocError> {
     let mut words = Vec::new(alloc);
     for word in line.split_whitespace() {
@@ -54,7 +54,7 @@ pub fn input_in(alloc: Global, text: &str) -> Result<Vec<u8>, AllocError> {
     Ok(bytes)
 }
 
-/// The file that hex digits spell, or none where there are no digits.
+/// The bytes of the file in hex digits, or None if there are no digits.
 pub fn file_in(alloc: Global, digits: &str) -> Result<Option<Bytes>> {
     if digits.is_empty() {
         return Ok(None);
@@ -63,7 +63,7 @@ pub fn file_in(alloc: Global, digits: &str) -> Result<Option<Bytes>> {
     Ok(Some(Bytes::new(alloc, bytes)?))
 }
 
-/// Adds an object of one byte at a front with a number behind it.
+/// Adds an object of one byte at a key that is the front and a number.
 fn put_object(
     alloc: Global,
     image: &mut Vec<u8>,

@@ -7,7 +7,8 @@ use s3_types::{Bytes, Entry, Outcome, Sequence, let_go};
 use std::alloc::{AllocError, Global};
 use store_image::{decode, encode};
 
-/// What a run in which nothing failed said and left, and the images of its store before its first request and after each.
+/// What a run in which nothing failed wrote and left, and the images of its store before its first
+/// request and after each.
 #[derive(Drop)]
 pub struct Known {
     pub text: Vec<u8>,
@@ -16,7 +17,7 @@ pub struct Known {
 }
 
 impl Known {
-    /// Before a run is known: no text, no file and no images.
+    /// Nothing is known yet: no text, no file and no images.
     pub fn new(alloc: Global) -> Known {
         Known {
             text: Vec::new(alloc),
@@ -26,7 +27,7 @@ impl Known {
     }
 }
 
-/// What stands in a file before its changes.
+/// The base of a file, which is what it has before its changes.
 fn base_of(alloc: Global, file: &Bytes) -> Result<Bytes, AllocError> {
     match read_log(alloc, file) {
         Ok(held) => {
@@ -39,7 +40,8 @@ fn base_of(alloc: Global, file: &Bytes) -> Result<Bytes, AllocError> {
     }
 }
 
-/// The image of the store with which a run began: what is held at first, or the base that it made.
+/// The image of the store with which a run began: what the file held at first, or the base that the
+/// run made.
 fn opening(
     alloc: Global,
     before: &Option<Bytes>,
@@ -62,7 +64,7 @@ fn took_effect(outcome: &Outcome) -> bool {
     }
 }
 
-/// Does a sending's request once more, where it took effect in the store.
+/// Applies a request to the store once more, if it took effect there.
 fn follow(service: &mut Service, entry: &Entry) -> Result<(), AllocError> {
     let request = &entry.request;
     if !took_effect(&entry.outcome) || request.is_cluster() || service.next_upload() > 1 << 62 {
@@ -83,7 +85,7 @@ fn image_of(alloc: Global, service: &Service) -> Result<Bytes, AllocError> {
     Bytes::new(alloc, image)
 }
 
-/// The images of a store before sendings and after each.
+/// The images of a store before these requests and after each.
 fn images_along(
     alloc: Global,
     service: &mut Service,
@@ -98,7 +100,7 @@ fn images_along(
     Ok(images)
 }
 
-/// The images of a run's moments, of which there are none where it opened no store.
+/// The images of a run's store at each point. There are none if it opened no store.
 fn images_from(
     alloc: Global,
     image: &Bytes,
@@ -114,7 +116,7 @@ fn images_from(
     }
 }
 
-/// What is known of a run in which nothing failed, and that began with this file.
+/// What is known of a run in which nothing failed, and which began with this file.
 pub fn known_of(
     alloc: Global,
     before: &Option<Bytes>,

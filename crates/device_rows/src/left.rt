@@ -53,7 +53,7 @@ pub fn loaded_image(alloc: Global, file: &Bytes) -> Result<Option<Bytes>, AllocE
     image
 }
 
-/// How many changes a file has.
+/// The number of changes in a file.
 fn changes_in(alloc: Global, file: &Bytes) -> Result<usize, AllocError> {
     match read_log(alloc, file) {
         Ok(held) => {
@@ -66,7 +66,7 @@ fn changes_in(alloc: Global, file: &Bytes) -> Result<usize, AllocError> {
     }
 }
 
-/// The first moment at which a run's store had this image.
+/// The number of requests after which a run's store first had this image.
 fn moment_of(images: &[Bytes], image: &Bytes) -> Option<usize> {
     for (sent, known) in images.iter().enumerate() {
         if known.as_slice() == image.as_slice() {
@@ -89,7 +89,7 @@ fn left_in(alloc: Global, known: &Known, file: &Bytes) -> Result<Left, AllocErro
     }
 }
 
-/// What a crash leaves of a disk, by what becomes of the ranges that were not synced.
+/// What a crash leaves of a disk, given the fate of the ranges that were not synced.
 pub fn crash_left(
     alloc: Global,
     known: &Known,

@@ -5,7 +5,8 @@ use s3a_top::{Report, run};
 use shelf::{CallList, MemSink, MemSource};
 use std::alloc::{AllocError, Global};
 
-/// What goes wrong in a run: the call of a device that fails, from 1 on, or the number of calls after which the disk stops.
+/// What goes wrong in a run: a call of a device fails, numbered from 1, or the disk stops after so
+/// many calls.
 #[derive(Clone, Copy)]
 pub enum Wrong {
     Nothing,
@@ -45,7 +46,7 @@ impl Wrong {
     }
 }
 
-/// What a run reported, and the devices behind it.
+/// What a run reported, and its devices afterwards.
 #[derive(Drop)]
 pub struct Played {
     pub report: Report,

@@ -8,7 +8,7 @@ use s3_types::{Bytes, let_go, put};
 use sha2::{Digest, Sha256};
 use std::alloc::Global;
 
-/// The most bytes of a file that is shown as a whole.
+/// The most bytes of a file that is shown whole.
 const MOST_SHOWN: usize = 1200;
 
 /// What the next run is given, and what is known of the last one.
@@ -27,7 +27,7 @@ fn show_text(rt: &impl Print, text: &str) -> Result<()> {
     Ok(())
 }
 
-/// A file's bytes, or of a long one how many and their digest.
+/// Shows a file's bytes, or for a long file their number and digest.
 fn show_file(rt: &impl Print, alloc: Global, file: &Option<Bytes>) -> Result<()> {
     let Some(file) = file else {
         return Ok(println!(rt; "no file")?);
@@ -52,7 +52,7 @@ fn show_played(rt: &impl Print, alloc: Global, known: &Known, played: &Played) -
 }
 
 impl Rows {
-    /// Before the first row: nothing is given.
+    /// The rows before the first line: nothing is given.
     pub fn new(alloc: Global) -> Rows {
         Rows {
             given: Given::new(alloc),
@@ -137,7 +137,7 @@ fn show_row(rt: &impl Print, rows: &mut Rows, verb: &str, words: &str) -> Result
     }
 }
 
-/// Shows a line and what it asks for.
+/// Shows a line and its answer.
 pub fn show_line(rt: &impl Print, rows: &mut Rows, line: &str) -> Result<()> {
     println!(rt; "{line}")?;
     let (verb, words) = line.split_once(' ').unwrap_or((line, ""));

@@ -7,7 +7,7 @@ use s3_types::let_go;
 use s3a_top::Report;
 use std::alloc::{AllocError, Global};
 
-/// What was reported, by its numbers.
+/// Writes what was reported, in numbers.
 pub fn put_report(line: &mut String, report: &Report) -> Result<(), AllocError> {
     let status = report.status;
     let due = report.due;
@@ -18,7 +18,7 @@ pub fn put_report(line: &mut String, report: &Report) -> Result<(), AllocError> 
     write!(line, "picks {picks} ends {ends} sent {sent}")
 }
 
-/// What was written, beside what the whole run wrote.
+/// Writes what the run wrote, compared with what the whole run wrote.
 fn put_said(line: &mut String, said: &[u8], all: &[u8]) -> Result<(), AllocError> {
     if said.is_empty() {
         return line.push_str(", said nothing");
@@ -31,7 +31,8 @@ fn put_said(line: &mut String, said: &[u8], all: &[u8]) -> Result<(), AllocError
     write!(line, ", said [{first}]")
 }
 
-/// What a crash leaves, told once where that is the same whatever becomes of the ranges that were not synced.
+/// Writes what a crash leaves, once if it is the same for each fate of the ranges that were not
+/// synced.
 fn put_left(
     alloc: Global,
     line: &mut String,
@@ -57,7 +58,7 @@ fn line_of(alloc: Global, known: &Known, played: &Played) -> Result<String, Allo
     Ok(line)
 }
 
-/// What is told of a run in which something fails, beside the one in which nothing does.
+/// The line for a run in which something fails, compared with the one in which nothing does.
 pub fn told(given: &Given, known: &Known, wrong: Wrong) -> Result<String, AllocError> {
     let played = play(given, wrong)?;
     let line = line_of(given.alloc, known, &played);

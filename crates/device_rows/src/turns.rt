@@ -4,7 +4,7 @@ use crate::play::Wrong;
 use crate::told::told;
 use anyhow::Result;
 
-/// What fails in each of some runs, by a number.
+/// What fails in each of several runs, at a number.
 #[derive(Clone, Copy)]
 pub enum Turn {
     Source,
@@ -23,7 +23,7 @@ impl Turn {
         }
     }
 
-    /// The least number.
+    /// The least number: 0 calls before a stop, or the first call of a device.
     fn first(self) -> u64 {
         match self {
             Turn::Stop => 0,
@@ -41,7 +41,7 @@ fn show_alike(rt: &impl Print, first: u64, last: u64, line: &str) -> Result<()> 
     Ok(())
 }
 
-/// Runs the command once for each number up to the last, and tells what is alike in a row once.
+/// Runs the command once for each number up to the last, and shows equal answers in a row once.
 pub fn show_turns(
     rt: &impl Print,
     given: &Given,

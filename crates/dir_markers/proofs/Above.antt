@@ -21,13 +21,13 @@ map_append : {X Y : Type 0} (f : X → Y) (xs ys : List X) → map f (xs ++ ys) 
 map_append f [] ys = refl
 map_append f (x ∷ xs) ys = ap (λ l. f x ∷ l) (map_append f xs ys)
 
--- the longest beginning is the last
+-- The longest prefix of a list comes last.
 fronts_last : {X : Type 0} (x : X) (xs : List X) (y : X) → fronts ((x ∷ xs) ++ y ∷ []) ≡ fronts (x ∷ xs) ++ (x ∷ xs) ∷ []
 fronts_last x [] y = refl
 fronts_last x (z ∷ zs) y = ap (λ l. (x ∷ []) ∷ l) (ap (map (λ front. x ∷ front)) (fronts_last z zs y) ∙ map_append (λ front. x ∷ front)
     (fronts (z ∷ zs)) ((z ∷ zs) ∷ []))
 
--- a text has a part
+-- A text has at least one part.
 some_part : (part text : List ℕ) → parts_from 47 part text ≡ [] → ⊥
 unfolding parts_from
 some_part part [] e = cc
@@ -42,7 +42,7 @@ above_parts : (es : List (List ℕ)) (front back : List ℕ) → parts_of 47 fro
 above_parts [] front back e = absurd (some_part [] front e)
 above_parts (p ∷ ps) front back e = rw e (fronts_last p ps back)
 
--- the directories above a key are those above its parent, and its parent
+-- The directories above a key are those above its parent, and its parent.
 pub above_more : (key front back : List ℕ) → parts_of 47 key ≡ parts_of 47 front ++ back ∷ []
     → keys_above key ≡ keys_above front ++ front ∷ []
 above_more key front back e =
@@ -63,7 +63,7 @@ trimmed_marker key =
     let ends : (slice_index (marker_of key) (length (marker_of key) - 1) == 47) ≡ true = eq-eqb _ _ slash in
     rw (some, ends) (ap (λ n. take n (marker_of key)) last ∙ take-append_seam key (47 ∷ []))
 
--- a marker's key is one
+-- The key of a marker is a valid key.
 pub marker_is_key : (key : List ℕ) → 0 < length key → is_key key ≡ true → is_key_path (marker_of key) ≡ true
 marker_is_key key some k =
     let is = some_key key some k in
@@ -73,7 +73,7 @@ marker_is_key key some k =
     let most : nat_le (length (marker_of key)) 1024 ≡ true = at_most_so (length (marker_of key)) 1024 (omega (arith, long, short)) in
     all_three _ _ _ least most (ap are_elements (trimmed_marker key) ∙ is.0)
 
--- what stands before a key's last `/` is not the root
+-- A text without one `/` at its end is no longer than before.
 trimmed_short : (key : List ℕ) → length (trimmed key) ≤ length key
 trimmed_short key = by (nat_lt 0 (length key) && (slice_index key (length key - 1) == 47))
   where
@@ -93,7 +93,7 @@ unfolding parts_from
 some_front [] a = absurd (false≢true a)
 some_front (x ∷ xs) a = omega arith
 
--- what stands before the last `/` of what an object's key names
+-- The text before the last `/` of an object's key is the key of a path, and not the root.
 pub parent_key : (key path front back : List ℕ) → is_key_path key ≡ true → path ≡ trimmed key → path ≡ front ++ 47 ∷ back
     → list_all (is_other 47) back ≡ true
     → (0 < length front) × (is_key front ≡ true)
@@ -108,13 +108,13 @@ parent_key key path front back k p e h =
     all)).0 in
     (some_front front front_all, key_from front front_all (omega (arith, most, short, long)))
 
--- a key without a `/` stands below the root
+-- A key without a `/` is right below the root, so no marker is added.
 pub none_above : (key : List ℕ) (found : List (List ℕ)) → list_all (is_other 47) key ≡ true
     → found ≡ found ++ map marker_of (keys_above key)
 none_above key found h = sym (ap (λ (l : List (List ℕ)). found ++ map marker_of (map (join_with_byte 47) (fronts l))) (one_part 47 key h) ∙
     append-nil found)
 
--- one more marker
+-- One more marker is added: that of the parent.
 pub one_above : (key front back m : List ℕ) (found first : List (List ℕ)) → key ≡ front ++ 47 ∷ back → list_all (is_other 47) back ≡ true
     → first ≡ found ++ map marker_of (keys_above front) → m ≡ marker_of front
     → first ++ m ∷ [] ≡ found ++ map marker_of (keys_above key)

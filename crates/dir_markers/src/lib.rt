@@ -1,10 +1,13 @@
-//! The markers of directories: what stands at a path, and which markers are due after a file was made or something
-//! was deleted. (Hadoop, S3A: directory markers.)
+//! Directory markers: whether a path is a file or a directory, which markers must be deleted after
+//! a file was made, and which must be put after something was deleted. (Hadoop, S3A: directory
+//! markers.)
 //!
 //! # What is proved
 //!
-//! `status_of`, `marker_key`, `markers_above`, `after_create`, `after_delete`: A file or a directory from
-//! what was found at a path; exactly the markers that are due, those above a file from the root on.
+//! - `status_of`: says whether a path is a file or a directory, from what was found at it and
+//!   below it.
+//! - `marker_key`, `markers_above`, `after_create`, `after_delete`: return exactly the markers
+//!   that their definitions say. Those above a file come from the root on.
 #![tactic(auto)]
 
 mod marker;

@@ -7,7 +7,7 @@ use path_keys::S3Path;
 use s3_types::{Key, KeyList, Text};
 use std::alloc::{AllocError, Global};
 
-/// What becomes of the markers above a file that was made. (Hadoop, S3A: fs.s3a.directory.marker.retention.)
+/// What happens to the markers above a new file. (Hadoop, S3A: fs.s3a.directory.marker.retention.)
 #[derive(Clone, Copy, PartialEq, Eq, Drop)]
 pub enum MarkerPolicy {
     Keep,
@@ -22,7 +22,7 @@ fn marker(alloc: Global, key: &str) -> Result<Key, AllocError>
     Ok(Key::new(Text::new(alloc, format!(in alloc; "{key}/")?)?))
 }
 
-/// The key of the marker of a directory, which is the path's key and a `/`.
+/// Returns the key of a directory's marker: the path's key and a `/`.
 pub fn marker_key(alloc: Global, path: &S3Path) -> Result<Key, AllocError>
     requires { 0 < length path.now.key }
     ensures { IfOk result (λ k. k ≡ marker_of path.now.key) }
@@ -30,7 +30,7 @@ pub fn marker_key(alloc: Global, path: &S3Path) -> Result<Key, AllocError>
     marker(alloc, path.key().as_str())
 }
 
-/// Adds the markers of all directories above a key, from the root on, without the root.
+/// Adds the markers of all directories above a key, from the top down, without the root.
 fn add_above(alloc: Global, key: &str, markers: &mut KeyList) -> Result<(), AllocError>
     requires { is_key key.now ≡ true }
     ensures { OnOk result (markers.new ≡ markers.old ++ map marker_of (keys_above key.now)) }
@@ -42,7 +42,7 @@ fn add_above(alloc: Global, key: &str, markers: &mut KeyList) -> Result<(), Allo
     markers.push(marker(alloc, front)?)
 }
 
-/// The key without the `/` at its end, where it has one.
+/// Returns the key without the `/` at its end, if it has one.
 fn path_in(key: &Key) -> &str
     ensures path { result.now ≡ trimmed key.now }
     ensures key { is_key_path key.now ≡ true }
@@ -54,8 +54,8 @@ fn path_in(key: &Key) -> &str
     }
 }
 
-/// The markers of all directories above the file or directory whose key or marker this is, from the root on,
-/// without the root.
+/// Returns the markers of all directories above the file or directory with this key or marker,
+/// from the top down, without the root.
 pub fn markers_above(alloc: Global, key: &Key) -> Result<KeyList, AllocError>
     ensures { IfOk result (λ markers. markers ≡ map marker_of (keys_above (trimmed key.now))) }
 {
@@ -69,8 +69,8 @@ pub fn markers_above(alloc: Global, key: &Key) -> Result<KeyList, AllocError>
     Ok(markers)
 }
 
-/// The markers that are to be deleted after a file was made: none where markers are kept, else those of all
-/// directories above it, from the root on, without the root.
+/// Returns the markers to delete after a file was made: none if markers are kept, else those of
+/// all directories above it, from the top down, without the root.
 pub fn after_create(
     alloc: Global,
     policy: MarkerPolicy,
@@ -88,8 +88,8 @@ pub fn after_create(
     }
 }
 
-/// The marker that is to be put after something was deleted from a directory: its own, exactly where it is not
-/// the root and nothing is left below it.
+/// Returns the marker to put after something was deleted from a directory: the directory's own,
+/// unless it is the root or something is left below it.
 pub fn after_delete(alloc: Global, parent: &S3Path, below: bool) -> Result<Option<Key>, AllocError>
     ensures { IfOk result (λ marker. marker ≡ deleted parent.now below) }
 {

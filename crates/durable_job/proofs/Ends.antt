@@ -1,4 +1,4 @@
--- What was played, by what the world of the jobs leaves.
+-- What was played, from what the world of the jobs leaves.
 use Rattle.durable_job.specs.Jobs.{IsOfOne, KeepsOne, run_told, told_both, verdict_of_two}
 use Rattle.durable_job.specs.Moves.{Stays, TwinsStay, left_of, turns_left}
 use Rattle.durable_job.specs.Pace.{LacksSince}
@@ -28,9 +28,9 @@ use Rattle.twin_script.specs.declared.turns.TwinTurn.{TwinTurn}
 use Rattle.job_world.specs.Worlds as one
 use Rattle.twin_jobs.specs.Worlds as two
 
--- ---- of both kinds
+-- ---- one job or two
 
--- what is kept of a run under another name
+-- What is held of a run, with an equal journal.
 held_as : {S : Type 0} (F : Sight S) (c : Content) (es fs : List Entry) (stop : Option ShelfStop) (old new : S) → es ≡ fs
     → IsHeld F c fs stop old new → IsHeld F c es stop old new
 held_as F c es fs stop old new e h = subst (λ (l : List Entry). IsHeld F c l stop old new) (sym e) h
@@ -39,22 +39,22 @@ survives_as : {S : Type 0} (F : Sight S) (c : Content) (es fs : List Entry) (old
     → Survives F c es old new
 survives_as F c es fs old new e h = subst (λ (l : List Entry). Survives F c l old new) (sym e) h
 
--- where none is left all events have their ends
+-- If no event is left, all events have their ends.
 all_ended : (ended all all_first : ℕ) → ended + (all - ended) ≡ 0 + (all_first - 0) → all - ended ≡ 0 → ended ≡ all_first
 all_ended ended all all_first count none = omega arith
 
--- what a shelf lacks under another name
+-- What a shelf lacks of a run, with an equal journal.
 lacks_as : {S : Type 0} (F : Sight S) (c : Content) (es fs : List Entry) (old new : S) → es ≡ fs → LacksSince F c fs old new
     → LacksSince F c es old new
 lacks_as F c es fs old new e h = subst (λ (l : List Entry). LacksSince F c l old new) (sym e) h
 
--- where one is left not all events have their ends
+-- If an event is left, not all events have their ends.
 more_to_come : (ended all : ℕ) → 0 < all - ended → ended < all
 more_to_come ended all left = omega arith
 
--- ---- a job alone
+-- ---- one job
 
--- a run by its parts
+-- A run from its parts.
 abbrev one_run : Script → Content → List Entry → List Pick → List EventEnd → Bool → one.Run
 one_run w c es ps xs stuck = record { script = w; opening = c; journal = es; picks = ps; ends = xs; stuck = stuck }
 
@@ -67,7 +67,7 @@ same_one s w c es ps xs script opening journal picks ends =
     ∙ ap (λ (x : List Pick). one_run s.script s.opening s.journal x xs s.stuck) picks
     ∙ ap (λ (x : List EventEnd). one_run s.script s.opening s.journal s.picks x s.stuck) ends
 
--- what a world tells at its end
+-- What a world says at its end.
 pub record LeavesOne (w : Script) (c : Content) (s : one.Run) (stop : Option ShelfStop) (due : ℕ) : Type 0 where
   pub stays : Stays (one.begun w c) s
   pub origin : s.opening ≡ c
@@ -76,7 +76,7 @@ pub record LeavesOne (w : Script) (c : Content) (s : one.Run) (stop : Option She
   pub over : stop ≡ None → left_of s ≡ 0
   pub due_is : due ≡ verdict s.script s.ends
 
--- what was left of it
+-- What the run left.
 pub record LeftOne (s : one.Run) (script : Script) (service : Content) (journal : Ledger) (told : Told) : Type 0 where
   pub script_is : script ≡ s.script
   pub service_is : service ≡ (moment s.opening s.journal (length s.journal)).content
@@ -135,7 +135,7 @@ one_played F w c s stop due script service journal told old new leaves left shor
 
 -- ---- two jobs
 
--- whether an event found no memory is nothing to what is kept
+-- What a run keeps does not depend on whether an event ran out of memory.
 unstuck : (s : two.Run) → two.Keeps s → two.Keeps (record s { stuck = false })
 unstuck s k = record {
   first = record {
@@ -160,14 +160,14 @@ unstuck s k = record {
   sent = k.sent;
 }
 
--- a side's job, and a run, by their parts
+-- A job's run, and a run of two jobs, from their parts.
 abbrev job_run : Script → List Pick → List EventEnd → two.JobRun
 job_run w ps xs = record { script = w; picks = ps; ends = xs }
 
 abbrev two_run : two.JobRun → two.JobRun → List Side → Content → List Entry → two.Run
 two_run first second sides c es = record { first = first; second = second; sides = sides; opening = c; journal = es; stuck = false }
 
--- what is left of a job is what the world told of it
+-- What is left of a job is what callers saw of it.
 same_job : (w : Script) (l : JobLeft) (j : two.JobRun) → told_of l ≡ j → j.script ≡ w → job_run w l.picks l.ends ≡ j
 same_job w l j told script = ap (λ (x : Script). job_run x l.picks l.ends) (sym (ap (λ (r : two.JobRun). r.script) told ∙ script)) ∙ told
 
@@ -181,11 +181,11 @@ same_two s first second sides c es first_is second_is sides_are opening journal 
     ∙ ap (λ (x : Content). two_run s.first s.second s.sides x es) opening
     ∙ ap (λ (x : List Entry). two_run s.first s.second s.sides s.opening x) journal
 
--- two scripts with their order, by their parts
+-- Two scripts with their order, from their parts.
 abbrev twins_by : Script → Script → List TwinTurn → Twins
 twins_by first second order = record { first = first; second = second; order = order }
 
--- what is left are the scripts and the order that were given
+-- What is left has the scripts and the order that were given.
 pub twins_are : (t : Twins) (c : Content) (first second : JobLeft) (order : List TwinTurn) (s : two.Run) → told_of first ≡ s.first
     → told_of second ≡ s.second → TwinsStay (two.begun t c) s → order ≡ t.order → twins_by first.script second.script order ≡ t
 twins_are t c first second order s first_is second_is stays is =
@@ -193,7 +193,7 @@ twins_are t c first second order s first_is second_is stays is =
     ∙ ap (λ (x : Script). twins_by t.first x order) (ap (λ (r : two.JobRun). r.script) second_is ∙ stays.second)
     ∙ ap (λ (x : List TwinTurn). twins_by t.first t.second x) is
 
--- what a world of two jobs tells at its end
+-- What a world of two jobs says at its end.
 pub record LeavesTwo (t : Twins) (c : Content) (s : two.Run) (stop : Option ShelfStop) (due : ℕ) : Type 0 where
   pub stays : TwinsStay (two.begun t c) s
   pub origin : s.opening ≡ c
@@ -201,7 +201,7 @@ pub record LeavesTwo (t : Twins) (c : Content) (s : two.Run) (stop : Option Shel
   pub over : stop ≡ None → turns_left s ≡ 0
   pub due_is : due ≡ verdict_of_two (verdict s.first.script s.first.ends) (verdict s.second.script s.second.ends)
 
--- what was left of it
+-- What the run of two jobs left.
 pub record LeftTwo (s : two.Run) (first second : JobLeft) (service : Content) (journal : Ledger) : Type 0 where
   pub first_is : told_of first ≡ s.first
   pub second_is : told_of second ≡ s.second

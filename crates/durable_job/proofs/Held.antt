@@ -1,4 +1,4 @@
--- What is kept of a run since its opening store was put in place of what a shelf held.
+-- What is held of a run since its opening store replaced what a shelf held.
 use Rattle.durable_job.specs.Pace.{Behind, InPace, Lacks, LacksSince}
 use Rattle.durable_job.specs.Played.{IsHeld, Survives}
 use Rattle.journal_log.specs.Crashes.{WhereTold}
@@ -11,12 +11,12 @@ use Rattle.shelf.specs.Logged.{CrashesLeave, Sight}
 use Rattle.shelf.specs.declared.kept.ShelfStop.{ShelfStop}
 use Rattle.std.proofs.Common.{List, None, Some, ap, inl, inr, length, subst, [], ◌∙◌, ◌≡◌, ◌⊎◌}
 
--- the store of a run in which nothing was sent
+-- The store of a run in which nothing was sent is the opening one.
 pub opening_is : (d c : Content) (es : List Entry) → d ≡ (moment c es (length es)).content → es ≡ [] → d ≡ c
 opening_is d c es e none = e ∙ ap (λ (l : List Entry). (moment c l (length l)).content) none
 
 module _ {S : Type 0} (F : Sight S) (c : Content) where
-  -- a store under another name
+  -- The same, said of an equal store.
   pub replaced_as : (d : Content) (old new : S) → d ≡ c → Replaced F d old new → Replaced F c old new
   replaced_as d old new e h = subst (λ (x : Content). Replaced F x old new) e h
 

@@ -1,4 +1,4 @@
--- How a shelf goes on with a run, step by step.
+-- How a shelf keeps up with a run, step by step.
 use Rattle.durable_job.specs.Moves.{Adds, Stays, Stepped, left_of}
 use Rattle.durable_job.specs.Pace.{Behind, InPace, Lacks}
 use Rattle.durable_job.specs.Played.{Counts}
@@ -28,7 +28,7 @@ use Rattle.std.proofs.lemmas.Option.{slice_get_cases, slice_get_within}
 
 -- ---- a step of a world
 
--- its event ended
+-- The event has its end.
 module _ (r s : Run) (e : Event) (next : slice_get r.script.events (length r.ends) ≡ Some e) (w : WentOn r s) where
   one_end : length s.ends ≡ length r.ends + 1
   one_end = ap length w.ends ∙ length-append r.ends (w.end ∷ [])
@@ -47,7 +47,7 @@ module _ (r s : Run) (e : Event) (next : slice_get r.script.events (length r.end
       let count : length s.ends + left_of s ≡ length r.ends + left_of r = omega (arith, one_end, one_less) in
       record { script = w.script; count = count }
 
--- it did not happen
+-- The event did not happen.
 pub stays_so : (r s : Run) → FoundNone r s → Stays r s
 stays_so r s f =
     let events : length s.script.events ≡ length r.script.events = ap (λ (v : Script). length v.events) f.script in
@@ -55,7 +55,7 @@ stays_so r s f =
     let count : length s.ends + left_of s ≡ length r.ends + left_of r = omega arith in
     record { script = f.script; count = count }
 
--- and is left then
+-- Then the event is left.
 pub left_so : (r s : Run) (e : Event) → slice_get r.script.events (length r.ends) ≡ Some e → FoundNone r s → 0 < left_of s
 left_so r s e next f =
     let events : length s.script.events ≡ length r.script.events = ap (λ (v : Script). length v.events) f.script in
@@ -64,7 +64,7 @@ left_so r s e next f =
     let some : 0 < left_of s = omega arith in
     some
 
--- there is none
+-- No event is left.
 pub none_left : (r : Run) → slice_get r.script.events (length r.ends) ≡ None → left_of r ≡ 0
 none_left r none =
     let cases = slice_get_cases r.script.events (length r.ends) in
@@ -76,7 +76,7 @@ none_left r none =
 -- ---- a step
 
 module _ {M : Type 0} (sent : M → List Entry) (left : M → ℕ) (old new : M) (more : Bool) (step : Stepped sent left old new more) where
-  -- it was played
+  -- A step was played.
   module _ (is : more ≡ true) where
     played : Stepped sent left old new true
     played = subst (Stepped sent left old new) is step
@@ -97,7 +97,7 @@ module _ {M : Type 0} (sent : M → List Entry) (left : M → ℕ) (old new : M)
         played.0 in
         omega arith
 
-  -- none was left
+  -- No step was left.
   module _ (is : more ≡ false) where
     ended : Stepped sent left old new false
     ended = subst (Stepped sent left old new) is step
@@ -111,7 +111,7 @@ module _ {M : Type 0} (sent : M → List Entry) (left : M → ℕ) (old new : M)
 -- ---- all entries so far
 
 module _ {S : Type 0} (F : Sight S) (c : Content) where
-  -- none yet
+  -- There are none yet.
   pub pace_begins : (es : List Entry) (s : S) → es ≡ [] → Holds (F.held s) c [] → IsTimed F → IsDurable (F.held s) (F.may_leave s)
       → InPace F c es s s
   pace_begins es s none holds timed durable = subst (λ (l : List Entry). InPace F c l s s) (sym none) (record {
@@ -127,7 +127,7 @@ module _ {S : Type 0} (F : Sight S) (c : Content) where
       here None holds durable h left = tt
       here (Some x) holds durable h left = subst (IsMoment c []) (sym (durable h left ∙ holds)) (some c [] [] (changes [], refl))
 
-  -- those of one step more
+  -- The shelf took the entries of one more step.
   pub pace_on : (es fs part : List Entry) (first mid new : S) → InPace F c es first mid → Adds es fs part
       → Appended F (changes part) mid new → CrashesLeave F mid new (IsBetween (F.held mid) (changes part)) → InPace F c fs first new
   pace_on es fs part first mid new p a appended leaves = subst (λ (l : List Entry). InPace F c l first new) (sym a.journal) (record {
@@ -142,7 +142,7 @@ module _ {S : Type 0} (F : Sight S) (c : Content) where
       both : changes (es ++ part) ≡ changes es ++ changes part
       both = changes_append es part
 
-  -- the last step's fell behind
+  -- The shelf took only the first changes of the last step.
   pub pace_ends : (es fs part : List Entry) (first mid new : S) (fault : ShelfStop) → InPace F c es first mid → Adds es fs part
       → Stopped F fault (changes part) mid new → CrashesLeave F mid new (IsBetween (F.held mid) (changes part)) → Behind F c fs first new
   pace_ends es fs part first mid new fault p a stopped leaves =
@@ -161,7 +161,7 @@ module _ {S : Type 0} (F : Sight S) (c : Content) where
         leaves = on_and_on F c es part first mid new p.holds grew p.leaves leaves;
       })
 
-  -- where its append was out of memory the shelf lacks a change
+  -- If its append ran out of memory, the shelf lacks a change.
   pub lacks_at : (es fs part : List Entry) (first mid new : S) (fault : ShelfStop) → fault ≡ NoMemory → InPace F c es first mid
       → Adds es fs part → Stopped F fault (changes part) mid new → Lacks F c fs first new
   lacks_at es fs part first mid new fault is p a stopped =
@@ -179,7 +179,7 @@ module _ {S : Type 0} (F : Sight S) (c : Content) where
         starved = s.left_out.1;
       })
 
-  -- it stops there
+  -- The run stops there.
   pub pace_stops : (es fs : List Entry) (first now : S) → InPace F c es first now → fs ≡ es → Behind F c fs first now
   pace_stops es fs first now p same = subst (λ (l : List Entry). Behind F c l first now) (sym same) (record {
     part = subst (HoldsPart (F.held now) c) (append-nil es) (short c (F.held now) (F.held now) es [] 0 p.holds tt
@@ -195,7 +195,7 @@ module _ {S : Type 0} (F : Sight S) (c : Content) where
 
 -- ---- the count of faults
 
--- nothing failed
+-- Nothing failed.
 pub counts_none : (before mid after : ℕ) → mid ≡ before → after ≡ mid → Counts None before after
 counts_none before mid after first second = second ∙ first
 
@@ -209,7 +209,7 @@ counts_some Failed before mid after first few rose calm = less (rose refl)
     less (inr most) = absurd (omega (arith, most, first, few))
 counts_some NoMemory before mid after first few rose calm = calm (λ e. cc) ∙ first
 
--- ---- a step that was out of memory
+-- ---- a step before which memory ran out
 
 pub fault_is : {A : Type 0} (fault : ShelfStop) (r : Result A ShelfStop) → r ≡ Err fault → IsErrOf r NoMemory → fault ≡ NoMemory
 fault_is fault r is none = cc

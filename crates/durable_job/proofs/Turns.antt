@@ -7,7 +7,7 @@ use Rattle.twin_jobs.specs.Worlds.{FoundNone, JobRun, Played, Run, Turned, playe
 use Rattle.twin_script.specs.declared.turns.Side.{Side}
 use Rattle.twin_script.specs.declared.turns.Side.TheVariants.{First, Second}
 
--- nothing changed
+-- Nothing changed.
 pub self_stays : (r : Run) → TwinsStay r r
 self_stays r = record { first = refl; second = refl; sides = refl; count = refl }
 
@@ -33,7 +33,7 @@ second_script : (r s : Run) (side : Side) → Played r s side → s.second.scrip
 second_script r s First p = ap (λ (j : JobRun). j.script) p.other
 second_script r s Second p = p.script
 
--- one more has its end, of so many, and one less is left
+-- One more event has its end, and one less is left.
 less_by_one : (all all_then ended ended_then : ℕ) → ended_then ≡ ended + 1 → all_then ≡ all → ended < all
     → all - ended ≡ (all_then - ended_then) + 1
 less_by_one all all_then ended ended_then more same few = omega arith
@@ -75,7 +75,7 @@ pub turn_steps : (r s : Run) (turned : Option Side) (more : Bool) → more ≡ i
     → Stepped {M = Run} (λ x. x.journal) turns_left r s more
 turn_steps r s turned more is h = subst (Stepped {M = Run} (λ x. x.journal) turns_left r s) (sym is) (stepped_so r s turned h)
 
--- no turn is next
+-- No turn is next.
 pub none_next : (r : Run) → slice_get r.sides (played r) ≡ None → turns_left r ≡ 0
 none_next r none =
     let cases = slice_get_cases r.sides (played r) in
@@ -84,7 +84,7 @@ none_next r none =
       | inr h ↦ let past : turns_left r ≡ 0 = omega (arith, h.0) in past
     ]
 
--- ---- none was played, for want of memory
+-- ---- memory ran out before the turn
 
 module _ (r s : Run) (none : FoundNone r s) where
   pub none_opening : s.opening ≡ r.opening
@@ -96,7 +96,7 @@ module _ (r s : Run) (none : FoundNone r s) where
   pub none_stays : TwinsStay r s
   none_stays = subst (TwinsStay r) (sym none.is) (record { first = refl; second = refl; sides = refl; count = refl })
 
-  -- a turn is left then
+  -- Then a turn is left.
   pub none_short : (side : Side) → slice_get r.sides (played r) ≡ Some side → 0 < turns_left s
   none_short side next =
       let few : played r < length r.sides = slice_get_within r.sides (played r) side next in

@@ -1,4 +1,4 @@
--- What comes of jobs that are played over a shelf.
+-- The outcome of one job or two that are played over a shelf.
 use Rattle.durable_job.specs.Jobs.{AreFinished, ArePromised, verdict_of}
 use Rattle.durable_job.specs.Pace.{LacksSince}
 use Rattle.durable_job.specs.declared.jobs.Jobs.{Jobs}
@@ -20,46 +20,47 @@ use Rattle.std.specs.Prelude.{List, None, Option, Some, length, ℕ, ◌+◌, �
 use Rattle.store_image.specs.Image.{image}
 use Rattle.twin_script.specs.TwinScripts.{sides_in}
 
--- ---- what is kept of a run
+-- ---- what the shelf holds of a run
 
--- what a shelf holds of it: where nothing stopped it all is held, and else the first of it, with all of the earlier events
+-- What the shelf holds of a run: all changes if nothing stopped it, else the first ones with all changes of earlier events.
 abbrev pub IsHeld : {S : Type 0} → Sight S → Content → List Entry → Option ShelfStop → S → S → Type 0
 IsHeld F c es None old new = Holds (F.held new) c (changes es)
     × (IsDurable (F.held new) (F.may_leave new) × AreCalled F (changes es) old new)
 IsHeld F c es (Some fault) old new = HoldsPart (F.held new) c es × AreStopped F (changes es) old new
 
--- what a crash left: first what one before it might leave or the image of the opening content, and since some state a moment of the run
+-- What a crash during the run leaves: at first what a crash before it might leave or the opening image, and from some state on the store of
+-- one moment of the run.
 abbrev pub Survives : {S : Type 0} → Sight S → Content → List Entry → S → S → Type 0
 Survives {S} F c es old new = (mid : S)
     × (CrashesLeave F old mid (λ h. F.may_leave old h ⊎ (h ≡ fresh (image c)))
     × CrashesLeave F mid new (λ h. WhereTold (F.held new) (IsMoment c es h)))
 
--- the count of faults rose where the shelf failed, and else stands
+-- The count of faults rose if the shelf failed, and else stayed.
 abbrev pub Counts : Option ShelfStop → ℕ → ℕ → Type 0
 Counts (Some Failed) before after = before < after
 Counts _ before after = after ≡ before
 
 -- ---- what was played
 
--- an event has no end yet, of two jobs one that the order asks for
+-- Some event has no end yet: one of the script, or of two jobs one that the order asks for.
 abbrev pub HaveEventsLeft : Jobs → Told → Type 0
 HaveEventsLeft (One w) told = length told.ends < length w.events
 HaveEventsLeft (Two t) told = length told.ends + length told.second_ends < length (sides_in t.order)
 
--- What was played of jobs over a store with this content, and is kept of it since the shelf was in this state.
+-- What holds of a run of these jobs over a store with this content, which was kept on a shelf that was in the old state before it.
 pub record IsPlayed {S : Type 0} (F : Sight S) (jobs : Jobs) (c : Content) (kept : Kept) (old new : S) : Type 0 where
-  -- the jobs, and the store as the sendings have left it
+  -- The jobs are those that were given, and the store is as the requests have left it.
   pub jobs_are : kept.jobs ≡ jobs
   pub service : kept.service ≡ (moment c kept.journal.entries (length kept.journal.entries)).content
-  -- all that is promised of what was sent
+  -- All that is promised of what was sent.
   pub promised : ArePromised jobs c kept.journal.entries kept.told
-  -- where nothing stopped it, it went to its end
+  -- If nothing stopped the run, it went to its end.
   pub finished : kept.stop ≡ None → AreFinished jobs c kept.journal.entries kept.told
   pub verdict : kept.verdict ≡ verdict_of jobs kept.told
-  -- where it stopped out of memory an event has no end, or the shelf lacks a change
+  -- If the run ran out of memory, an event has no end, or the shelf lacks a change.
   pub short : kept.stop ≡ Some NoMemory → HaveEventsLeft jobs kept.told ⊎ LacksSince F c kept.journal.entries old new
-  -- what the shelf holds, and what a crash left
+  -- What the shelf holds, and what a crash leaves.
   pub held : IsHeld F c kept.journal.entries kept.stop old new
   pub survives : Survives F c kept.journal.entries old new
-  -- a store that can have an image leads through such stores, up to the most of its counter
+  -- If the opening store can have an image, and the next upload id is at most 2^62 at the end, so can the store at each moment.
   pub images : KeepsImages c kept.journal.entries

@@ -8,8 +8,8 @@ use crate::moves::Moves;
 use journal_log::append_all;
 use shelf::kept::{Shelf, ShelfStop};
 
-/// Plays all steps that are left, and appends after each one what it changed. It stops where an append fails or it is
-/// out of memory, and else where no step is left. Out of memory, a step is left or the shelf lacks a change.
+/// Plays all remaining steps, and appends after each one what it changed. It stops early if an
+/// append fails or memory runs out. If memory ran out, a step is left or the shelf lacks a change.
 pub fn play_over<M: Moves, F: Shelf>(shelf: &mut F, world: &mut M) -> Result<(), ShelfStop>
     requires sent { M.sent world.old ≡ [] }
     requires holds { Holds (F.sight.held shelf.old) (M.origin world.old) [] }

@@ -5,7 +5,7 @@ use job_model::{EndList, PickList, Script};
 use path_keys::S3Path;
 use twin_script::Twins;
 
-/// What is to be played: a job alone, or two jobs at one destination, by the order of their turns.
+/// What is to be played: one job, or two jobs at one destination by the order of their turns.
 #[derive(Drop)]
 pub enum Jobs {
     One(Script),
@@ -13,7 +13,7 @@ pub enum Jobs {
 }
 
 impl Jobs {
-    /// The destination, which two jobs share.
+    /// The destination of the job, or the one that both jobs share.
     pub fn dest(&self) -> &S3Path
         ensures { result.now ≡ dest_of self.now }
     {
@@ -24,8 +24,8 @@ impl Jobs {
     }
 }
 
-/// What is told of a run: the picks of the job's commit and the ends of its events, and those of a second job. Of a job
-/// alone there are none of a second.
+/// The picks of the job's commit and the ends of its events, and those of the second job. If there
+/// is one job, the second lists are empty.
 #[derive(Drop)]
 pub struct Told {
     pub picks: PickList,

@@ -9,8 +9,9 @@ use journal_log::put_image;
 use shelf::kept::{Shelf, ShelfStop};
 use std::alloc::Global;
 
-/// Puts the store with which a run begins in place of what the shelf holds, plays all steps that are left, and says why
-/// it stopped before, if it did. An error comes where nothing was sent.
+/// Replaces what the shelf holds by the image of the opening store, and plays all remaining steps.
+/// Returns why it stopped early, or None if it did not. Fails if the shelf did not take the image,
+/// or memory ran out before it did; then nothing was sent.
 pub fn keep<M: Moves, F: Shelf>(
     alloc: Global,
     shelf: &mut F,

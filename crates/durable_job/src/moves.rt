@@ -14,7 +14,7 @@ use std::alloc::AllocError;
 use twin_jobs::TwinWorld;
 use twin_script::Side;
 
-/// What is moved step by step over a store, and writes down all that it sends.
+/// Something that moves step by step over a store and writes down all that it sends.
 pub trait Moves {
     /// The store's content as the run began.
     ghost origin: { Self → Content };
@@ -22,22 +22,23 @@ pub trait Moves {
     /// All entries so far.
     ghost sent: { Self → List Entry };
 
-    /// So many steps are left.
+    /// The number of steps that are left.
     ghost left: { Self → ℕ };
 
-    /// What every step keeps, of an earlier and a later moment.
+    /// What every step keeps, as a relation between an earlier and a later state.
     ghost keeps: { Self → Self → Type 0 };
 
-    /// The store as the sendings so far have left it. Takes no memory.
+    /// The store as the requests so far have left it. Takes no memory.
     fn service(&self) -> &Service
         ensures { result.now ≡ (moment (origin self.now) (sent self.now) (length (sent self.now))).content };
 
-    /// Every sending so far, in order. Takes no memory.
+    /// The journal: every send so far, in order. Takes no memory.
     fn journal(&self) -> &Journal
         ensures { result.now.entries ≡ sent self.now };
 
-    /// Plays the next step, all of whose entries are of one event; or false, where none is left. Out of memory,
-    /// it has sent nothing and steps are left.
+    /// Plays the next step, whose entries all belong to one event, and returns true; or returns
+    /// false if no step is left. Fails with AllocError if memory runs out; then it has sent
+    /// nothing, and steps are left.
     fn step(&mut self) -> Result<bool, AllocError>
         ensures origin { origin self.new ≡ origin self.old }
         ensures keeps { keeps self.old self.new }
@@ -45,7 +46,7 @@ pub trait Moves {
         ensures err { OnErr result (sent self.new ≡ sent self.old) }
         ensures short { OnErr result (0 < left self.new) };
 
-    /// What is kept by every step is kept by all.
+    /// What each step keeps, any number of steps keep.
     ghost laws: { KeepsLaws keeps };
 }
 

@@ -19,21 +19,22 @@ use std::alloc::{AllocError, Global};
 use twin_jobs::{TwinPlayed, TwinWorld};
 use twin_script::{Side, TurnList, Twins};
 
-/// What was played of jobs, and why it stopped before all their events ended, if it did.
+/// The run of one job or two, and why it stopped before all events had ended, if it did.
 #[derive(Drop)]
 pub struct Kept {
     pub stop: Option<ShelfStop>,
-    /// The status that is due by the ends of the events: 0, 1, 8 or 9. Of two jobs it is the first's, where that is not 0.
+    /// The status by the ends of the events: 0, 1, 8 or 9. Of two jobs it is the first one's,
+    /// unless that is 0; then it is the second one's.
     pub verdict: u8,
     pub jobs: Jobs,
-    /// The store as the sendings have left it.
+    /// The store as the requests have left it.
     pub service: Service,
-    /// All that was sent.
+    /// The journal of all that was sent.
     pub journal: Journal,
     pub told: Told,
 }
 
-/// A job alone.
+/// Plays one job and keeps its run on the shelf.
 fn play_one<W: Works, F: Shelf>(
     alloc: Global,
     shelf: &mut F,
@@ -84,14 +85,14 @@ fn play_one<W: Works, F: Shelf>(
     })
 }
 
-/// The first of two verdicts that is not 0, or else 0.
+/// The first of two statuses that is not 0, or 0 if both are.
 fn first_of(first: u8, second: u8) -> u8
     ensures { result ≡ verdict_of_two first second }
 {
     if first == 0 { second } else { first }
 }
 
-/// The status that is due of two jobs.
+/// The status of a run of two jobs.
 fn verdict_of<W: Works>(world: &TwinWorld<W>) -> u8
     ensures { result ≡ verdict_of_two (verdict world.now.first.script world.now.first.ends)
         (verdict world.now.second.script world.now.second.ends) }
@@ -101,7 +102,7 @@ fn verdict_of<W: Works>(world: &TwinWorld<W>) -> u8
     first_of(first, second)
 }
 
-/// The order of two jobs' turns once more.
+/// A copy of the order of two jobs' turns.
 fn order_of(alloc: Global, twins: &Twins) -> Result<TurnList, AllocError>
     ensures { IfOk result (λ order. order ≡ twins.now.order) }
 {
@@ -110,7 +111,7 @@ fn order_of(alloc: Global, twins: &Twins) -> Result<TurnList, AllocError>
     Ok(Sequence::from_vec(turns))
 }
 
-/// What is kept of two jobs by what their world leaves.
+/// The run of two jobs, from what their world leaves.
 fn kept_of(stop: Option<ShelfStop>, verdict: u8, order: TurnList, left: TwinPlayed) -> Kept
     requires { AreTwins (record { first = left.first.script; second = left.second.script; order = order }) }
     ensures { result ≡ record {
@@ -149,7 +150,7 @@ fn kept_of(stop: Option<ShelfStop>, verdict: u8, order: TurnList, left: TwinPlay
     }
 }
 
-/// Two jobs at one destination.
+/// Plays two jobs at one destination and keeps their run on the shelf.
 fn play_two<W: Works, F: Shelf>(
     alloc: Global,
     shelf: &mut F,
@@ -187,10 +188,12 @@ fn play_two<W: Works, F: Shelf>(
     Ok(kept_of(stop, verdict, order, left))
 }
 
-/// Plays a job, or two by their order, over a store and keeps the run on a shelf: the store's image in place of what the
-/// shelf holds, and then, after each event, one append for each effective request that may change the store. The run stops
-/// where an append fails or memory is wanting, and tells what was sent until then. An error comes where nothing was
-/// sent, for want of memory or because the shelf did not take the image; it holds what it held then. Bytes are shared.
+/// Plays one job, or two by their order, over a store and keeps the run on a shelf. It first
+/// replaces what the shelf holds by the store's image. After each event it makes one append for
+/// each request that took effect and may change the store. The run stops early if an append fails
+/// or memory runs out, and the result has what was sent until then. Fails if the shelf does not
+/// take the image, or memory runs out before it does; then nothing was sent, and the shelf holds
+/// what it held. Copies share bytes.
 pub fn play<W: Works, F: Shelf>(
     alloc: Global,
     shelf: &mut F,

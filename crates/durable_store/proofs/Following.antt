@@ -14,7 +14,7 @@ use Rattle.std.specs.FinMap as fin
 
 -- ---- one request
 
--- one of the cluster's leaves of a store what a read of the bucket without a name leaves
+-- A request to the cluster leaves of a store what a read of the bucket without a name leaves.
 unnamed : (c : Content) (o : Option BucketContent) (r : Request) → is_cluster r ≡ true → apply_at o c r ≡ apply_at o c (GetObject [] [])
 unnamed c None r h = refl
 unnamed c (Some b) (ClusterPut path bytes) h = refl
@@ -27,7 +27,7 @@ unnamed c (Some b) _ h = absurd (cc)
 read : (c : Content) → apply_store c (GetObject [] []) ≡ c
 read c = others_leave (opening c) (GetObject [] []) refl
 
--- one that is not changing leaves the store as it is
+-- A request that is not changing leaves the store as it is.
 pub others : (c : Content) (r : Request) → is_changing r ≡ false → apply_store c r ≡ c
 others c (GetObject n k) h = others_leave (opening c) (GetObject n k) h
 others c (HeadObject n k) h = others_leave (opening c) (HeadObject n k) h
@@ -41,7 +41,7 @@ others c (ClusterDelete path) h = unnamed c (fin.get c.buckets []) (ClusterDelet
 others c (ClusterList p) h = unnamed c (fin.get c.buckets []) (ClusterList p) refl ∙ read c
 others c _ h = absurd (cc)
 
--- a changing one is the store's
+-- A changing request is one to the store, not to the cluster.
 pub of_store : (r : Request) → is_changing r ≡ true → is_cluster r ≡ false
 of_store (ClusterPut path bytes) h = absurd (cc)
 of_store (ClusterRename source target) h = absurd (cc)
@@ -50,6 +50,6 @@ of_store (ClusterDelete path) h = absurd (cc)
 of_store (ClusterList p) h = absurd (cc)
 of_store _ h = refl
 
--- a counter that is too high stays so
+-- A counter that is too high stays too high.
 pub high : (c d : Content) (rs : List Request) → content_after c rs ≡ d → 2 ^ 62 < c.next → 2 ^ 62 < d.next
 high c d rs e h = omega (arith, h, (on_and_on c rs).later, ap (λ (x : Content). x.next) e)

@@ -1,4 +1,4 @@
--- What is found on a shelf, by what was loaded.
+-- What is found on a shelf, from what was loaded.
 use Rattle.basics.specs.Order.{text_cmp, text_total}
 use Rattle.durable_store.specs.Outcomes.{AreAtKeys, IsOf, IsSound}
 use Rattle.durable_store.specs.Stores.{counted, found, read_as, unfolded}
@@ -25,7 +25,7 @@ use Rattle.std.specs.FinMap as fin
 use Rattle.log_format.specs.declared.held.Held as logs
 use Rattle.store_image.proofs.Whole as images
 
--- ---- the store that is unfolded
+-- ---- the store from a base and changes
 
 pub few : (d : Content) → d.next ≤ 2 ^ 62 → Store d ≡ counted d
 few d h =
@@ -37,7 +37,7 @@ many d h =
     let test : nat_lt (2 ^ 62) d.next ≡ true = grind (arith, nat_tests) in
     rw test refl
 
--- it is what the base and the changes stand for
+-- It is what the base and the changes stand for.
 pub stood : (held : logs.Held) (c : Content) → held.base ≡ image c → IsOf (counted (content_after c held.changes)) (Stands held)
 stood held c is = elim (nat_lt (2 ^ 62) (content_after c held.changes).next) as
     (λ t. IsOf (cond t (Faulty 5 0) (Store (content_after c held.changes))) (Stands held)) [
@@ -45,18 +45,18 @@ stood held c is = elim (nat_lt (2 ^ 62) (content_after c held.changes).next) as
       | false ↦ record { first = c; is_image = is; folded = refl }
     ]
 
--- so what was followed stands for what is held
+-- So a store after its changes is what the shelf's holding stands for.
 pub stand_if : {E : Type 0} (r : Result Held E) (held : logs.Held) (c : Content) (rs : List Request) → rs ≡ held.changes
     → held.base ≡ image c → IfOk r (λ h. h ≡ counted (content_after c rs)) → IfOk r (λ h. IsOf h (Stands held))
 stand_if (Ok h) held c rs same is e = subst (λ (x : Held). IsOf x (Stands held))
     (sym (e ∙ ap (λ (l : List Request). counted (content_after c l)) same)) (stood held c is)
 stand_if (Err fault) held c rs same is e = tt
 
--- a store that can have an image has ids left
+-- A store that can be written as an image has upload ids left.
 pub few_ids : (c : Content) → IsContent c → c.next ≤ 2 ^ 62
 few_ids c is = leb-true c.next (2 ^ 62) (and_parts (nat_le 1 c.next) (nat_le c.next (2 ^ 62)) is.counter).1
 
--- and it can have an image
+-- After such changes it can be written as an image too.
 pub imaged : (c d : Content) (rs : List Request) → d ≡ content_after c rs → AllByRecursion IsMade rs → (content_after c rs).next ≤ 2 ^ 62
     → IsContent c → IsSound (Store d)
 imaged c d rs same m few is = subst IsContent (sym same) (all c rs is m few)
@@ -65,7 +65,7 @@ pub sound_if : {E : Type 0} (r : Result Held E) (c : Content) → IsContent c �
 sound_if (Ok h) c is f = f is
 sound_if (Err fault) c is f = tt
 
--- ---- the whole
+-- ---- the whole load
 
 small : (s : Stored) → IsSmall s → found s ≡ read_as s.holding
 unfolding found
@@ -84,14 +84,14 @@ at_keys c is n k b o g h =
     let bucket = at text_total exact is_bucket (IsBucket c.next) c.buckets n b is.buckets g in
     (at text_total exact is_key IsObject b.objects k o bucket.value.objects h).key
 
--- nothing was loaded
+-- Nothing was loaded.
 pub found_nothing : (o : Option Stored) (s : Stored) → IsLoaded o None → o ≡ Some s → Nothing ≡ found s
 found_nothing None s loaded e = cc
 found_nothing (Some t) s loaded e =
     let is : t ≡ s = cc in
     subst (λ (x : Stored). Nothing ≡ found x) is (sym (small t loaded.1 ∙ ap read_as loaded.0))
 
--- this was loaded
+-- A base with changes was loaded.
 pub found_held : (o : Option Stored) (held : logs.Held) (s : Stored) → IsLoaded o (Some held) → o ≡ Some s
     → unfolded (content_in held.base) held.changes ≡ found s
 found_held None held s loaded e = cc
@@ -99,14 +99,14 @@ found_held (Some t) held s loaded e =
     let is : t ≡ s = cc in
     subst (λ (x : Stored). unfolded (content_in held.base) held.changes ≡ found x) is (sym (small t loaded.1 ∙ ap read_as loaded.0))
 
--- the log is bad
+-- The log is bad.
 pub found_bad : (o : Option Stored) (place : ℕ) (s : Stored) → IsBad o place → o ≡ Some s → Faulty 9 place ≡ found s
 found_bad None place s bad e = cc
 found_bad (Some t) place s bad e =
     let is : t ≡ s = cc in
     subst (λ (x : Stored). Faulty 9 place ≡ found x) is (sym (small t bad.1 ∙ ap read_as bad.0))
 
--- more is held than is loaded
+-- The shelf holds more than is loaded.
 large : (s : Stored) → (most_base < s.base_length) ⊎ (most_file < s.file_length) → found s ≡ Faulty 8 most_base
 unfolding found
 large s (inl h) =

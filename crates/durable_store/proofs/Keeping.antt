@@ -1,4 +1,4 @@
--- What is answered, by what came of a save, and which statuses of what is said are none of the shelf.
+-- The answer for the outcome of a save, and which statuses of a text are not the shelf's.
 use Rattle.durable_store.specs.Outcomes.{IsAnswer, status_of, text_at}
 use Rattle.durable_store.specs.Outcomes.IsAnswer.{failed, saved, wanting}
 use Rattle.durable_store.specs.Works.{IsSaid, Saves}
@@ -11,7 +11,7 @@ use Rattle.shelf.specs.declared.kept.ShelfStop.{ShelfStop}
 use Rattle.shelf.specs.declared.kept.ShelfStop.TheVariants.{Failed, NoMemory}
 use Rattle.std.proofs.Common.{Err, List, Ok, Result, ℕ, ◌≢◌}
 
--- of a save
+-- The answer for each outcome of a save.
 pub saved_answer : {A : Type 0} (r : Result A ShelfStop) (c : Content) (text : List ℕ) (es : List Entry)
     → IsAnswer (Saves c text es) (status_of r) (text_at (status_of r) text) es
 saved_answer (Ok x) c text es = saved c text es

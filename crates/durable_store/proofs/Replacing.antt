@@ -1,4 +1,4 @@
--- How a save goes on behind the image.
+-- A save after the image was put.
 use Rattle.journal_log.proofs.Journals.{changes_none}
 use Rattle.journal_log.proofs.Leaving.{on_and_on, started, survives, told_all, widened}
 use Rattle.journal_log.proofs.Standing.{begins_all, holds_more, short, some}
@@ -17,7 +17,7 @@ use Rattle.std.proofs.Common.{Err, IfErr, List, None, Ok, OnErr, OnOk, Option, R
 use Rattle.std.specs.List.{AllByRecursion}
 use Rattle.store_image.specs.Image.{image}
 
--- a crash leaves the image
+-- A crash leaves the image.
 first_moment : (o : Option Stored) (leaves : Holding → Type 0) (c : Content) (h : Holding) → Holds o c (changes []) → IsDurable o leaves
     → leaves h → WhereTold o (IsMoment c [] h)
 first_moment None leaves c h holds durable left = tt
@@ -28,7 +28,7 @@ module _ {S : Type 0} (F : Sight S) (c : Content) (es : List Entry) where
   abbrev pub Leaves : S → S → Type 0
   Leaves old new = CrashesLeave F old new (λ h. WhereTold (F.held new) (F.may_leave old h ⊎ IsMoment c es h))
 
-  -- where the image was not put there
+  -- the shelf failed to take the image
   pub refused : (old new : S) → CrashesLeave F old new (λ h. F.may_leave old h ⊎ (h ≡ fresh (image c))) → Leaves old new
   refused old new leaves =
       widened F old new (λ h. F.may_leave old h ⊎ (h ≡ fresh (image c))) (λ h. WhereTold (F.held new) (F.may_leave old h ⊎ IsMoment c es h))
@@ -42,7 +42,7 @@ module _ {S : Type 0} (F : Sight S) (c : Content) (es : List Entry) where
       one h (inl left) = inl left
       one h (inr e) = inr (begun h e)
 
-  -- where it was, by what came of the appends
+  -- the shelf took the image; the outcome of the appends
   module _ (old mid new : S) (put : Replaced F c old mid) where
     first : Holds (F.held mid) c (changes [])
     first = subst (Holds (F.held mid) c) (sym changes_none) put.holds
@@ -66,7 +66,7 @@ module _ {S : Type 0} (F : Sight S) (c : Content) (es : List Entry) where
         let appended = on_and_on F c [] es mid mid new first grown opened leaves in
         survives F timed c es (F.held new) old old mid new (started F old (F.may_leave old) (timed.only_now old)) put.leaves appended
 
--- the changes that a shelf took, by what came of the call
+-- The changes that the shelf took, for each outcome of the call.
 pub some_grown : {A E : Type 0} (r : Result A E) (before after : Option Stored) (rs : List Request) → OnOk r (HoldsGrownBy before after rs)
     → OnErr r (HoldsSome before after rs) → HoldsSome before after rs
 some_grown (Ok x) before after rs grown part = (rs, begins_all rs, grown)

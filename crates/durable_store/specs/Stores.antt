@@ -1,4 +1,4 @@
--- What a shelf holds.
+-- What a shelf is found to hold.
 use Rattle.durable_store.specs.declared.held.Held.{Held}
 use Rattle.durable_store.specs.declared.held.Held.TheVariants.{Faulty, Nothing, Store}
 use Rattle.journal_log.specs.Changes.{content_after}
@@ -14,27 +14,27 @@ use Rattle.store_image.specs.declared.fault.ImageFault.{ImageFault}
 
 -- ---- what is held
 
--- a store whose counter is at most 2^62; above that is fault 5, at no place
+-- The store if its counter is at most 2^62, and otherwise fault 5 at place 0.
 abbrev pub counted : Content → Held
 counted c = if nat_lt (2 ^ 62) c.next then Faulty 5 0 else Store c
 
--- the store whose image the base is with the changes after it, or the image's first fault by its number and place
+-- The store whose image is the base, with the changes applied to it, or the image's first fault by its number and place.
 abbrev pub unfolded : Result Content ImageFault → List Request → Held
 unfolded (Ok c) rs = counted (content_after c rs)
 unfolded (Err e) rs = Faulty (number_of e) (place_in e)
 
--- a bad log is fault 9, at its place
+-- What a holding is read as: nothing, a store, or a fault. A bad log is fault 9, at its place.
 abbrev pub read_as : Holding → Held
 read_as Absent = Nothing
 read_as (Stands held) = unfolded (content_in held.base) held.changes
 read_as (BadAt place) = Faulty 9 place
 
--- what a shelf holds; what is too large to be loaded is fault 8, at the most bytes of a base
+-- What a shelf is found to hold. Something too large to load is fault 8, at the most bytes of a base.
 unfoldable pub found : Stored → Held
 found s = if nat_lt most_base s.base_length || nat_lt most_file s.file_length then Faulty 8 most_base else read_as s.holding
 
 -- ---- what is said
 
--- the line of what is no store
+-- The line that reports what is no store.
 unfoldable pub fault_text : ℕ → ℕ → List ℕ
 fault_text number place = codes "image fault " ++ (decimal number ++ (codes " at " ++ (decimal place ++ 10 ∷ [])))

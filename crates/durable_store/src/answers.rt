@@ -16,7 +16,7 @@ use s3_types::{Bytes, Journal, let_go};
 use shelf::kept::{Shelf, ShelfStop};
 use std::alloc::Global;
 
-/// The status of a save.
+/// The status for the result of a save.
 fn status_of(saved: Result<(), ShelfStop>) -> Status
     ensures { result ≡ status_of saved }
 {
@@ -27,7 +27,7 @@ fn status_of(saved: Result<(), ShelfStop>) -> Status
     }
 }
 
-/// A text, where what it tells of was done.
+/// The text, if the work was done.
 fn text_at(due: Status, text: Bytes) -> Option<Bytes>
     ensures { result ≡ text_at due text }
 {
@@ -40,7 +40,7 @@ fn text_at(due: Status, text: Bytes) -> Option<Bytes>
     }
 }
 
-/// Keeps a store with what was sent to it, and answers a text.
+/// Saves a store with what was sent to it, and returns the answer with its text.
 fn keep<F: Shelf>(
     alloc: Global,
     shelf: &mut F,
@@ -72,9 +72,12 @@ fn keep<F: Shelf>(
     }
 }
 
-/// Does the work of a command on a shelf. What is said is answered with its status, and the shelf is not called. What is to
-/// be kept is answered by Done, once the shelf holds it; by ShelfFault where the shelf failed; and by NoMemory where memory was
-/// wanting. In these two the shelf holds what it held, or the store with the first of its changes.
+/// Does the work of a command on a shelf.
+///
+/// - Work that only says something returns its status and text, and the shelf is not called.
+/// - Work that saves returns `Done` after the shelf has taken all of it, `ShelfFault` if the shelf
+///   failed, and `NoMemory` if memory ran out. After these two errors the shelf holds what it held,
+///   or the store with the first of its changes.
 pub fn obey<F: Shelf>(alloc: Global, shelf: &mut F, work: Work) -> Answer
     requires count { F.faults shelf.old < 2 ^ 64 - 1 }
     requires plain { works.IsPlain (work_in work) }

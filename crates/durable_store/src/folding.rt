@@ -10,10 +10,10 @@ use s3_service::Service;
 use s3_types::Request;
 use std::alloc::AllocError;
 
-/// The most that the counter of uploads is in a store over which a run begins.
+/// The most that the counter of uploads may be in a store with which a run begins.
 const MOST_COUNTED: u64 = 1 << 62;
 
-/// Whether the counter of uploads is at most 2^62.
+/// True if the counter of uploads is at most 2^62.
 fn is_few(service: &Service) -> bool
     ensures yes { result ≡ true → service.now.next ≤ 2 ^ 62 }
     ensures no { result ≡ false → 2 ^ 62 < service.now.next }
@@ -21,7 +21,7 @@ fn is_few(service: &Service) -> bool
     service.next_upload() <= MOST_COUNTED
 }
 
-/// Does one change. A request that changes nothing is not sent.
+/// Applies one change. A request that changes nothing is not sent.
 fn follow(service: &mut Service, change: &Request) -> Result<(), AllocError>
     requires { service.old.next ≤ 2 ^ 62 }
     ensures { OnOk result (service.new ≡ apply_store service.old change.now) }
@@ -32,8 +32,8 @@ fn follow(service: &mut Service, change: &Request) -> Result<(), AllocError>
     service.follow(change)
 }
 
-/// Does the changes one by one, and answers whether the counter of uploads is at most 2^62 behind them. Once it is
-/// over that, the changes left are not done.
+/// Applies the changes one by one, and returns true if the counter of uploads is at most 2^62
+/// afterwards. When the counter gets over that, the changes left are not applied.
 pub fn follow_all(service: &mut Service, changes: &[Request]) -> Result<bool, AllocError>
     ensures done { IfOk result (λ few. few ≡ true → service.new ≡ content_after service.old changes.now) }
     ensures few { IfOk result (λ few. few ≡ true → (content_after service.old changes.now).next ≤ 2 ^ 62) }

@@ -18,27 +18,30 @@ use shelf::kept::{Held as Kept, LoadFault, MOST_BASE, Shelf, ShelfStop};
 use std::alloc::{AllocError, Global};
 use store_image::{ImageFault, decode};
 
-/// What a shelf holds.
+/// What a shelf was found to hold.
 #[derive(Drop)]
 pub enum Held {
     Nothing,
     Store(Service),
-    /// What is no store, with the number of its first fault and its place in bytes from the start. More bytes
-    /// than are loaded are the fault 8, at the most bytes of a base; a bad log is 9; and a counter of uploads that is
-    /// over 2^62 behind the changes is 5, at 0.
+    /// Something that is no store, with the number of its first fault and its place in bytes from
+    /// the start. Three faults are not the image's own:
+    ///
+    /// - 8: more bytes than are loaded. The place is the most bytes of a base.
+    /// - 9: a bad log.
+    /// - 5, at place 0: the counter of uploads is over 2^62 after the changes.
     Faulty { number: u8, place: u64 },
 }
 
-/// The number of a counter that is too high.
+/// The number of the fault for a counter that is too high.
 const TOO_HIGH: u8 = 5;
 
-/// The number of the fault of bytes that are too many.
+/// The number of the fault for too many bytes.
 const TOO_LARGE: u8 = 8;
 
-/// The number of a bad log.
+/// The number of the fault for a bad log.
 const BAD_LOG: u8 = 9;
 
-/// A fault as what is held, unless it is want of memory.
+/// What is held if its image has this fault. Fails if the fault is memory that ran out.
 fn faulty(fault: ImageFault) -> Result<Held, AllocError>
     ensures exact { IfOk result (λ held. held ≡ Held.Faulty (number_of fault) (place_in fault)) }
     ensures read { OnOk result (fault ≢ ImageFault.NoMemory) }
@@ -52,7 +55,7 @@ fn faulty(fault: ImageFault) -> Result<Held, AllocError>
     }
 }
 
-/// The store behind the changes, unless its counter is too high there.
+/// The store after the changes, or the fault for a counter that is too high.
 fn followed(mut service: Service, changes: &[Request]) -> Result<Held, AllocError>
     ensures exact { IfOk result (λ held. held ≡ counted (content_after service changes.now)) }
     ensures sound { IfOk result (λ held. IsContent service → IsSound held) }
@@ -73,7 +76,7 @@ fn followed(mut service: Service, changes: &[Request]) -> Result<Held, AllocErro
     }
 }
 
-/// The store that the base and the changes stand for, or the first fault.
+/// The store that the base and the changes make, or the first fault.
 fn unfolded(alloc: Global, kept: &Kept) -> Result<Held, AllocError>
     ensures exact { IfOk result (λ held. held ≡ unfolded (content_in kept.now.base) kept.now.changes) }
     ensures stands { IfOk result (λ held. IsOf held (Stands kept.now)) }
@@ -85,10 +88,12 @@ fn unfolded(alloc: Global, kept: &Kept) -> Result<Held, AllocError>
     }
 }
 
-/// Loads what the shelf holds, which stays: the base is decoded and the changes are done on it, in O(bytes) and O(log n)
-/// a change. What is held and is no store is told with its first fault. A crash within the call leaves what one before it
-/// may leave. Failed comes only where the shelf's count of faults rose, and NoMemory where the shelf or the store found
-/// none.
+/// Loads what the shelf holds, and leaves it there. The base is decoded and the changes are applied
+/// to it, in O(bytes) and O(log n) a change. If what is held is no store, its first fault is
+/// returned. A crash within the call leaves what a crash before it may leave.
+///
+/// Fails with `Failed` only if the shelf's count of faults rose, and with `NoMemory` if memory runs
+/// out in the shelf or the store.
 pub fn load<F: Shelf>(alloc: Global, shelf: &mut F) -> Result<Held, ShelfStop>
     requires { F.faults shelf.old < 2 ^ 64 - 1 }
     ensures exact { IfOk result (λ held. (s : Stored) → F.sight.held shelf.old ≡ Some s → held ≡ found s) }
@@ -121,7 +126,8 @@ pub fn load<F: Shelf>(alloc: Global, shelf: &mut F) -> Result<Held, ShelfStop>
     }
 }
 
-/// What is kept of a store that can have an image is loaded again, and its objects stand at keys.
+/// Proves that what is stored of a store that can be written as an image is found again by `load`,
+/// and that its objects are at keys.
 pub fn loads()
     ensures again { LoadsAgain }
     ensures keys { (c : Content) → IsContent c → AreAtKeys c }

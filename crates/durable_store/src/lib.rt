@@ -1,16 +1,19 @@
-//! A store that a shelf keeps: what is held, and what is kept of the work of a command, or answered.
+//! A store on a shelf: loads what the shelf holds, and saves what a command changed.
 //!
 //! # What is proved
 //!
-//! `load`, `loads`, `save`, `obey`: `load` gives what is held, which stays: nothing, the store whose
-//! image the base is with the changes done on it, or the first fault by number and place (`found`); a
-//! store that it gives can have an image, so its next upload id is at most 2^62, and a crash leaves it.
-//! What is kept of a store that can have an image is found again, where it is small and its next upload
-//! id is at most 2^62 (`loads`). `save` keeps a store's image and then each change of what was sent, by
-//! one call each; after an error the shelf holds what it held, or the store with the first changes.
-//! `obey` says what a work says, with the shelf not called, or keeps what it keeps, with the status,
-//! the text and what was sent. A crash within a call leaves what one before might, or a moment of what
-//! is saved. The shelf's count rose exactly where it failed.
+//! - `load` returns what the shelf holds, and leaves it there: nothing, the store whose image is
+//!   the base, with the changes applied to it, or the first fault by number and place (`found`). A
+//!   store that it returns can be written as an image, so its next upload id is at most 2^62, and a
+//!   crash leaves it.
+//! - `loads`: what is stored of a store that can be written as an image is found again, if it is
+//!   small and its next upload id is at most 2^62.
+//! - `save` stores a store's image and then each change of what was sent, with one call each. After
+//!   an error the shelf holds what it held, or the store with the first changes.
+//! - `obey` does the work of a command. Either it says a text, and does not call the shelf; or it
+//!   saves, and returns the status, the text and what was sent.
+//! - A crash within a call leaves what a crash before might leave, or some point of what is saved.
+//!   The shelf's count of faults rose exactly if it failed.
 #![tactic(auto)]
 
 mod answers;

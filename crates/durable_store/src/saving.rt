@@ -13,10 +13,14 @@ use s3_types::Journal;
 use shelf::kept::{Shelf, ShelfStop};
 use std::alloc::Global;
 
-/// Keeps a store with what was sent to it in event 0: its image in place of what the shelf holds, and then each change of
-/// the journal by one call. At Ok a crash leaves all of them. After an error the shelf holds what it held, or the store
-/// with the first of the changes. A crash within the call leaves what one before it may leave, or one of the moments
-/// between. Failed comes only where the shelf's count of faults rose, and NoMemory where the image or an append found none.
+/// Saves a store with what was sent to it in event 0. First its image replaces what the shelf
+/// holds, and then the shelf takes each change of the journal with one call. After `Ok` a crash
+/// leaves all of them. A crash within the call leaves what a crash before it may leave, or some
+/// point between two changes.
+///
+/// Fails with `Failed` only if the shelf's count of faults rose, and with `NoMemory` if memory runs
+/// out for the image or an append. After an error the shelf holds what it held, or the store with
+/// the first of the changes.
 pub fn save<F: Shelf>(
     alloc: Global,
     shelf: &mut F,

@@ -6,8 +6,8 @@ use s3_service::Service;
 use s3_types::{Bytes, Journal};
 use std::alloc::{AllocError, Global};
 
-/// What is answered to a command: the status that is due, what is to be written, where that is not the status's own text, and
-/// what was sent.
+/// The answer to a command: its status, the text to write if that is not the status's own, and what
+/// was sent.
 #[derive(Drop)]
 pub struct Answer {
     pub due: Status,
@@ -15,12 +15,13 @@ pub struct Answer {
     pub sent: Journal,
 }
 
-/// What a command is to do.
+/// What a command is to do after it ran in memory.
 #[derive(Drop)]
 pub enum Work {
-    /// To answer so.
+    /// To give this answer.
     Says(Answer),
-    /// To keep a store with what the sendings changed of it, and then to end with Done and a text.
+    /// To save a store with the changes that were sent to it, and then to end with `Done` and a
+    /// text.
     Saves {
         opening: Service,
         text: Bytes,
@@ -28,7 +29,8 @@ pub enum Work {
     },
 }
 
-/// The line that tells of what is no store: `image fault NUMBER at PLACE`. Only want of memory is an error.
+/// The line that reports what is no store: `image fault NUMBER at PLACE`. Fails only if memory runs
+/// out.
 #[tactic(auto, unfolding(crate::specs::Stores::fault_text))]
 pub fn fault_text(alloc: Global, number: u8, place: u64) -> Result<Bytes, AllocError>
     ensures { IfOk result (λ text. text ≡ fault_text number place) }

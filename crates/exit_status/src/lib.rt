@@ -1,8 +1,9 @@
-//! The statuses that the program ends with.
+//! The exit statuses of the program: the number of each, and the text that some of them print.
 //!
 //! # What is proved
 //!
-//! `Status`: Its number, 0 to 9, and the text of one that always has the same.
+//! - `Status::code`: returns the number of a status, 0 to 9.
+//! - `Status::own_text`: returns the text of a status that always prints the same text.
 #![tactic(auto)]
 
 mod statuses;

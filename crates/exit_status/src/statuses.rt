@@ -1,33 +1,34 @@
 ghost use Rattle.std.specs.Prelude.{◌≡◌, option_map};
 ghost use Rattle.exit_status.specs.Statuses.{code, own_text};
 
-/// The statuses that the program ends with.
+/// The exit statuses of the program.
 #[derive(Clone, Copy, PartialEq, Eq)]
 pub enum Status {
-    /// The command did its work; of a job, its commit ended so that all stands.
+    /// The command did its work. For a job: its commit published everything.
     Done,
-    /// The command was refused; of a job, its commit did not end so, for a cause of its own.
+    /// The command was refused. For a job: its commit ended in another way, for a reason of its
+    /// own.
     Refused,
     /// The words are no command.
     Usage,
-    /// The input failed.
+    /// Reading the input failed.
     ReadFault,
-    /// The output failed.
+    /// Writing the output failed.
     WriteFault,
-    /// What keeps the store failed.
+    /// The device that keeps the store failed.
     ShelfFault,
-    /// The input is no script.
+    /// The input is not a valid script.
     BadScript,
-    /// What is kept is no store.
+    /// The stored bytes are not a valid store.
     BadImage,
-    /// A request of the job's deciding operation was lost past its retries.
+    /// A request of the operation that decides the job was lost, and its retries are exhausted.
     StoreFault,
-    /// Memory was wanting.
+    /// Memory ran out.
     NoMemory,
 }
 
 impl Status {
-    /// The number that the program ends with, 0 to 9.
+    /// Returns the number that the program exits with, 0 to 9.
     pub fn code(self) -> u8
         ensures { result ≡ code self }
     {
@@ -45,7 +46,7 @@ impl Status {
         }
     }
 
-    /// The text of a status that always has the same.
+    /// Returns the text of a status that always prints the same text, and None for the others.
     pub fn own_text(self) -> Option<&'static str>
         ensures { option_map (λ text. text.now) result ≡ own_text self }
     {

@@ -1,4 +1,4 @@
--- What a log stands for while a change is appended to it.
+-- What the file of a log stands for during an append.
 use Rattle.folder_log.proofs.Moments.{goes_on, started}
 use Rattle.folder_log.specs.Disk.{Elapses, File, IsRead, Only, Settles, ShowsNow, file_length}
 use Rattle.folder_log.specs.Kept.{IsAtRest, IsClosed, IsLeftOf, IsPrepared, IsSettled, IsSure, Leaves, TakesAppends, as_holding, holding_of}
@@ -28,7 +28,7 @@ module _ (base : List ℕ) (changes : List Request) (legal : AllByRecursion IsCh
   abbrev here : Held
   here = record { base = base; changes = changes }
 
-  -- a front with a gate that is not open behind it
+  -- A file whose gate after the changes is not open stands for these changes.
   pub closed_holds : (gate : ℕ) (rest : List ℕ) → gate ≢ 1 → length (front ++ gate ∷ rest) < 2 ^ 64
       → holding_of (Some (front ++ gate ∷ rest)) ≡ Stands here
   closed_holds gate rest closed fits =
@@ -59,14 +59,14 @@ module _ (base : List ℕ) (changes : List Request) (legal : AllByRecursion IsCh
     opened_more = flat_map-append (λ c. 1 ∷ record_of c) changes (change ∷ []) ∙ ap (λ (l : List ℕ). opened changes ++ l)
         (append-nil (1 ∷ record_of change))
 
-    -- an open gate with the record behind it is one change more
+    -- An open gate and the record after it are one change more.
     pub opened_is : (rest : List ℕ) → front ++ 1 ∷ (record_of change ++ rest) ≡ (headed base ++ opened more) ++ rest
     opened_is rest =
         sym (append_assoc front (1 ∷ record_of change) rest)
         ∙ ap (λ (l : List ℕ). l ++ rest) (append_assoc (headed base) (opened changes) (1 ∷ record_of change) ∙ ap
         (λ (l : List ℕ). headed base ++ l) (sym opened_more))
 
--- a front with any gate and a record behind it stands for the changes with the record's or without
+-- With any gate and the record after it, the file stands for the changes with or without the record's.
 pub gate_holds : (base : List ℕ) (changes : List Request) (legal : AllByRecursion IsChange changes) (change : Request) → IsChange change
     → (gate : ℕ) → length ((headed base ++ opened changes) ++ gate ∷ (record_of change ++ 0 ∷ [])) < 2 ^ 64
     → (holding_of (Some ((headed base ++ opened changes) ++ gate ∷ (record_of change ++ 0 ∷ []))) ≡ Stands
@@ -86,7 +86,7 @@ gate_holds base changes legal change is gate fits = elim (cases_eq gate 1) [
 
 -- ---- a disk that is settled
 
--- what a crash leaves of a settled disk is what is held
+-- After a crash, a settled disk holds what it held.
 pub settled_holds : (seen : Option File) (leaves : File → Type 0) (gate : ℕ) → IsSettled seen leaves gate
     → IsDurable (stored seen) (Leaves leaves)
 settled_holds seen leaves gate h = grind arith
@@ -95,7 +95,7 @@ durable_before : (held : Option Stored) (change : Request) (leaves : Holding →
     → IsBeforeOrAfter held change h
 durable_before held change leaves g h e = grind arith
 
--- what a crash leaves before the first write
+-- What a crash before the first write leaves.
 pub before_first : (seen : Option File) (leaves : File → Type 0) (gate : ℕ) (change : Request) → IsSettled seen leaves gate → (h : Holding)
     → Leaves leaves h → IsBeforeOrAfter (stored seen) change h
 before_first seen leaves gate change s h left = durable_before (stored seen) change (Leaves leaves) (settled_holds seen leaves gate s) h
@@ -126,7 +126,7 @@ module _ (change : Request) (written : List ℕ) (gate end : ℕ) (prepared : Is
     written_fits : (g : ℕ) → length (before ++ g ∷ written) < 2 ^ 64
     written_fits g = omega (arith, rest.at, prepared.end_is, prepared.within, length-append before (g ∷ written))
 
-    -- what a crash within the append left
+    -- What a crash during the append leaves: the changes of before, with or without the new one.
     pub left_holds : (c : File) → IsLeftOf before written c → (holding_of c ≡ holding_of (Some bytes))
         ⊎ (holding_of c ≡ grown (holding_of (Some bytes)) change)
     left_holds c (inl left) =
@@ -152,7 +152,7 @@ module _ (change : Request) (written : List ℕ) (gate end : ℕ) (prepared : Is
     after_is = ap (λ (l : List ℕ). before ++ 1 ∷ l) prepared.text ∙ opened_is rest.base rest.changes rest.legal change prepared.legal
         (0 ∷ [])
 
-    -- what is held once the gate is open
+    -- Once the gate is open, the file holds the new change.
     pub after_holds : holding_of (Some (before ++ 1 ∷ written)) ≡ grown (holding_of (Some bytes)) change
     after_holds =
         ap (λ (l : List ℕ). holding_of (Some l)) after_is
@@ -160,7 +160,7 @@ module _ (change : Request) (written : List ℕ) (gate end : ℕ) (prepared : Is
         (omega arith) (omega (arith, written_fits 1, ap length after_is))
         ∙ sym grows
 
-    -- the file is a log at rest again
+    -- After that the file is a log at rest again.
     pub after_rests : IsAtRest end (before ++ 1 ∷ written)
     after_rests =
         let text_len : length written ≡ length (record_of change) + 1 = ap length prepared.text ∙ length-append (record_of change) (0 ∷ [])
@@ -182,25 +182,25 @@ module _ (change : Request) (written : List ℕ) (gate end : ℕ) (prepared : Is
           fits = written_fits 1;
         }
 
--- ---- what is said of the shelf
+-- ---- the clauses of the shelf
 
--- what is settled where appends are taken
+-- If appends are taken, the disk is settled.
 pub settled_at : (seen : Option File) (leaves : File → Type 0) (place : Option ℕ) (gate : ℕ) → place ≡ Some gate
     → TakesAppends seen leaves place → IsSettled seen leaves gate
 settled_at seen leaves place gate is s = subst (TakesAppends seen leaves) is s
 
 module _ {D S : Type 0} (disk : S → D) (moment : D → ℕ) (left_since : D → ℕ → File → Type 0) where
-  -- what a crash leaves of the disk, as what the shelf then holds
+  -- What a crash leaves of the disk, as what the shelf then holds.
   pub lifted : (old new : S) (P : File → Type 0) (Q : Holding → Type 0) → LeavesOnly moment left_since (disk old) (disk new) P
       → ((c : File) → P c → Q (holding_of c)) → LeavesOnly (λ s. moment (disk s)) (λ s t h. Leaves (left_since (disk s) t) h) old new Q
   lifted old new P Q h g = grind arith
 
-  -- nothing is said where the disk does not tell
+  -- If the disk shows nothing, the clause says nothing.
   pub untold : (old new : S) (Q : Holding → Type 0) → moment (disk old) ≤ moment (disk new) → ((h : Holding) → Q h)
       → LeavesOnly (λ s. moment (disk s)) (λ s t h. Leaves (left_since (disk s) t) h) old new Q
   untold old new Q later all = record { later = later; each = λ h left. all h; before = λ t h le left. inr (all h) }
 
-  -- an append, whatever became of it
+  -- What a crash leaves of an append, whether it succeeded or failed.
   pub append_leaves : (old new : S) (leaves : File → Type 0) (change : Request) (written : List ℕ) (gate end : ℕ) (seen : Option File)
       → IsPrepared gate change written end → IsSettled seen leaves gate → moment (disk old) ≤ moment (disk new)
       → ((front : List ℕ) → IsClosed front gate seen leaves → LeavesOnly moment left_since (disk old) (disk new) (IsLeftOf front written))
@@ -213,7 +213,7 @@ module _ {D S : Type 0} (disk : S → D) (moment : D → ℕ) (left_since : D �
       (run (headed s.0.base ++ opened s.0.changes) (closed_of bytes leaves gate s))
       (left_holds change written gate end prepared bytes s.0)
 
--- what is seen after an append that was not answered well
+-- What the disk shows after a failed append.
 pub append_fails : (seen now : Option File) (change : Request) (leaves left : File → Type 0) (gate end : ℕ) (written : List ℕ)
     → IsPrepared gate change written end → IsSettled seen leaves gate → is_some now ≡ is_some seen
     → ((c : File) → now ≡ Some c → left c) → ((front : List ℕ) → IsClosed front gate seen leaves → (c : File) → left c
@@ -231,7 +231,7 @@ append_fails (Some (Some bytes)) (Some c) change leaves left gate end written pr
     told_of None = refl
     told_of (Some bytes) = refl
 
--- what is seen after an append
+-- What the disk shows after an append.
 pub append_shows : (seen now : Option File) (change : Request) (leaves left : File → Type 0) (gate end : ℕ) (written : List ℕ)
     → IsPrepared gate change written end → IsSettled seen leaves gate → is_some now ≡ is_some seen → Settles now left
     → ((front : List ℕ) → IsClosed front gate seen leaves → now ≡ Some (Some (front ++ 1 ∷ written)))
@@ -287,7 +287,7 @@ fresh_rests base fits =
       fits = omega (arith, fits, len, ap length (rest_is base [] tt), length-append (headed base ++ opened []) (0 ∷ []));
     }
 
--- what is seen after a swap
+-- What the disk shows after a swap.
 pub swap_shows : (seen now : Option File) (left : File → Type 0) (file base : List ℕ) → file ≡ log base [] → length base < 2 ^ 63
     → ShowsNow seen now file → Only (Some file) left → HoldsFresh (stored seen) (stored now) base × IsSettled now left (16 + length base)
 swap_shows None now left file base is fits shows only = (
@@ -303,7 +303,7 @@ swap_shows (Some f) now left file base is fits shows only = (
 )
 
 module _ {D S : Type 0} (disk : S → D) (moment : D → ℕ) (left_since : D → ℕ → File → Type 0) where
-  -- a swap, whatever became of it
+  -- What a crash leaves of a swap, whether it succeeded or failed.
   pub swap_leaves : (old new : S) (leaves left : File → Type 0) (file base : List ℕ) → file ≡ log base [] → length base < 2 ^ 63
       → ((c : File) → left_since (disk old) (moment (disk old)) c → leaves c)
       → Elapses (moment (disk old)) (moment (disk new)) (left_since (disk old)) (left_since (disk new)) (λ c. left c ⊎ (c ≡ Some file))
@@ -311,11 +311,11 @@ module _ {D S : Type 0} (disk : S → D) (moment : D → ℕ) (left_since : D �
       → LeavesOnly (λ s. moment (disk s)) (λ s t h. Leaves (left_since (disk s) t) h) old new (λ h. Leaves leaves h ⊎ (h ≡ fresh base))
   swap_leaves old new leaves left file base h g e f p = grind (arith, goes_on, started, lifted, fresh_holds)
 
--- what was read is not too large
+-- The file that was read is not too large.
 pub read_small : (seen : Option File) (read : File) → IsRead seen read → file_length read ≤ most_file
 read_small seen read h = grind arith
 
--- a load that leaves what a read gives begins no appends
+-- A load does not make the shelf take appends.
 pub begins_none : (seen now : Option File) (leaves left : File → Type 0) (gate : Option ℕ) → IsSure seen leaves gate → now ≡ seen
     → TakesAppends now left gate → TakesAppends seen leaves gate
 begins_none seen now leaves left None sure same takes = absurd takes

@@ -1,4 +1,4 @@
--- What a crash leaves by choice is one of what it may leave.
+-- The file that a crash leaves by choice is one that it may leave.
 use Rattle.folder_log.specs.Calls.{IsImage, IsTornBy, Recorded, after, after_all, at_rest, filled, is_within, left_by, state_in, wrote}
 use Rattle.folder_log.specs.Disk.{File, IsTorn, file_after, overwritten}
 use Rattle.folder_log.specs.Images.{after_torn, shown, span, torn_last, torn_same}
@@ -13,7 +13,7 @@ use Rattle.std.proofs.Common.{length-take, refl, replicate, subst, sym, take, tr
 use Rattle.std.proofs.lemmas.List.{at_drop_more, length-replicate}
 use Rattle.std.specs.Prelude.{IfOk}
 
--- both files are there and have one length, or neither is there
+-- Both files exist and have the same length, or neither exists.
 abbrev AreAlike : File → File → Type 0
 AreAlike None None = Unit {0}
 AreAlike None (Some b) = ⊥
@@ -58,7 +58,7 @@ filled_last : (byte : ℕ) (rs : List Span) (r : Span) (file : File)
 filled_last byte [] r file = refl
 filled_last byte (x ∷ rs) r file = filled_last byte rs r (file_after x.place (replicate x.length byte) file)
 
--- the file with its ranges filled is an image, as long as the one that a read gives
+-- The file with its ranges filled is one that a crash may leave, and as long as the one that a read gives.
 abbrev AreFilled : ℕ → State → Type 0
 AreFilled byte s = IsImage s (filled byte s.ranges s.synced) × AreAlike (filled byte s.ranges s.synced) s.now
 
@@ -97,7 +97,7 @@ left_image d Lost = lost (state_in d).ranges (state_in d).synced
 left_image d Kept = shown d
 left_image d (Torn byte) = (fill_all byte (at_rest d.first) d.calls (refl, alike d.first)).0
 
--- the next range is filled
+-- The next range is filled.
 pub fill_next : (byte : ℕ) (rs : List Span) (i : ℕ) (d : Span) (torn next : File) (bytes : List ℕ) → i < length rs
     → next ≡ file_after (get_or rs i d).place bytes torn → bytes ≡ replicate (get_or rs i d).length byte
     → filled byte (drop (i + 1) rs) next ≡ filled byte (drop i rs) torn
@@ -105,7 +105,7 @@ fill_next byte rs i d torn next bytes below is same =
     ap (filled byte (drop (i + 1) rs)) (is ∙ ap (λ (l : List ℕ). file_after (get_or rs i d).place l torn) same) ∙ sym
     (at_drop_more (λ (l : List Span). filled byte l torn) rs i d below)
 
--- the file that was chosen, where memory was found for it
+-- The chosen file, if memory did not run out.
 pub chosen_image : {E : Type 0} (r : Result File E) (d : Recorded) (choice : Choice) (file : File) → IfOk r (λ left. left ≡ file)
     → file ≡ left_by choice (state_in d) → IfOk r (λ left. IsImage (state_in d) left)
 chosen_image (Ok left) d choice file is chosen = subst (IsImage (state_in d)) (sym (is ∙ chosen)) (left_image d choice)

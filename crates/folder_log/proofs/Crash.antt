@@ -1,4 +1,4 @@
--- What a crash leaves in the two steps of an append, as bytes.
+-- What a crash leaves during the two steps of an append, as bytes.
 use Rattle.folder_log.specs.Disk.{File, IsTorn, Torn, overwritten}
 use Rattle.folder_log.specs.Kept.{IsLeftOf}
 use Rattle.std.proofs.Common.{List, None, Some, ap, append_assoc, arith, drop, get_or, inl, inr, length, length-append, length-drop, sym}
@@ -15,7 +15,7 @@ module _ (front : List ℕ) (gate : ℕ) (at : length front ≡ gate) where
   pub length-rest_at : length rest_at ≡ gate + 1
   length-rest_at = omega (arith, at, length-append front (0 ∷ []))
 
-  -- the closed gate stands in each outcome of the first write
+  -- The closed gate is in each file that the first write may leave.
   torn_behind : (n : ℕ) (c : List ℕ) → Torn (gate + 1) n rest_at c → c ≡ front ++ 0 ∷ drop (gate + 1) c
   torn_behind n c torn =
       let first : take (gate + 1) c ≡ rest_at = torn.before ∙ take_all _ _ (omega (arith, length-rest_at)) in
@@ -50,7 +50,7 @@ module _ (front : List ℕ) (gate : ℕ) (at : length front ≡ gate) where
     pub length-staged : length staged ≡ gate + 1 + length written
     length-staged = omega (arith, at, length-append front (0 ∷ written))
 
-    -- the record stands whole in each outcome of the second write
+    -- The whole record is in each file that the second write may leave.
     torn_gate : (c : List ℕ) → Torn gate 1 staged c → c ≡ front ++ get_or c gate 0 ∷ written
     torn_gate c torn =
         let g = get_or c gate 0 in

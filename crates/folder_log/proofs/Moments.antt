@@ -3,7 +3,7 @@ use Rattle.folder_log.specs.Disk.{Elapses, FewMore, File, more}
 use Rattle.shelf.specs.Logged.{LeavesOnly}
 use Rattle.std.proofs.Common.{ap, arith, inl, ℕ, ◌+◌, ◌∙◌, ◌≡◌, ◌≤◌}
 
--- counts of calls, one run behind another
+-- m more calls and then n more are m + n more.
 pub more_more : (m n c : ℕ) → more n (more m c) ≡ more (m + n) c
 more_more m n c = omega arith
 
@@ -20,22 +20,22 @@ pub fewer : (most all c d : ℕ) → most ≤ all → FewMore most c d → FewMo
 fewer most all c d le few = (few.0, few.1, omega (arith, few.2, le), few.3)
 
 module _ {D : Type 0} (moment : D → ℕ) (left_since : D → ℕ → File → Type 0) where
-  -- before the first call
+  -- Before the first call.
   pub started : (old : D) (P : File → Type 0) → ((c : File) → left_since old (moment old) c → P c) → LeavesOnly moment left_since old old P
   started old P here = record { later = omega arith; each = here; before = λ t c le left. inl left }
 
-  -- one call more, after which a crash leaves what has P
+  -- After one call more, if a crash then leaves what has P.
   pub goes_on : (old mid new : D) (P may_leave : File → Type 0) → LeavesOnly moment left_since old mid P
       → Elapses (moment mid) (moment new) (left_since mid) (left_since new) may_leave
       → ((c : File) → may_leave c → P c) → LeavesOnly moment left_since old new P
   goes_on old mid new P may_leave h g e = grind arith
 
-  -- one run and then another
+  -- One run after another.
   pub then_on : (old mid new : D) (P Q R : File → Type 0) → LeavesOnly moment left_since old mid P → LeavesOnly moment left_since mid new Q
       → ((c : File) → P c → R c) → ((c : File) → Q c → R c) → LeavesOnly moment left_since old new R
   then_on old mid new P Q R h g e f = grind arith
 
-  -- what is known of less is known of more
+  -- If P implies R, what leaves only P leaves only R.
   pub widened : (old new : D) (P R : File → Type 0) → LeavesOnly moment left_since old new P → ((c : File) → P c → R c)
       → LeavesOnly moment left_since old new R
   widened old new P R h g = grind arith

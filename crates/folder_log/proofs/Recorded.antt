@@ -14,7 +14,7 @@ pub set_now : (first : File) (calls new : List DiskCall) (call : DiskCall) (set 
 set_now first calls new call set next more is now =
     ap (λ (o : Option State). last_of o first) is ∙ now ∙ sym (ap (state_of first) more ∙ after_last (at_rest first) calls call)
 
--- whether the call was kept or not
+-- The call was kept, or was not.
 pub set_either : {T E : Type 0} (r : Result T E) (first : File) (calls new : List DiskCall) (call : DiskCall) (old set : Option State)
     (next : State) → OnOk r (new ≡ calls ++ call ∷ []) → OnOk r (set ≡ Some next) → OnErr r (new ≡ calls) → OnErr r (set ≡ old)
     → last_of old first ≡ state_of first calls → next ≡ after (state_of first calls) call → last_of set first ≡ state_of first new
@@ -22,7 +22,7 @@ set_either (Ok x) first calls new call old set next more is same kept before now
 set_either (Err e) first calls new call old set next more is same kept before now = ap (λ (o : Option State). last_of o first) kept ∙ before
     ∙ sym (ap (state_of first) same)
 
--- the state after one call more
+-- The state after one call more.
 pub state_is : (new : Recorded) (first : File) (calls : List DiskCall) (call : DiskCall) → new.first ≡ first
     → new.calls ≡ calls ++ call ∷ [] → state_in new ≡ after (state_of first calls) call
 state_is new first calls call same more = (λ i. state_of (same i) (more i)) ∙ after_last (at_rest first) calls call
@@ -31,7 +31,7 @@ pub wrote_alike : (s : State) (synced now : File) (ranges : List Span) (place : 
     → ranges ≡ s.ranges → wrote (record { synced = synced; now = now; ranges = ranges }) place bytes ≡ wrote s place bytes
 wrote_alike s synced now ranges place bytes a b c = λ i. wrote (record { synced = a i; now = b i; ranges = c i }) place bytes
 
--- the state that a write leaves
+-- The state after a write.
 pub write_now : (s next : State) (place : ℕ) (bytes copy : List ℕ) → next ≡ wrote s place bytes → copy ≡ bytes → IsWithin place (Some s.now)
     → next ≡ after s (Write place copy)
 write_now s next place bytes copy h g e = grind arith

@@ -1,4 +1,5 @@
--- What the calls of a disk in memory leave: what is on the disk, what a read gives, and the ranges that were written since the last sync.
+-- The effect of the calls of a disk in memory: what is on the disk, what a read gives, and the ranges that were written since the last
+-- sync.
 use Rattle.std.specs.Prelude.{◌≡◌, ℕ, ◌≤◌, nat_le, Bool, false, cond, List, [], ◌∷◌, ◌++◌, length, replicate, take, Option, Some, None}
 use Rattle.folder_log.specs.Disk.{File, file_after, IsTorn}
 use Rattle.shelf.specs.declared.calls.Calls.{Calls}
@@ -9,16 +10,16 @@ use Rattle.folder_log.specs.declared.state.DiskCall.TheVariants.{Swap, Write, Sy
 use Rattle.folder_log.specs.declared.state.Choice.{Choice}
 use Rattle.folder_log.specs.declared.state.Choice.TheVariants.{Lost, Kept, Torn}
 
--- all is on the disk
+-- The state in which all of this file is on the disk.
 abbrev pub at_rest : File → State
 at_rest file = record { synced = file; now = file; ranges = [] }
 
--- there is a file and the place is not past its end
+-- True if there is a file and the place is not past its end.
 abbrev pub is_within : ℕ → File → Bool
 is_within at None = false
 is_within at (Some bytes) = nat_le at (length bytes)
 
--- the disk once these bytes were written at a place
+-- The state after these bytes were written at a place.
 abbrev pub wrote : State → ℕ → List ℕ → State
 wrote s place bytes = record {
   synced = s.synced;
@@ -27,61 +28,61 @@ wrote s place bytes = record {
       { place = place; length = length bytes } ∷ [];
 }
 
--- after one call that was answered well
+-- The state after one call that succeeded.
 abbrev pub after : State → DiskCall → State
 after s (Swap bytes) = at_rest (Some bytes)
 after s (Write place bytes) = cond (is_within place s.now) (wrote s place bytes) s
 after s Sync = at_rest s.now
 
--- the disk after these calls, all answered well
+-- The state after these calls, if all succeeded.
 abbrev pub after_all : State → List DiskCall → State
 after_all s [] = s
 after_all s (c ∷ cs) = after_all (after s c) cs
 
--- after all calls of a disk that was made with this file
+-- The state of a disk that was made with this file, after all these calls.
 abbrev pub state_of : File → List DiskCall → State
 state_of first calls = after_all (at_rest first) calls
 
--- one range after the other was torn
+-- The file c is left of the file `old` after one range after another was torn.
 abbrev pub IsTornBy : List Span → File → File → Type 0
 IsTornBy [] old c = c ≡ old
 IsTornBy (r ∷ rs) old c = (d : File) × IsTorn r.place r.length old d × IsTornBy rs d c
 
--- a crash in this state may leave the file
+-- A crash in this state may leave the file c.
 abbrev pub IsImage : State → File → Type 0
 IsImage s c = IsTornBy s.ranges s.synced c
 
--- a crash after one of the calls from the t-th on might have left the file
+-- A crash after one of the calls from the t-th on may have left the file c.
 abbrev pub LeftSince : File → List DiskCall → ℕ → File → Type 0
 LeftSince first calls t c = (k : ℕ) × (t ≤ k) × (k ≤ length calls) × IsImage (state_of first (take k calls)) c
 
--- a file with ranges filled with a byte, one after the other
+-- The file with each of the ranges filled with this byte, one after another.
 abbrev pub filled : ℕ → List Span → File → File
 filled byte [] file = file
 filled byte (r ∷ rs) file = filled byte rs (file_after r.place (replicate r.length byte) file)
 
--- what a crash leaves, by what becomes of the ranges that were not synced
+-- The file that a crash leaves, for a choice of what becomes of the ranges that were not synced.
 abbrev pub left_by : Choice → State → File
 left_by Lost s = s.synced
 left_by Kept s = s.now
 left_by (Torn byte) s = filled byte s.ranges s.synced
 
--- a disk in memory: the file that it was made with, its calls that were answered well and may have changed what a crash leaves, and all its
--- calls by number
+-- A disk in memory: the file with which it was made, its calls that succeeded and may have changed what a crash leaves, and the counts of
+-- all its calls.
 pub record Recorded : Type 0 where
   pub first : File
   pub calls : List DiskCall
   pub turns : Calls
 
--- the state of a disk in memory, by its calls so far
+-- The state of a disk in memory, from its calls so far.
 abbrev pub state_in : Recorded → State
 state_in d = state_of d.first d.calls
 
--- a disk in memory with one call more
+-- A disk in memory after one call more.
 abbrev pub recorded : Recorded → DiskCall → Recorded
 recorded d call = record { first = d.first; calls = d.calls ++ call ∷ []; turns = d.turns }
 
--- the state that was set last, or the first file at rest
+-- The state that was set last, or the first file with all of it on the disk.
 abbrev pub last_of : Option State → File → State
 last_of None first = at_rest first
 last_of (Some s) first = s

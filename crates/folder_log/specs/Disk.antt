@@ -1,95 +1,96 @@
--- What a disk of one file holds, what its calls do to that, and what a crash may do between two syncs.
+-- What a disk of one file holds, how its calls change that, and what a crash between two syncs may do.
 use Rattle.std.specs.Prelude.{◌≡◌, ◌⊎◌, ℕ, ◌+◌, ◌-◌, ◌^◌, ◌<◌, ◌≤◌, min, max, List, ◌++◌, length, take, drop, Option, Some, None}
 use Rattle.shelf.specs.Logged.{most_file}
 
--- the bytes of the file, or none where there is no file
+-- The bytes of the file, or None if there is no file.
 abbrev pub File : Type 0
 File = Option (List ℕ)
 
--- how many bytes the file has
+-- The length of the file in bytes.
 abbrev pub file_length : File → ℕ
 file_length None = 0
 file_length (Some bytes) = length bytes
 
--- what is not told is no file
+-- If the disk shows nothing, it does not show this file.
 pub untold : (c : File) → (let seen : Option File = None in seen ≡ Some c) → ⊥
 untold c e = cc
 
--- what was read is the file, where it is told, and is not too large
+-- What was read is the file, if the disk shows it, and is not too large.
 abbrev pub IsRead : Option File → File → Type 0
 IsRead None read = file_length read ≤ most_file
 IsRead (Some file) read = (file ≡ read) × (file_length file ≤ most_file)
 
--- the file is longer than what is read
+-- The file is longer than a read takes.
 abbrev pub IsTooLong : Option File → Type 0
 IsTooLong None = Unit {0}
 IsTooLong (Some file) = most_file < file_length file
 
--- these are the file's bytes now, where it is told
+-- These are now the bytes of the file, if the disk shows it.
 abbrev pub ShowsNow : Option File → Option File → List ℕ → Type 0
 ShowsNow None after bytes = after ≡ None
 ShowsNow (Some file) after bytes = after ≡ Some (Some bytes)
 
--- there is a file and the place is not past its end, where it is told
+-- There is a file, and the place is not past its end, if the disk shows it.
 abbrev pub IsWithin : ℕ → Option File → Type 0
 IsWithin at None = Unit {0}
 IsWithin at (Some None) = ⊥
 IsWithin at (Some (Some bytes)) = at ≤ length bytes
 
--- bytes with others written over them at a place, and past their end
+-- The old bytes with these bytes written over them at a place, perhaps past their end.
 abbrev pub overwritten : ℕ → List ℕ → List ℕ → List ℕ
 overwritten at bytes old = take at old ++ bytes ++ drop (at + length bytes) old
 
--- a file with bytes written over it
+-- The file with these bytes written over it at a place.
 abbrev pub file_after : ℕ → List ℕ → File → File
 file_after at bytes None = None
 file_after at bytes (Some old) = Some (overwritten at bytes old)
 
--- the file has these bytes at the place now, where it is told
+-- The file now has these bytes at the place, if the disk shows it.
 abbrev pub Writes : ℕ → List ℕ → Option File → Option File → Type 0
 Writes at bytes None after = after ≡ None
 Writes at bytes (Some file) after = after ≡ Some (file_after at bytes file)
 
--- after a write of n bytes that a crash cuts short: any bytes in the range and past the old end, the same elsewhere
+-- `new` may be left of `old` by a write of n bytes that a crash cuts short: any bytes in the range and past the old end, the same
+-- elsewhere.
 pub record Torn (at n : ℕ) (old new : List ℕ) : Type 0 where
   pub before : take at new ≡ take at old
   pub after : drop (at + n) new ≡ drop (at + n) old
   pub no_shorter : length old ≤ length new
   pub no_longer : length new ≤ max (length old) (at + n)
 
--- what a crash may leave of the file in the midst of a write of n bytes
+-- A crash during a write of n bytes may leave the file `new`.
 abbrev pub IsTorn : ℕ → ℕ → File → File → Type 0
 IsTorn at n None new = new ≡ None
 IsTorn at n (Some old) None = ⊥
 IsTorn at n (Some old) (Some new) = Torn at n old new
 
--- each new outcome of a crash is an old one after a step
+-- Each file that a crash may now leave comes by one step from a file that it could leave before.
 abbrev pub Follows : (File → File → Type 0) → (File → Type 0) → (File → Type 0) → Type 0
 Follows step old new = (c : File) → new c → (d : File) × old d × step d c
 
--- a crash leaves this file and no other
+-- A crash leaves this file and no other.
 abbrev pub Only : File → (File → Type 0) → Type 0
 Only file leaves = (c : File) → leaves c → c ≡ file
 
--- a crash leaves the file and no other, where it is told
+-- A crash leaves this file and no other, if the disk shows it.
 abbrev pub Settles : Option File → (File → Type 0) → Type 0
 Settles None leaves = Unit {0}
 Settles (Some file) leaves = Only file leaves
 
--- a count of calls after so many more, at most 2^64 - 1
+-- The count of calls after n more, but at most 2^64 - 1.
 abbrev pub more : ℕ → ℕ → ℕ
 more n count = min (count + n) (2 ^ 64 - 1)
 
--- some calls more were made, at most so many
+-- At least one and at most `most` more calls were made.
 abbrev pub FewMore : (most before after : ℕ) → Type 0
 FewMore most before after = (n : ℕ) × (1 ≤ n) × (n ≤ most) × (after ≡ more n before)
 
--- a folder's file as a disk: how many calls were made of it, and how many of them failed
+-- A folder's file as a disk: how many calls were made, and how many of them failed.
 pub record Counts : Type 0 where
   pub calls : ℕ
   pub faults : ℕ
 
--- time goes on: a crash since t might have left what it might have left before, or what it may leave now
+-- Time does not go back. A crash since t may have left what it could before, or what it may leave now.
 pub record Elapses (before now : ℕ) (past since : ℕ → File → Type 0) (may_leave : File → Type 0) : Type 0 where
   pub later : before ≤ now
   pub nothing_else : (t : ℕ) (c : File) → t ≤ before → since t c → past t c ⊎ may_leave c

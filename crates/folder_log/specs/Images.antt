@@ -23,16 +23,16 @@ torn_split : (rs : List Span) (r : Span) (a c : File) → IsTornBy (rs ++ r ∷ 
 torn_split [] r a c h = (a, refl, subst (λ (f : File). IsTorn r.place r.length a f) (sym h.2) h.1)
 torn_split (x ∷ rs) r a c h = let s = torn_split rs r h.0 c h.2 in (s.0, (h.0, h.1, s.1), s.2)
 
--- a range may stay as it is
+-- A torn write may leave the file as it is.
 pub torn_same : (at n : ℕ) (c : File) → IsTorn at n c c
 torn_same at n None = refl
 torn_same at n (Some bytes) = record { before = refl; after = refl; no_shorter = omega arith; no_longer = omega arith }
 
--- the range of a write
+-- The range of a write.
 abbrev pub span : ℕ → List ℕ → Span
 span place bytes = record { place = place; length = length bytes }
 
--- what is written is one of the files that a torn write may leave
+-- A torn write may leave everything that was written.
 written_torn : (at : ℕ) (bytes old : List ℕ) → at ≤ length old → Torn at (length bytes) old (overwritten at bytes old)
 written_torn at bytes old le =
     let first : length (take at old) ≡ at = omega (arith, length-take at old) in
@@ -56,7 +56,7 @@ pub after_torn : (at : ℕ) (bytes : List ℕ) (file : File) → is_within at fi
 after_torn at bytes None h = refl
 after_torn at bytes (Some old) h = written_torn at bytes old (leb-true at (length old) h)
 
--- what a read gives is an image
+-- A crash may leave the file that a read gives.
 image_after : (s : State) (c : DiskCall) → IsImage s s.now → IsImage (after s c) (after s c).now
 image_after s (Write place bytes) h = by (is_within place s.now) refl
   where
@@ -72,7 +72,7 @@ image_now s (c ∷ cs) h = image_now (after s c) cs (image_after s c h)
 pub shown : (d : Recorded) → IsImage (state_in d) (state_in d).now
 shown d = image_now (at_rest d.first) d.calls refl
 
--- a write is followed by what may be left of it
+-- After a write a crash may leave only what a torn write leaves of what it could leave before.
 pub write_follows : (s : State) (place : ℕ) (bytes : List ℕ) → is_within place s.now ≡ true
     → Follows (IsTorn place (length bytes)) (IsImage s) (IsImage (after s (Write place bytes)))
 write_follows s place bytes e c left =

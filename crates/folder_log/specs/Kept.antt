@@ -1,4 +1,4 @@
--- What a log file holds, and how it stands between two changes.
+-- What a log file holds, and its form between two changes.
 use Rattle.folder_log.specs.Disk.{File, Only}
 use Rattle.log_format.specs.Change.{IsChange}
 use Rattle.log_format.specs.Log.{headed, log, opened, record_of}
@@ -13,31 +13,31 @@ use Rattle.std.specs.List.{AllByRecursion}
 use Rattle.std.specs.Option.{option_map}
 use Rattle.std.specs.Prelude.{Err, List, None, Ok, Option, Result, Some, length, ℕ, [], ◌++◌, ◌+◌, ◌<◌, ◌^◌, ◌∷◌, ◌≡◌, ◌≤◌, ◌⊎◌}
 
--- what was read of a file, as what it holds
+-- What a file holds, from the result of reading it.
 abbrev pub as_holding : Result Held LogFault → Holding
 as_holding (Ok held) = Stands held
 as_holding (Err (Bad place)) = BadAt place
 as_holding (Err NoMemory) = Nothing
 
--- what a file holds
+-- What a file holds.
 abbrev pub holding_of : File → Holding
 holding_of None = Nothing
 holding_of (Some bytes) = as_holding (held_in bytes)
 
--- what a file holds, with its two lengths
+-- What a file holds, with its two lengths.
 abbrev pub stored_of : File → Stored
 stored_of None = record { holding = Nothing; base_length = 0; file_length = 0 }
 stored_of (Some bytes) = record { holding = as_holding (held_in bytes); base_length = base_length bytes; file_length = length bytes }
 
--- what a log file holds, with its two lengths, where the disk tells it
+-- What a log file holds, with its two lengths, if the disk shows it.
 abbrev pub stored : Option File → Option Stored
 stored seen = option_map stored_of seen
 
--- what a crash may leave, by the file that it leaves
+-- A crash may leave a file that holds h.
 abbrev pub Leaves : (File → Type 0) → Holding → Type 0
 Leaves leaves h = (file : File) × leaves file × (h ≡ holding_of file)
 
--- a file is a log with a closed gate at this place behind its changes
+-- The file is a log whose closed gate after the changes is at this place.
 pub record IsAtRest (gate : ℕ) (bytes : List ℕ) : Type 0 where
   pub base : List ℕ
   pub changes : List Request
@@ -46,33 +46,33 @@ pub record IsAtRest (gate : ℕ) (bytes : List ℕ) : Type 0 where
   pub legal : AllByRecursion IsChange changes
   pub fits : length bytes < 2 ^ 64
 
--- the file is a log at rest, and a crash leaves it and no other, where it is told
+-- The file is such a log, and a crash leaves it and no other, if the disk shows it.
 abbrev pub IsSettled : Option File → (File → Type 0) → ℕ → Type 0
 IsSettled None leaves gate = Unit {0}
 IsSettled (Some None) leaves gate = ⊥
 IsSettled (Some (Some bytes)) leaves gate = IsAtRest gate bytes × Only (Some bytes) leaves
 
--- the file is a log at rest at the gate that is kept, as long as appends are taken
+-- The shelf takes appends: it keeps the place of a gate, and the file is a log that is settled at that gate.
 abbrev pub TakesAppends : Option File → (File → Type 0) → Option ℕ → Type 0
 TakesAppends seen leaves None = ⊥
 TakesAppends seen leaves (Some gate) = IsSettled seen leaves gate
 
--- where there is a gate, a crash leaves what a read gives, where it is told
+-- If the shelf keeps a gate, a crash leaves only the file that a read gives, if the disk shows it.
 abbrev pub IsSure : Option File → (File → Type 0) → Option ℕ → Type 0
 IsSure seen leaves gate = (place : ℕ) (file c : File) → gate ≡ Some place → seen ≡ Some file → leaves c → c ≡ file
 
--- a front with a closed gate behind it is all that a disk has
+-- The disk has only `front` and a closed gate after it, and a crash leaves only that.
 pub record IsClosed (front : List ℕ) (gate : ℕ) (seen : Option File) (leaves : File → Type 0) : Type 0 where
   pub at : length front ≡ gate
   pub file : seen ≡ Some (Some (front ++ 0 ∷ []))
   pub durable : Only (Some (front ++ 0 ∷ [])) leaves
 
--- the front stands, and behind it a closed gate and any bytes, no more than the record has, or any gate and the record whole
+-- The file has `front`, and after it either a closed gate and at most as many bytes as the record, or any gate and the whole record.
 abbrev pub IsLeftOf : List ℕ → List ℕ → File → Type 0
 IsLeftOf front written c = ((rest : List ℕ) × (length rest ≤ length written) × (c ≡ Some (front ++ 0 ∷ rest)))
     ⊎ ((g : ℕ) × (c ≡ Some (front ++ g ∷ written)))
 
--- a change as it is written behind a closed gate, and the place of the gate that then stands behind it
+-- A change, written for its place after a closed gate, and the place of the closed gate after it.
 pub record IsPrepared (gate : ℕ) (change : Request) (written : List ℕ) (end : ℕ) : Type 0 where
   pub text : written ≡ record_of change ++ 0 ∷ []
   pub legal : IsChange change

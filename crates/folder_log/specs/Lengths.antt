@@ -16,7 +16,7 @@ use Rattle.std.specs.Prelude.{Bool, Err, List, None, Ok, Option, Result, Some, d
 one_held : (a b : Held) → Stands a ≡ Stands b → a ≡ b
 one_held a b is = cc
 
--- what stands was read
+-- A value that the file holds was read.
 read_is : (r : Result Held LogFault) (held : Held) → as_holding r ≡ Stands held → r ≡ Ok held
 read_is r held is = grind arith
 
@@ -24,7 +24,7 @@ abbrev base_in : Result Held LogFault → ℕ
 base_in (Ok held) = length held.base
 base_in (Err fault) = 0
 
--- the base of a log has the length that was read
+-- The base of a log has the length that was read.
 logged_length : (whole : ℕ) (r : Read (List ℕ)) (held : Held)
     → (r >>= λ base. changes_at (length base.1) whole base.1 >>= λ changes. Ok (record { base = base.0; changes = changes })) ≡ Ok held
     → length_of r ≡ length held.base
@@ -50,7 +50,7 @@ has_base_length None = tt
 has_base_length (Some None) = λ held is. cc
 has_base_length (Some (Some bytes)) = λ held is. read_length bytes held (read_is (held_in bytes) held is)
 
--- a log at rest holds its base and its changes
+-- A log with its closed gate holds its base and its changes.
 at_rest_held : (gate : ℕ) (bytes : List ℕ) (rest : IsAtRest gate bytes)
     → held_in bytes ≡ Ok (record { base = rest.base; changes = rest.changes })
 at_rest_held gate bytes rest =

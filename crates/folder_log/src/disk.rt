@@ -6,7 +6,7 @@ ghost use Rattle.folder_log.specs.Disk.{File, IsRead, IsTooLong, ShowsNow, IsWit
 use s3_types::Bytes;
 use shelf::Failed;
 
-/// Why a disk gave nothing.
+/// Why a read of a disk failed.
 #[derive(Clone, Copy, PartialEq, Eq)]
 pub enum DiskFault {
     Failed,
@@ -15,36 +15,38 @@ pub enum DiskFault {
     NoMemory,
 }
 
-/// A disk with one file. Between two syncs each range that was written, and what is past the old end, may
-/// hold any bytes after a crash, and the bytes outside stay. After a sync that answered Ok a crash leaves
-/// what a read gives.
+/// A disk with one file. Between two syncs, a crash may leave any bytes in each range that was
+/// written and past the old end; the bytes elsewhere stay. After a sync that returned Ok, a crash
+/// leaves the file that a read gives.
 pub trait LogDisk {
-    /// What a read gives, however large, where it is told: the file's bytes, or that there is no file.
+    /// The file that a read gives, even if too large, if the disk shows it: its bytes, or that
+    /// there is no file.
     ghost seen: { Self → Option File };
 
-    /// What a crash at this moment may leave, where it is told.
+    /// The files that a crash now may leave.
     ghost may_leave: { Self → File → Type 0 };
 
-    /// The moment, as a number that does not fall.
+    /// The current time, as a number that does not fall.
     ghost moment: { Self → ℕ };
 
-    /// What a crash at some moment from that one on might have left, during a call or between two.
+    /// The files that a crash at some point since the given time may have left, during a call or
+    /// between two.
     ghost left_since: { Self → ℕ → File → Type 0 };
 
-    /// How many calls were made of it so far, at most 2^64 - 1.
+    /// How many calls were made so far, at most 2^64 - 1.
     ghost calls: { Self → ℕ };
 
     /// How many of them failed, at most 2^64 - 1.
     ghost faults: { Self → ℕ };
 
-    /// What a call that did not fail may make of it, where it says which of its calls fail.
+    /// How a call that does not fail may change the disk, if it shows which of its calls fail.
     ghost answers: { Self → Self → Type 0 };
 
-    /// What one that failed may make of it.
+    /// How a failed call may change it.
     ghost fails: { Self → Self → Type 0 };
 
-    /// The file's bytes, or None where there is no file. TooLarge comes exactly for a file of more than
-    /// 2,147,483,648 bytes.
+    /// Returns the file's bytes, or None if there is no file. Fails with TooLarge exactly if the
+    /// file has more than 2,147,483,648 bytes.
     fn read(&mut self) -> Result<Option<Bytes>, DiskFault>
         ensures bytes { IfOk result (λ bytes. IsRead (seen self.old) bytes) }
         ensures large { IsErrOf result DiskFault.TooLarge → IsTooLong (seen self.old) }
@@ -58,8 +60,9 @@ pub trait LogDisk {
         ensures broken { IsErrOf result DiskFault.Failed → fails self.old self.new }
         ensures calm { (IsErrOf result DiskFault.Failed → ⊥) → faults self.new ≡ faults self.old };
 
-    /// Replaces the file whole by three pieces, one behind the other. A crash within the call leaves the
-    /// old file or the new one; at Ok it is the new one, and at an error the old one.
+    /// Replaces the whole file by three pieces, one after another. A crash during the call leaves
+    /// the old file or the new one. After Ok it leaves the new one, and after an error the old
+    /// one.
     fn swap(&mut self, head: &[u8], body: &[u8], tail: &[u8]) -> Result<(), Failed>
         ensures swapped { OnOk result (ShowsNow (seen self.old) (seen self.new) (head.now ++ (body.now ++ tail.now))) }
         ensures same { OnErr result (seen self.new ≡ seen self.old) }
@@ -73,7 +76,8 @@ pub trait LogDisk {
         ensures broken { OnErr result (fails self.old self.new) }
         ensures calm { OnOk result (faults self.new ≡ faults self.old) };
 
-    /// Writes over what is there, and past the end. Until a sync a crash may leave any bytes in the range.
+    /// Writes over the bytes at a place, perhaps past the end. Until a sync, a crash may leave any
+    /// bytes in the range.
     fn write_at(&mut self, place: u64, bytes: &[u8]) -> Result<(), Failed>
         requires within { IsWithin place (seen self.old) }
         ensures written { OnOk result (Writes place bytes.now (seen self.old) (seen self.new)) }
@@ -87,7 +91,7 @@ pub trait LogDisk {
         ensures broken { OnErr result (fails self.old self.new) }
         ensures calm { OnOk result (faults self.new ≡ faults self.old) };
 
-    /// After it a crash leaves what a read gives.
+    /// Puts everything on the disk: after Ok, a crash leaves the file that a read gives.
     fn sync(&mut self) -> Result<(), Failed>
         ensures seen { seen self.new ≡ seen self.old }
         ensures durable { OnOk result (Settles (seen self.old) (may_leave self.new)) }
@@ -100,12 +104,12 @@ pub trait LogDisk {
         ensures broken { OnErr result (fails self.old self.new) }
         ensures calm { OnOk result (faults self.new ≡ faults self.old) };
 
-    /// This moment is one of those since an earlier one.
+    /// What a crash now may leave counts as left since each earlier time.
     ghost counts_now: { (disk : Self) (t : ℕ) (c : File) → t ≤ moment disk → may_leave disk c → left_since disk t c };
 
-    /// Since this moment there is no other.
+    /// Since the present time nothing else counts.
     ghost only_now: { (disk : Self) (c : File) → left_since disk (moment disk) c → may_leave disk c };
 
-    /// What a read gives is one of the files that a crash may leave.
+    /// A crash may leave the file that a read gives.
     ghost shows: { (disk : Self) (c : File) → seen disk ≡ Some c → may_leave disk c };
 }

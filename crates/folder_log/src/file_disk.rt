@@ -16,23 +16,23 @@ use std::marker::Model;
 use std::rt::Files;
 use std::{fs, io};
 
-/// The file `store.img` of a folder as a disk. It tells nothing of its bytes. From its first swap on until it is
-/// dropped it has the folder's lock, and every other disk's swap there fails.
+/// The file `store.img` of a folder as a disk. It shows nothing of its bytes. From its first swap
+/// until it is dropped it holds the folder's lock, and every other disk's swap there fails.
 #[derive(Drop)]
 pub struct FileDisk<R: Files> {
     rt: R,
     folder: String,
     /// The path of `store.img`.
     image: String,
-    /// The path of `store.tmp`, which a swap writes and then renames.
+    /// The path of `store.tmp`. A swap writes this file and then renames it.
     fresh: String,
-    /// The file, once it was written.
+    /// The file, once this disk has written it.
     file: Option<R::File>,
     /// The file as it was read last, until a swap.
     known: Known<R::File>,
-    /// The folder with its lock, once it was taken.
+    /// The open folder with its lock, once it was taken.
     lock: Option<R::File>,
-    /// That the folder has the file under its name is on the disk.
+    /// Whether the folder's entry for the file is on the disk.
     is_named: bool,
     calls: u64,
     faults: u64,
@@ -47,7 +47,7 @@ impl<R: Files> Model for FileDisk<R> {
     ghost view = { λ d. record { calls = d.calls; faults = d.faults } };
 }
 
-/// Reads a file of so many bytes to its end, in memory for its bytes.
+/// Reads a file of this length to its end, in memory for its bytes.
 fn read_whole<F: Read>(alloc: Global, file: &mut F, length: u64) -> Result<Vec<u8>, DiskFault>
     ensures { IfOk result (λ all. vec_len all ≤ most_file) }
 {
@@ -75,7 +75,7 @@ fn read_whole<F: Read>(alloc: Global, file: &mut F, length: u64) -> Result<Vec<u
     Err(DiskFault::Failed)
 }
 
-/// Writes a file whole, in three pieces, and syncs its bytes and its length.
+/// Writes a whole file in three pieces, and syncs its bytes and its length.
 fn write_whole<R: Files>(
     rt: &R,
     path: &str,
@@ -92,7 +92,7 @@ fn write_whole<R: Files>(
     Ok(file)
 }
 
-/// Opens a file that is there, to write over what it has.
+/// Opens an existing file to write over its bytes.
 fn open_to_write<R: Files>(rt: &R, path: &str) -> io::Result<R::File> {
     let mut options = OpenOptions::new();
     options.write(true);
@@ -105,13 +105,13 @@ fn write_from<F: Write + Seek>(file: &mut F, place: u64, bytes: &[u8]) -> io::Re
     file.flush()
 }
 
-/// Syncs a folder, by its path: the names in it last.
+/// Syncs a folder by its path, so that the names in it last.
 fn sync_names<R: Files>(rt: &R, path: &str) -> io::Result<()> {
     let folder = fs::open(rt, path)?;
     folder.sync_all()
 }
 
-/// Syncs a file, by its path: its bytes and its length last, and none of its times.
+/// Syncs a file by its path, so that its bytes and its length last; its times need not.
 fn sync_bytes<R: Files>(rt: &R, path: &str) -> io::Result<()> {
     let file = fs::open(rt, path)?;
     file.sync_data()
@@ -121,8 +121,8 @@ impl<R: Files + Drop> FileDisk<R>
 where
     R::File: Lockable,
 {
-    /// The disk of a folder, by its path. Touches nothing. Its one error is want of memory, and none of its
-    /// calls takes memory but `read`, for the file's bytes.
+    /// The disk of the folder with this path. Touches nothing. It fails only if memory runs out.
+    /// Of its calls only `read` takes memory, for the file's bytes.
     pub fn new(alloc: Global, rt: R, folder: String) -> Result<FileDisk<R>, AllocError>
         ensures { IfOk result (λ disk. disk ≡ record { calls = 0; faults = 0 }) }
     {
@@ -143,7 +143,8 @@ where
         })
     }
 
-    /// The file is looked at before it is read, so that what is written meanwhile is seen by the next look.
+    /// Reads the file. It takes the file's stamp before the bytes, so that the next check notices
+    /// what is written meanwhile.
     fn read_file(&mut self) -> Result<Option<Bytes>, DiskFault>
         ensures read { IfOk result (λ read. file_length read ≤ most_file) }
         ensures same { self.new ≡ self.old }
@@ -173,7 +174,8 @@ where
         }
     }
 
-    /// What stands under the file's name is what this disk has written or, before it did, what it has read.
+    /// Whether the file under the name is the one that this disk has written or, before that, has
+    /// read.
     fn is_unchanged(&self) -> io::Result<bool> {
         let known = match (&self.file, &self.known) {
             (Some(file), _) => Some(Stamp::of(&file.metadata()?)),
@@ -185,7 +187,8 @@ where
         Ok(stamp_at(&self.rt, self.image.as_str())? == known)
     }
 
-    /// Takes the folder's lock, unless this disk has it, and sees under it that nobody else has changed the file.
+    /// Takes the folder's lock, unless this disk has it, and then checks that nobody else has
+    /// changed the file.
     fn take_folder(&mut self) -> io::Result<()>
         ensures { self.new ≡ self.old }
     {
@@ -198,8 +201,8 @@ where
         Err(io::Error::from(io::ErrorKind::Other))
     }
 
-    /// Writes `store.tmp`, syncs it, renames it to `store.img` and syncs the folder. The file's own lock tells who
-    /// reads it that this disk is still there.
+    /// Writes `store.tmp`, syncs it, renames it to `store.img` and syncs the folder. The file's
+    /// own lock tells readers that this disk is still there.
     fn put(&mut self, head: &[u8], body: &[u8], tail: &[u8]) -> io::Result<()>
         ensures { self.new ≡ self.old }
     {
@@ -212,7 +215,7 @@ where
         self.sync_folder()
     }
 
-    /// Puts the file in its place, where nobody else is at work.
+    /// Puts the file in its place, unless another disk uses the folder.
     fn take_and_put(&mut self, head: &[u8], body: &[u8], tail: &[u8]) -> io::Result<()>
         ensures { self.new ≡ self.old }
     {
@@ -220,7 +223,7 @@ where
         self.put(head, body, tail)
     }
 
-    /// Syncs the folder, where there is one, unless that was done since the file has its name.
+    /// Syncs the folder, if it exists, unless that was done since the file got its name.
     fn sync_folder(&mut self) -> io::Result<()>
         ensures { self.new ≡ self.old }
     {
@@ -248,7 +251,7 @@ where
         done
     }
 
-    /// Syncs the file, where there is one.
+    /// Syncs the file, if it exists.
     fn sync_file(&self) -> io::Result<()> {
         if let Some(file) = &self.file {
             return file.sync_data();
@@ -267,7 +270,7 @@ where
         self.sync_folder()
     }
 
-    /// What a call answers, which is counted, and its fault.
+    /// Counts a call and, if it failed, its fault; returns what the call returns.
     fn counted(&mut self, done: io::Result<()>) -> Result<(), Failed>
         ensures counted { self.new.calls ≡ one_more self.old.calls }
         ensures calm { OnOk result (self.new.faults ≡ self.old.faults) }
@@ -310,7 +313,7 @@ where
 
     ghost shows = { λ d c is. untold c is };
 
-    /// A file that is not there is none.
+    /// Returns None if the file does not exist.
     fn read(&mut self) -> Result<Option<Bytes>, DiskFault> {
         self.calls = self.calls.saturating_add(1);
         match self.read_file() {
@@ -322,8 +325,8 @@ where
         }
     }
 
-    /// Failed too, and nothing is written, where another disk has the folder's lock, or has changed the file since
-    /// this one read or wrote it.
+    /// Fails too, and writes nothing, if another disk holds the folder's lock, or has changed the
+    /// file since this one read or wrote it.
     fn swap(&mut self, head: &[u8], body: &[u8], tail: &[u8]) -> Result<(), Failed> {
         let done = self.take_and_put(head, body, tail);
         self.counted(done)

@@ -1,17 +1,18 @@
-//! What programs over one folder tell each other: its lock, and which file stands in it.
+//! How programs that use one folder keep apart: the folder's lock, and which file is in it.
 use std::fs::{File, Metadata, TryLockError};
 use std::io::ErrorKind;
 use std::os::unix::fs::MetadataExt;
 use std::rt::Files;
 use std::{fs, io};
 
-/// An open file or folder that can be locked against every other opening of it. Nobody waits: WouldBlock comes where
-/// another opening has a lock that does not go together with it, another error where there are no such locks.
+/// An open file or folder that can be locked. A lock is tried and never waited for. It fails with
+/// WouldBlock if another opening holds a lock that excludes it, and with another error if there
+/// are no such locks.
 pub trait Lockable {
-    /// Takes the lock, until the file is closed.
+    /// Takes the lock alone, until the file is closed.
     fn try_lock(&self) -> Result<(), TryLockError>;
 
-    /// Takes a lock that goes together with others of its kind, until the file is closed.
+    /// Takes a lock that others may share, until the file is closed.
     fn try_lock_shared(&self) -> Result<(), TryLockError>;
 }
 
@@ -25,8 +26,9 @@ impl Lockable for File {
     }
 }
 
-/// Opens a folder and takes its lock, without waiting, until what is given is dropped. An error where another program
-/// has the lock, or where the folder cannot be opened. Where the file system has no such locks it is opened alone.
+/// Opens a folder and takes its lock without waiting, until the returned value is dropped. Fails
+/// if another program holds the lock, or if the folder cannot be opened. If the file system has no
+/// such locks, it only opens the folder.
 pub fn lock_folder<R: Files>(rt: &R, path: &str) -> io::Result<R::File>
 where
     R::File: Lockable,
@@ -38,8 +40,8 @@ where
     }
 }
 
-/// Which file was looked at, by its device and its number there, its length in bytes, and when it was changed last, in
-/// seconds and nanoseconds.
+/// Which file was looked at: its device and its number there, its length in bytes, and when it was
+/// last changed, in seconds and nanoseconds.
 #[derive(Clone, Copy, PartialEq, Eq)]
 pub struct Stamp {
     device: u64,
@@ -62,7 +64,7 @@ impl Stamp {
     }
 }
 
-/// There is nothing of that name.
+/// Whether nothing of that name exists.
 pub fn is_missing<T>(opened: &io::Result<T>) -> bool {
     match opened {
         Err(error) => error.kind() == ErrorKind::NotFound,
@@ -70,18 +72,18 @@ pub fn is_missing<T>(opened: &io::Result<T>) -> bool {
     }
 }
 
-/// What a disk knows of the file under its name, as it read it.
+/// What a disk knows of the file under its name, from reading it.
 #[derive(Drop)]
 pub enum Known<F> {
     Nothing,
     NoFile,
-    /// The file is kept open, so that its number is given to no other one.
+    /// The file that was read. It is kept open, so that no other file gets its number.
     File { file: F, stamp: Stamp },
-    /// The disk that wrote the file was still there, and may have changed it since.
+    /// The disk that wrote the file was still there, so it may have changed the file since.
     Growing,
 }
 
-/// The disk that wrote the file is still there.
+/// Whether the disk that wrote the file is still there.
 pub fn has_writer<F: Lockable>(file: &F) -> bool {
     match file.try_lock_shared() {
         Err(TryLockError::WouldBlock) => true,
@@ -89,7 +91,7 @@ pub fn has_writer<F: Lockable>(file: &F) -> bool {
     }
 }
 
-/// The file under a name as it is now, if there is one.
+/// Returns the stamp of the file under a name now, if there is one.
 pub fn stamp_at<R: Files>(rt: &R, path: &str) -> io::Result<Option<Stamp>> {
     let found = fs::metadata(rt, path);
     if is_missing(&found) {

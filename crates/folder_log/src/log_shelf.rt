@@ -13,7 +13,8 @@ use shelf::Failed;
 use shelf::kept::{Held, LoadFault, MOST_BASE, Shelf, ShelfStop};
 use std::alloc::Global;
 
-/// Writes bytes at a place and syncs them. A crash leaves the file with any bytes in the range.
+/// Writes bytes at a place and syncs them. A crash leaves the file as it was, or with any bytes in
+/// the range.
 fn write_synced<D: LogDisk>(disk: &mut D, place: u64, bytes: &[u8]) -> Result<(), Failed>
     requires within { IsWithin place (D.seen disk.old) }
     ensures written { OnOk result (Writes place bytes.now (D.seen disk.old) (D.seen disk.new)) }
@@ -32,9 +33,9 @@ fn write_synced<D: LogDisk>(disk: &mut D, place: u64, bytes: &[u8]) -> Result<()
     disk.sync()
 }
 
-/// Writes a record behind the closed gate at this place and syncs it, and then opens the gate and syncs
-/// that. A crash leaves what stands before the gate, with a closed gate behind it, or with the record whole
-/// behind any gate.
+/// Writes a record after the closed gate at this place and syncs it. Then it opens the gate and
+/// syncs that. A crash leaves the bytes before the gate, and after them a closed gate, or any gate
+/// and the whole record.
 fn open_record<D: LogDisk>(disk: &mut D, gate: u64, written: &[u8]) -> Result<(), Failed>
     requires within { IsWithin (gate + 1) (D.seen disk.old) }
     requires fits { gate + 1 < 2 ^ 64 }
@@ -54,8 +55,9 @@ fn open_record<D: LogDisk>(disk: &mut D, gate: u64, written: &[u8]) -> Result<()
     write_synced(disk, gate, &[1])
 }
 
-/// Writes the record of a change with a closed gate behind it into a buffer, and answers the place of that gate,
-/// unless it is past 2^63 or memory is wanting.
+/// Writes the record of a change with a closed gate after it into a buffer, and returns the place
+/// of that gate. Returns None if the place is past 2^63, if the change has no record, or if memory
+/// runs out.
 fn prepared(buffer: &mut Vec<u8>, gate: u64, change: &Request) -> Option<u64>
     requires { is_changing change.now ≡ true }
     ensures { IfSome result (IsPrepared gate change.now buffer.new.items) }
@@ -73,10 +75,10 @@ fn prepared(buffer: &mut Vec<u8>, gate: u64, change: &Request) -> Option<u64>
     Some(gate + length)
 }
 
-/// No file on a machine is longer: 2^63 bytes.
+/// The greatest place in a file: no file on a machine has more than 2^63 bytes.
 const MOST_PLACE: u64 = 1 << 63;
 
-/// What a file that was read holds.
+/// Returns what a file holds that was read.
 fn loaded(alloc: Global, file: &Bytes) -> Result<Option<Held>, LoadFault>
     requires { length file.now ≤ most_file }
     ensures loaded { IfOk result (λ loaded. IsLoaded (Some (stored_of (Some file.now))) loaded) }
@@ -98,9 +100,9 @@ fn loaded(alloc: Global, file: &Bytes) -> Result<Option<Held>, LoadFault>
 #[derive(Drop)]
 pub struct LogShelf<D: LogDisk> {
     disk: D,
-    /// How many calls were made of it, at most 2^64 - 1.
+    /// How many calls were made of the shelf, at most 2^64 - 1.
     calls: u64,
-    /// Where the last gate is, from a `replace` that answers Ok until a call fails.
+    /// The place of the last gate, from a `replace` that returns Ok until a call fails.
     gate: Option<u64>,
     /// The record that was written last.
     buffer: Vec<u8>,
@@ -111,7 +113,7 @@ pub struct LogShelf<D: LogDisk> {
 impl<D: LogDisk + Drop> LogShelf<D> {
     ghost use Rattle.folder_log.specs.Parts.{disk_of, IsUnused};
 
-    /// Touches nothing. It takes no appends before a `replace`.
+    /// A shelf over this disk. Touches nothing. It takes no appends before a `replace`.
     pub fn new(alloc: Global, disk: D) -> LogShelf<D>
         ensures disk { disk_of result ≡ disk }
         ensures unused { IsUnused result }
@@ -125,7 +127,7 @@ impl<D: LogDisk + Drop> LogShelf<D> {
         }
     }
 
-    /// The disk. Takes no memory.
+    /// Returns the disk. Takes no memory.
     pub fn disk(&self) -> &D
         ensures { result.now ≡ disk_of self.now }
     {
@@ -160,7 +162,8 @@ impl<D: LogDisk + Drop> Shelf for LogShelf<D> {
       file = λ s takes. is_within_log (D.seen s.disk) (D.may_leave s.disk) s.gate takes;
     } };
 
-    /// Syncs, and then reads the file once: O(bytes), in memory for the file, its base and its changes.
+    /// Syncs, and then reads the file once: O(bytes), in memory for the file, its base and its
+    /// changes.
     fn load(&mut self) -> Result<Option<Held>, LoadFault> {
         self.calls = self.calls.saturating_add(1);
         match self.disk.sync() {
@@ -182,7 +185,7 @@ impl<D: LogDisk + Drop> Shelf for LogShelf<D> {
         }
     }
 
-    /// Swaps the file for a log of this base with a closed gate behind it.
+    /// Swaps the file for a log of this base, with a closed gate at its end.
     fn replace(&mut self, bytes: &[u8]) -> Result<(), Failed> {
         self.calls = self.calls.saturating_add(1);
         self.gate = None;
@@ -192,7 +195,7 @@ impl<D: LogDisk + Drop> Shelf for LogShelf<D> {
         Ok(())
     }
 
-    /// Writes the record and two gates, whatever the file's length.
+    /// Writes the record and two gates, however long the file is.
     fn append(&mut self, change: &Request) -> Result<(), ShelfStop> {
         self.calls = self.calls.saturating_add(1);
         let Some(gate) = self.gate else {

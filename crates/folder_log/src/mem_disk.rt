@@ -14,8 +14,8 @@ use shelf::{CallList, Calls, Failed};
 use std::alloc::{AllocError, Global};
 use std::marker::Model;
 
-/// A disk in memory, of which the calls that are named fail, and after `stop` calls every one. It keeps a
-/// record of its calls, from which it tells what a crash at any moment might have left.
+/// A disk in memory. The calls that are named fail, and every call after the first `stop`. It
+/// records its calls, and says from them what a crash at any point may have left.
 #[derive(Drop)]
 pub struct MemDisk {
     first: Option<Bytes>,
@@ -36,7 +36,7 @@ impl Model for MemDisk {
     ghost invariant = { λ d. last_of d.last d.first ≡ state_of d.first d.calls };
 }
 
-/// Adds a call, and the state that it leaves.
+/// Adds a call, and the state after it.
 fn keep(
     calls: &mut Sequence<DiskCall>,
     last: &mut Option<State>,
@@ -71,15 +71,15 @@ impl MemDisk {
         }
     }
 
-    /// How many calls it had, at most 2^64 - 1. Takes no memory.
+    /// Returns how many calls were made, at most 2^64 - 1. Takes no memory.
     pub fn calls_made(&self) -> u64
         ensures { result ≡ self.now.turns.made }
     {
         self.turns.made
     }
 
-    /// The file that a crash at this moment leaves, by what it makes of the ranges that were not synced. Its
-    /// one error is want of memory.
+    /// Returns the file that a crash now leaves, for a choice of what becomes of the ranges that
+    /// were not synced. Fails only if memory runs out.
     pub fn crash(&self, choice: Choice) -> Result<Option<Bytes>, AllocError>
         ensures exact { IfOk result (λ file. file ≡ left_by choice (state_in self.now)) }
         ensures allowed { IfOk result (λ file. IsImage (state_in self.now) file) }
@@ -91,7 +91,7 @@ impl MemDisk {
         }
     }
 
-    /// What is on the disk for sure.
+    /// Returns the file that is on the disk for sure.
     fn synced(&self) -> &Option<Bytes>
         ensures { result.now ≡ (state_in self.now).synced }
     {
@@ -101,7 +101,7 @@ impl MemDisk {
         }
     }
 
-    /// What a read gives.
+    /// Returns the file that a read gives.
     fn current(&self) -> &Option<Bytes>
         ensures { result.now ≡ (state_in self.now).now }
     {
@@ -111,7 +111,7 @@ impl MemDisk {
         }
     }
 
-    /// The ranges that were written since the last sync.
+    /// Returns the ranges that were written since the last sync.
     fn unsynced(&self) -> &[Span]
         ensures { result.now ≡ (state_in self.now).ranges }
     {
@@ -189,7 +189,7 @@ impl LogDisk for MemDisk {
         }
     }
 
-    /// A file that finds no memory is a fault.
+    /// Counts as a fault if memory runs out.
     fn swap(&mut self, head: &[u8], body: &[u8], tail: &[u8]) -> Result<(), Failed> {
         self.turns.next()?;
         match self.swapped(head, body, tail) {
@@ -198,7 +198,7 @@ impl LogDisk for MemDisk {
         }
     }
 
-    /// Bytes that find no memory are a fault.
+    /// Counts as a fault if memory runs out.
     fn write_at(&mut self, place: u64, bytes: &[u8]) -> Result<(), Failed> {
         self.turns.next()?;
         match self.written(place, bytes) {
@@ -207,7 +207,7 @@ impl LogDisk for MemDisk {
         }
     }
 
-    /// A record that finds no memory is a fault.
+    /// Counts as a fault if memory runs out.
     fn sync(&mut self) -> Result<(), Failed> {
         self.turns.next()?;
         match self.sync_now() {

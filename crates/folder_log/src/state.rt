@@ -1,4 +1,4 @@
-//! What is on a disk in memory and what a read of it gives, as values.
+//! The state of a disk in memory: what is on the disk, and what a read gives.
 ghost use Rattle.std.specs.Prelude.{◌≡◌, List, [], ◌∷◌, ◌++◌, length, Some, IfOk, IsErrOf};
 ghost use Rattle.folder_log.specs.Disk.{IsRead, IsTooLong, overwritten, file_after};
 ghost use Rattle.folder_log.specs.Calls as laid;
@@ -9,7 +9,7 @@ use s3_types::{Bytes, Sequence};
 use shelf::kept::MOST_FILE;
 use std::alloc::{AllocError, Global};
 
-/// A call of a disk that was answered well and may have changed what a crash leaves.
+/// A call of a disk that succeeded and may have changed what a crash leaves.
 #[derive(Drop)]
 pub enum DiskCall {
     Swap(Bytes),
@@ -17,15 +17,15 @@ pub enum DiskCall {
     Sync,
 }
 
-/// A range of a file: its place in bytes from the start, and how many bytes it has.
+/// A range of a file: its place in bytes from the start, and its length in bytes.
 #[derive(Clone, Copy, PartialEq, Eq)]
 pub struct Span {
     pub place: u64,
     pub length: usize,
 }
 
-/// The file that is on the disk, the one that a read gives, and the ranges that were written since the last
-/// sync.
+/// The file that is on the disk, the file that a read gives, and the ranges that were written
+/// since the last sync.
 #[derive(Drop)]
 pub struct State {
     pub synced: Option<Bytes>,
@@ -36,15 +36,15 @@ pub struct State {
 /// What a crash makes of the ranges that were not synced.
 #[derive(Clone, Copy, PartialEq, Eq)]
 pub enum Choice {
-    /// They hold what they held, and end where they ended.
+    /// They have their old bytes, and the file has its old end.
     Lost,
-    /// They hold what was written.
+    /// They have the bytes that were written.
     Kept,
-    /// They hold this byte.
+    /// They are filled with this byte.
     Torn(u8),
 }
 
-/// The same file, whose bytes are shared.
+/// Returns a copy of the file that shares its bytes.
 pub fn shared(file: &Option<Bytes>) -> Result<Option<Bytes>, AllocError>
     ensures { IfOk result (λ copy. copy ≡ file.now) }
 {
@@ -54,7 +54,7 @@ pub fn shared(file: &Option<Bytes>) -> Result<Option<Bytes>, AllocError>
     }
 }
 
-/// What a read gives.
+/// Returns the file that a read gives, or TooLarge.
 pub fn read_of(file: &Option<Bytes>) -> Result<Option<Bytes>, DiskFault>
     ensures bytes { IfOk result (λ bytes. IsRead (Some file.now) bytes) }
     ensures large { IsErrOf result DiskFault.TooLarge → IsTooLong (Some file.now) }
@@ -72,7 +72,7 @@ pub fn read_of(file: &Option<Bytes>) -> Result<Option<Bytes>, DiskFault>
     }
 }
 
-/// Three pieces, one behind the other.
+/// Returns the three pieces joined.
 pub fn joined(alloc: Global, head: &[u8], body: &[u8], tail: &[u8]) -> Result<Bytes, AllocError>
     ensures { IfOk result (λ all. all ≡ head.now ++ (body.now ++ tail.now)) }
 {
@@ -82,7 +82,7 @@ pub fn joined(alloc: Global, head: &[u8], body: &[u8], tail: &[u8]) -> Result<By
     Bytes::new(alloc, all)
 }
 
-/// Bytes with others written over them at a place, and past their end.
+/// Returns the bytes with others written over them at a place, perhaps past their end.
 fn with_bytes(alloc: Global, old: &[u8], place: usize, bytes: &[u8]) -> Result<Bytes, AllocError>
     ensures { IfOk result (λ next. next ≡ overwritten place bytes.now old.now) }
 {
@@ -94,7 +94,7 @@ fn with_bytes(alloc: Global, old: &[u8], place: usize, bytes: &[u8]) -> Result<B
     Bytes::new(alloc, next)
 }
 
-/// A file with bytes written over it at a place, and past its end.
+/// Returns the file with bytes written over it at a place, perhaps past its end.
 fn written_file(
     alloc: Global,
     file: &Option<Bytes>,
@@ -109,7 +109,7 @@ fn written_file(
     }
 }
 
-/// A file all of which is on the disk.
+/// Returns the state in which all of the file is on the disk.
 pub fn at_rest(alloc: Global, file: Option<Bytes>) -> Result<State, AllocError>
     ensures { IfOk result (λ state. state ≡ laid.at_rest file) }
 {
@@ -121,7 +121,7 @@ pub fn at_rest(alloc: Global, file: Option<Bytes>) -> Result<State, AllocError>
     })
 }
 
-/// Ranges with one more behind them.
+/// Returns the ranges with one more at the end.
 fn with_range(alloc: Global, ranges: &[Span], range: Span) -> Result<Sequence<Span>, AllocError>
     ensures { IfOk result (λ all. all ≡ ranges.now ++ range ∷ []) }
 {
@@ -130,7 +130,7 @@ fn with_range(alloc: Global, ranges: &[Span], range: Span) -> Result<Sequence<Sp
     Ok(Sequence::from_vec(all))
 }
 
-/// After a write at a place.
+/// Returns the state after a write at a place.
 pub fn written(
     alloc: Global,
     synced: &Option<Bytes>,
@@ -156,7 +156,7 @@ pub fn written(
     })
 }
 
-/// A file with ranges filled with a byte, one after the other.
+/// Returns the file with each of the ranges filled with a byte, one after another.
 pub fn torn_file(
     alloc: Global,
     file: &Option<Bytes>,

@@ -1,4 +1,4 @@
--- Making a file, stage by stage.
+-- The making of a file, stage by stage.
 use Rattle.block_stream.specs.Holds.{HasRoom}
 use Rattle.block_stream.specs.Stream.{Stream, answers, told}
 use Rattle.block_stream.specs.declared.stage.Stage.{Stage}
@@ -62,7 +62,7 @@ use Rattle.fs_tree.specs.Tree as tree
 use Rattle.fs_files.proofs.Writing as writing
 use Rattle.fs_files.proofs.WritingLaws as files
 
--- where there is no bucket it ends, and else it goes on
+-- If there is no bucket it ends, and otherwise it goes on.
 unless_so : {X : Type 0} (l : Look) (absent y : X) (P : X → Type 0) → (l ≡ NoBucket → P absent) → P y → P (unless l absent y)
 unless_so l absent y P h g = grind arith
 
@@ -72,13 +72,13 @@ no_parts k n h = let e : k * 0 ≡ 0 = Rattle.std.proofs.Math.Nat.mul-zero k in 
 reads_look : (b k : List ℕ) → only_reads (request_of b (look_asks k)) ≡ true
 reads_look b k = grind arith
 
--- where the writing of a file's bytes leads
+-- The step after a result of writing the file's bytes.
 abbrev step_of : Creation → Heard → CreateStep
 step_of o Done = drop_from (created o.policy o.path)
 step_of o (On w) = Next (Write (stream_of o.path.bucket w))
 step_of o Refusing = End (Err NotFound)
 
--- so the stream goes, whatever is answered
+-- The stream goes so, whatever the reply is.
 module _ (o : Creation) (w : Writing) (some : 1 ≤ w.block) where
   abbrev at_stage : Stage → Reply → Bool → CreateStep
   at_stage g r repeated = cond (answers g r) (moved o (told g (stream_of o.path.bucket w) repeated r)) (End (Err NotFound))
@@ -102,7 +102,7 @@ module _ (o : Creation) (w : Writing) (some : 1 ≤ w.block) where
   request_is : asks o (Write (stream_of o.path.bucket w)) ≡ writing.asks o.path.bucket w
   request_is = ap (asked_or o) (wanted_is o.path.bucket w some)
 
--- of the uploads that were begun since, the one at hand alone is live
+-- Holds if of the uploads that were begun since, only the one of the stage may be live.
 abbrev OwnStep : Creation → Scene → CreateStep → Scene → Type 0
 OwnStep o z (Next x) s = NoneBut (upload_of x) z o.path.bucket s
 OwnStep o z (End a) s = NoneLeft z o.path.bucket s
@@ -114,13 +114,13 @@ module _ (o : Creation) (z : Scene) (ok : IsCreation o) where
   abbrev B : List ℕ
   B = o.path.bucket
 
-  -- a step in a bucket that is there, or that is not
+  -- what holds after a step, if the bucket exists or not
   abbrev OnAt : Option BucketContent → CreateStep → Scene → Type 0
   OnAt v (Next x) s = HoldsAt v o z x s false
   OnAt v (End a) s = least o z → InFile v (λ m n. Creates o.path o.bytes o.overwrite o.policy m a n) (a ≡ Err NoSuchBucket) z B s
       × IsUndone a z s
 
-  -- what holds of a stage: its reply leads on, a sending that is lost keeps it, and what is sent is due
+  -- what holds of a stage: its reply leads on, a lost send keeps it, and the request is one that it may send
   record IsLed (v : Option BucketContent) (x : CreateStage) (s : Scene) (repeated : Bool) : Type 0 where
     steps : OnAt v (goes o x (answer s (asks o x)) repeated) (apply s (asks o x))
     hides : HoldsAt v o z x (apply s (asks o x)) true
@@ -214,7 +214,7 @@ module _ (o : Creation) (z : Scene) (ok : IsCreation o) where
         below_key (λ l. At (on_below o l) z) x (marker_of p) Z (λ s. refuses IsDirectory (subst (tree.IsDirectory Z) (sym e) (h, s), refl))
         (λ n. climb_goes (inr (subst (IsAbsent Z) (sym e) (h, n))))
 
-    -- what is read of the bucket in the scene z
+    -- the requests that read the bucket in the scene z
     read_goes : (x : CreateStage) (a : Ask) → asks o x ≡ request_of B a → only_reads (request_of B a) ≡ true → (repeated : Bool)
         → At (on o x (reply_in Z a) repeated) z → (s : Scene) → s ≡ z → At (goes o x (answer s (asks o x)) repeated) (apply s (asks o x))
     read_goes x a h g repeated e s f = grind (arith, answered, here_is, reads_nothing, not_missing)
@@ -224,7 +224,7 @@ module _ (o : Creation) (z : Scene) (ok : IsCreation o) where
     abbrev Ks : List (List ℕ)
     Ks = created o.policy o.path
 
-    -- the path is no marker's
+    -- the path is not that of a marker
     plain : (k : List ℕ) → o.path.key ≡ k → IsOpen o Z → tree.is_marker o.path.key ≡ false
     plain [] e h = ap tree.is_marker e
     plain (x ∷ p) e h = ap tree.is_marker e ∙ key_no_marker x p (ap is_key (sym e) ∙ ok.key)
@@ -311,7 +311,7 @@ module _ (o : Creation) (z : Scene) (ok : IsCreation o) where
 
     -- ---- each stage
 
-    -- a look leaves the scene
+    -- a look leaves the scene unchanged
     same_look : (a : Ask) → only_reads (request_of B a) ≡ true → (s : Scene) → s ≡ z → apply s (request_of B a) ≡ z
     same_look a reads s e = reads_nothing s (request_of B a) reads ∙ e
 
@@ -329,7 +329,7 @@ module _ (o : Creation) (z : Scene) (ok : IsCreation o) where
     written_so : (w : Writing) (m : Objects) → IsDue o Z → w.key ≡ o.path.key → IsFileOrNot Z w.key o.bytes m → always_in o Z m
     written_so w m h g e = grind arith
 
-    -- a stream that has come so far
+    -- a stream that has come this far
     writing_so : (w : Writing) (s : Scene) (repeated : Bool) → IsDue o Z → HasRoom (stream_of B w) → w.key ≡ o.path.key
         → w.block ≡ o.block → (least o z → Writes z B o.bytes c w s repeated) → IsSending o z w s
         → HoldsIn o z c (Write (stream_of B w)) s repeated
@@ -374,7 +374,7 @@ module _ (o : Creation) (z : Scene) (ok : IsCreation o) where
       asked = inr (h.0, Cleans h.1 refl);
     }
 
-    -- ---- where each sending was answered
+    -- ---- if each send was answered
 
     here_own : (y : CreateStep) (s : Scene) → s ≡ z → OwnStep o z y s
     here_own y s e = subst (OwnStep o z y) (sym e) (own_z o z y)
@@ -422,7 +422,7 @@ module _ (o : Creation) (z : Scene) (ok : IsCreation o) where
         (stream_own h.so_far s h.room (h.writes l)) g
     owns DropMarkers s h l g = drop_own s (h.2 l) g
 
-  -- ---- whether there is the bucket or not
+  -- ---- whether the bucket exists or not
 
   none_hides : fin.get z.content.buckets B ≡ None → (s : Scene) → s ≡ z → apply s (asks o Here) ≡ z
   none_hides e s h = ap (λ s. apply s (asks o Here)) h ∙ applied_none z B (look_asks o.path.key) (ap objects_of e)
@@ -455,7 +455,7 @@ module _ (o : Creation) (z : Scene) (ok : IsCreation o) where
 answered_in : (o : Creation) (z : Objects) (a : Answer) (m : Objects) → Creates o.path o.bytes o.overwrite o.policy z a m → always_in o z m
 answered_in o z a m h = grind arith
 
--- what is given at the end was so before
+-- What is given at the end also holds as it does at every point.
 ends_always : (o : Creation) (z : Scene) (a : Answer) (s : Scene) → GivesFile o z a s → AlwaysFile o z s
 ends_always o z a s h l = by (bucket_at z o.path.bucket) refl (h l).0
   where
@@ -472,7 +472,7 @@ ends_always o z a s h l = by (bucket_at z o.path.bucket) refl (h l).0
           g.content.objects g.objects;
     }
 
--- ---- what is left falls
+-- ---- the number of requests that are left falls
 
 abbrev FallsTo : Creation → CreateStep → ℕ → Type 0
 FallsTo o (Next x) n = left_at o x < n
@@ -492,7 +492,7 @@ fall_heard : (o : Creation) (w : Writing) (h : Heard) → GoesOn o.path.bucket w
     → FallsTo o (step_of o h) (left_at o (Write (stream_of o.path.bucket w)))
 fall_heard o w h g = grind arith
 
--- a stage's writing has room
+-- Holds if the stream of the stage has room.
 abbrev HasBlock : Creation → CreateStage → Type 0
 HasBlock o (Write m) = (w : Writing) × (m ≡ stream_of o.path.bucket w) × HasRoom (stream_of o.path.bucket w)
 HasBlock o _ = Unit {0}
@@ -568,7 +568,7 @@ create_laws = record {
   at_end = λ o z a s h. ends_always o.file z a s h;
 }
 
--- ---- where each sending was answered
+-- ---- if each send was answered
 
 abbrev NextOwn : CreateFile → Scene → Step CreateFile Answer → Scene → Type 0
 NextOwn o z (Next p) s = least o.file z → NoneBut (upload_of p.stage) z o.file.path.bucket s

@@ -1,4 +1,4 @@
--- Making a file, in the tree. Contracts cite none of these laws.
+-- The making of a file, on the tree. Contracts cite none of these laws.
 use Rattle.basics.proofs.Members.{in_map, none_some, same_or_other, text_here, text_other}
 use Rattle.basics.specs.Members.{IsIn}
 use Rattle.basics.specs.Parts.{parts_of}
@@ -28,7 +28,7 @@ use Rattle.std.specs.List.{list_all}
 use Rattle.std.specs.Prelude.{List, Some, false, length, nat_lt, suc, true, zero, ℕ, [], ◌&&◌, ◌*◌, ◌++◌, ◌+◌, ◌<◌, ◌∷◌, ◌≡◌, ◌≤◌, ◌⊎◌}
 use Rattle.std.specs.FinMap as fin
 
--- these are markers of directories above a path
+-- Holds if these are markers of directories above a path.
 abbrev pub AreAbove : List ℕ → List (List ℕ) → Type 0
 AreAbove k ks = (q : List ℕ) → IsIn q ks → (a : List ℕ) × (q ≡ marker_of a) × IsIn a (keys_above k)
 
@@ -50,7 +50,7 @@ module _ (k bytes : List ℕ) (ks : List (List ℕ)) (z : Objects) (plain : is_m
   file_stands : fin.get m k ≡ Some (object_of bytes)
   file_stands = kept_out n ks k (kept k plain) ∙ text_here z k k (object_of bytes) refl
 
-  -- what is above the file is a directory
+  -- each path above the file is a directory
   dir_above : (q : List ℕ) → begins (marker_of q) k ≡ true → HasDir m q
   dir_above [] h = tt
   dir_above (x ∷ q) h = (k, h, object_of bytes, file_stands)
@@ -82,7 +82,7 @@ module _ (k bytes : List ℕ) (ks : List (List ℕ)) (z : Objects) (plain : is_m
       by (inr e) (inl i) = absurd (none_some (gone_in n ks h.0 i) h.3)
       by (inr e) (inr o) = inl (h.0, h.1, h.2, sym (text_other z k h.0 (object_of bytes) e) ∙ sym (kept_out n ks h.0 o) ∙ h.3)
 
-  -- the file is made in the tree, whichever markers above it go
+  -- the file is made in the tree, whichever markers above it are deleted
   pub makes_file : MakesFile k bytes z m
   makes_file = record {
     file = file_stands;
@@ -109,7 +109,7 @@ last_some p front back k e h =
 more : (a f b p : ℕ) → 2 * a ≤ f → p ≡ f + suc b → 0 < b → 2 * (a + 1) ≤ p
 more a f b p h e g = omega (arith, h, e, g)
 
--- a directory above a path has at least two bytes less
+-- The path of a directory above has at least two bytes less.
 few_above : (n : ℕ) (p : List ℕ) → length p < n → is_key p ≡ true → 2 * length (keys_above p) ≤ length p
 few_above zero p l k = absurd (omega (arith, l))
 few_above (suc n) p l k = by (cut p) (λ front. few_above n front)

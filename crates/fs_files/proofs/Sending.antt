@@ -1,4 +1,4 @@
--- What the making of a file sends is the file: each part, and all parts at the end. Contracts cite none of these laws.
+-- The requests that make a file send the file: each part, and all parts at the end. Contracts cite none of these laws.
 use Rattle.basics.proofs.Members.{none_some, some_is}
 use Rattle.block_stream.specs.Stream.{has_some}
 use Rattle.block_stream.specs.declared.stage.Stage.{Stage}
@@ -28,13 +28,13 @@ use Rattle.std.specs.List.{slice_get}
 use Rattle.std.specs.Prelude.{Bool, List, None, Some, drop, false, get_or, length, map, nat_lt, not, suc, take, true, zero, ℕ, [], ◌*◌}
 use Rattle.std.specs.Prelude.{◌++◌, ◌+◌, ◌-◌, ◌<◌, ◌||◌, ◌∷◌, ◌≡◌, ◌≤◌, ◌⊎◌}
 
--- ---- how many parts there are
+-- ---- the number of parts
 
--- so many blocks hold all
+-- So many blocks have all bytes.
 enough : (l n : ℕ) → 1 ≤ n → l ≤ quotient_up l n * n
 enough l n some = omega arith
 
--- what is behind i whole blocks is in a further part
+-- Bytes after i whole blocks are in a further part.
 further : (n : ℕ) (bytes : List ℕ) (i : ℕ) → 1 ≤ n → i * n < length bytes → i < length (parts_of n bytes)
 further n bytes i some h =
     let q = quotient_up (length bytes) n in
@@ -44,14 +44,14 @@ further n bytes i some h =
     let most = greater_right 1 q in
     subst (λ m. i < m) (sym (length-parts n bytes)) (omega (arith, at, most))
 
--- i whole blocks that hold all are all parts
+-- If i whole blocks have all bytes, there are at most i parts.
 no_further : (n : ℕ) (bytes : List ℕ) (i : ℕ) → 1 ≤ n → 1 ≤ i → length bytes ≤ i * n → length (parts_of n bytes) ≤ i
 no_further n bytes i some one h =
     let more : suc i * n ≡ i * n + n = suc-mul i n in
     let below : quotient_up (length bytes) n < suc i = (div-lt_iff_lt-mul some).1 (omega (arith, more, h)) in
     subst (λ m. m ≤ i) (sym (length-parts n bytes)) (greater_most 1 (quotient_up (length bytes) n) i one (omega (arith, below)))
 
--- the part at place i
+-- The part at place i.
 part_at : (n : ℕ) (bytes : List ℕ) (i : ℕ) → i < length (parts_of n bytes)
     → slice_get (parts_of n bytes) i ≡ Some (take n (drop (i * n) bytes))
 part_at n bytes i h =
@@ -69,7 +69,7 @@ take_next (suc n) (x ∷ xs) b e = ap (λ l. x ∷ l) (take_next n xs b e)
 no_blocks : (n : ℕ) (bytes : List ℕ) → drop (0 * n) bytes ≡ bytes
 no_blocks n bytes = let z : 0 * n ≡ 0 = omega arith in ap (λ m. drop m bytes) z
 
--- ---- what is asked
+-- ---- the requests
 
 module _ (o : Creation) (z : Scene) (ok : IsCreation o) (w : Writing) (s : Scene) (h : IsSending o z w s) (key : w.key ≡ o.path.key)
     (block : w.block ≡ o.block) where
@@ -110,7 +110,7 @@ module _ (o : Creation) (z : Scene) (ok : IsCreation o) (w : Writing) (s : Scene
       some [] e = absurd (true≢false (sym e))
       some (y ∷ p) e = inl (omega arith)
 
-  -- a part that is due is one of the file's
+  -- a part that is to be sent is one of the file's
   within : is_due w ≡ true → i < length (parts_in o)
   within d = elim (none_long w.tags d) [
     | inl g ↦ further o.block o.bytes i ok.block (let e = long_pending in omega (arith, e, g))
@@ -127,7 +127,7 @@ module _ (o : Creation) (z : Scene) (ok : IsCreation o) (w : Writing) (s : Scene
   nothing_due [] (x ∷ t) e = (refl, omega arith)
   nothing_due (y ∷ p) t e = absurd (true≢false e)
 
-  -- where no part is due the tags are those of all parts
+  -- if no part is to be sent, the tags are those of all parts
   pub tags_are : is_due w ≡ false → w.tags ≡ map plain_tag (parts_in o)
   tags_are d =
       let n = nothing_due w.pending w.tags d in
@@ -151,11 +151,11 @@ module _ (o : Creation) (z : Scene) (ok : IsCreation o) (w : Writing) (s : Scene
       ∙ ap (λ t. CompleteUpload B o.path.key (id_in w) (named_from 1 t)) (tags_are k.1))
   writes_at _ k = absurd k
 
-  -- what it asks writes the file
+  -- the request writes the file
   pub is_write : IsWriteOf o z.content.next (asks B w)
   is_write = writes_at (stage_in w) (known w)
 
-  -- ---- what a reply leads to
+  -- ---- the result of a reply
 
   abbrev pub GoesOnSo : Heard → Scene → Type 0
   GoesOnSo (On v) s = IsSending o z v s
@@ -170,7 +170,7 @@ module _ (o : Creation) (z : Scene) (ok : IsCreation o) (w : Writing) (s : Scene
   rises : z.content.next ≤ (apply s r).content.next
   rises = let a = rises_at (stage_in w) in let b = h.later in omega (arith, a, b)
 
-  -- a request that had its effect
+  -- a request that took effect
   pub applied : IsSending o z w (apply s r)
   applied = record { tags = h.tags; pending = h.pending; unbegun = h.unbegun; begun = h.begun; later = rises }
 
@@ -219,7 +219,7 @@ module _ (o : Creation) (z : Scene) (ok : IsCreation o) (w : Writing) (s : Scene
   goes_at Sending k (Part t) repeated e = parts_so t k.0 k.1 e
   goes_at g k a repeated e = grind arith
 
-  -- where its answer leads, that is so again
+  -- after its reply the same holds again
   pub sends_on : (repeated : Bool) → GoesOnSo (heard w (answer s r) repeated) (apply s r)
   sends_on repeated = goes_at (stage_in w) (known w) (answer s r) repeated refl
 

@@ -1,4 +1,4 @@
--- A file that is written is a closed stream: its bytes are held, whatever the store loses, and nothing else changes. Contracts cite none of
+-- A file that is written is a closed stream. Its bytes are held, whatever the store loses, and nothing else changes. Contracts cite none of
 -- these laws.
 use Rattle.basics.proofs.Members.{nat_gone, nat_left, nat_other, same_or_not, some_is}
 use Rattle.basics.proofs.Tree.{insert_same}
@@ -39,7 +39,7 @@ use Rattle.std.specs.FinMap as fin
 use Rattle.block_stream.specs.Stream as streams
 use Rattle.block_stream.proofs.KeepingLaws as keeping
 
--- ---- what a stage tells
+-- ---- what a stage shows
 
 abbrev pub Known : Writing → Stage → Type 0
 Known w Putting = (w.upload ≡ None) × (is_short w ≡ true)
@@ -75,7 +75,7 @@ module _ (b : List ℕ) (w : Writing) (some : 1 ≤ w.block) where
   asked : (g : Stage) → Known w g → streams.asks g M ≡ Some (asks_at g b w)
   asked g h = grind (arith, take_all, is_less)
 
-  -- it asks what the stream asks
+  -- its request is the stream's
   pub wanted_is : wanted M ≡ Some (asks b w)
   wanted_is = ap (λ g. streams.asks g M) stage_is ∙ asked (stage_in w) (known w)
 
@@ -111,7 +111,7 @@ answered_there z b d n s e r f = ap (λ s. answer s r) e ∙ f ∙ ap (λ o. ans
 
 -- ---- what is kept
 
--- the file stands
+-- Holds if the file is in the bucket.
 abbrev pub Wrote : Scene → List ℕ → List ℕ → List ℕ → BucketContent → Scene → Type 0
 Wrote z b key bytes c s = IsBeside z b c (λ m. m ≡ fin.insert c.objects key (object_of bytes)) s
 
@@ -160,7 +160,7 @@ twice : (z m : Objects) (key bytes : List ℕ) → IsFileOrNot z key bytes m
 twice z m key bytes (inl e) = ap (λ (m : Objects). fin.insert m key (object_of bytes)) e
 twice z m key bytes (inr e) = ap (λ (m : Objects). fin.insert m key (object_of bytes)) e ∙ put_put z key (object_of bytes) (object_of bytes)
 
--- where the file stands whole
+-- If the file is there with these bytes, the objects are those with it added.
 whole_is : (z m : Objects) (key bytes : List ℕ) → IsFileOrNot z key bytes m → fin.get m key ≡ Some (object_of bytes)
     → m ≡ fin.insert z key (object_of bytes)
 whole_is z m key bytes (inl e) g = e ∙ sym (insert_same text_total exact_bytes z key (object_of bytes)
@@ -170,13 +170,13 @@ whole_is z m key bytes (inr e) g = e
 drawn_same : (i j : ℕ) → Drawn i ≡ Drawn j → i ≡ j
 drawn_same i j e = cc
 
--- what a reply has led to
+-- What holds after each result of a reply.
 abbrev pub HeardSo : Scene → List ℕ → List ℕ → List ℕ → BucketContent → Heard → Scene → Type 0
 HeardSo z b key bytes c Done s = Wrote z b key bytes c s
 HeardSo z b key bytes c (On v) s = Writes z b bytes c v s false
 HeardSo z b key bytes c Refusing s = ⊥
 
--- the bucket is there
+-- The bucket exists.
 not_gone : (g : Stage) (a : Reply) → answers g a ≡ true → look_of a ≡ NoBucket → ⊥
 not_gone g a h e = grind arith
 
@@ -204,7 +204,7 @@ module _ (z : Scene) (b bytes : List ℕ) (c : BucketContent) (w : Writing) (s :
       (next_of n (asks_at g b w))
   scene_after g = ap (λ s. apply s (asks_at g b w)) h.beside.scene ∙ applied_at g w z b d n
 
-  -- what the stream holds and is told
+  -- what the stream holds after the reply
   took : Holds (told (stage_in w) S repeated (answer s r)) (apply s r) false bytes
   took = subst (λ g. Holds (told g S repeated (answer s r)) (apply s r) false bytes) (stage_is b w some_block)
       (keeping.took S s repeated bytes h.holds r is_wanted)
@@ -262,15 +262,15 @@ module _ (z : Scene) (b bytes : List ℕ) (c : BucketContent) (w : Writing) (s :
     objects = objects_at (stage_in w) (known w) fits took;
   }
 
-  -- its effect, whose answer was lost, keeps it
+  -- the request took effect and its reply was lost
   pub hidden : Writes z b bytes c w (apply s r) true
   hidden = record { beside = beside_after; drawn = h.drawn; holds = keeping.hidden S s repeated bytes h.holds r is_wanted }
 
-  -- a sending that was lost before its effect
+  -- the send was lost before it took effect
   pub lost : Writes z b bytes c w s true
   lost = record { beside = h.beside; drawn = h.drawn; holds = keeping.lost S s repeated bytes h.holds }
 
-  -- ---- its answer leads on
+  -- ---- after its reply
 
   abbrev So : Heard → Scene → Type 0
   So = HeardSo z b w.key bytes c
@@ -307,7 +307,7 @@ module _ (z : Scene) (b bytes : List ℕ) (c : BucketContent) (w : Writing) (s :
       again false k = absurd k.held
   heard_so _ _ f k i = absurd (cc)
 
-  -- the id that is drawn is a later one
+  -- the id that is used is a later one
   later_id : (id : ℕ) → stage_in w ≡ Beginning → answer s r ≡ Drawn id → z.content.next ≤ id
   later_id id e f =
       let a = answered_there z b d n s h.beside.scene (CreateUpload b w.key) refl in
@@ -319,7 +319,7 @@ module _ (z : Scene) (b bytes : List ℕ) (c : BucketContent) (w : Writing) (s :
   pub goes_on : HeardSo z b w.key bytes c (heard w (answer s r) repeated) (apply s r)
   goes_on = heard_so (stage_in w) (answer s r) fits took (λ id e f. later_id id e f)
 
--- ---- where each sending was answered, its own upload alone is live
+-- ---- if each send was answered, only its own upload is live
 
 abbrev pub OwnHeard : Scene → List ℕ → Heard → Scene → Type 0
 OwnHeard z b Done s = NoneLeft z b s
@@ -384,9 +384,9 @@ module _ (z : Scene) (b bytes : List ℕ) (c : BucketContent) (w : Writing) (s :
   pub own_goes : OwnHeard z b (heard w (answer s (asks b w)) false) (apply s (asks b w))
   own_goes = own_at (stage_in w) (known w) (answer s (asks b w)) refl
 
--- ---- what is left falls, whatever is answered
+-- ---- the number of requests that are left falls, whatever the reply is
 
--- what goes on has less left and still room, and is the same output
+-- Holds if a writing that goes on has less left and still room, for the same output.
 abbrev pub GoesOn : List ℕ → Writing → Heard → Type 0
 GoesOn b w (On v) = (left v < left w) × HasRoom (stream_of b v) × (v.key ≡ w.key) × (v.block ≡ w.block)
 GoesOn b w _ = Unit {0}
@@ -400,7 +400,7 @@ parted_left w t some d =
     in
     omega (arith, h)
 
--- a part that is due leaves room
+-- A part that is to be sent leaves room.
 pub parted_room : (b : List ℕ) (w : Writing) (t : Spelled) → HasRoom (stream_of b w) → is_due w ≡ true → HasRoom (stream_of b (parted w t))
 parted_room b w t room d = room_after (stream_of b w) t room (due (stream_of b w) (part_due b w room.some ∙ d))
 

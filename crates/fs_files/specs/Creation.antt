@@ -1,4 +1,4 @@
--- What is asked of the making of a file.
+-- A file to make, as it is asked for.
 use Rattle.dir_markers.specs.Markers.{created, keys_above}
 use Rattle.dir_markers.specs.declared.marker.MarkerPolicy.{MarkerPolicy}
 use Rattle.dir_markers.specs.declared.marker.MarkerPolicy.TheVariants.{Delete, Keep}
@@ -9,8 +9,8 @@ use Rattle.std.proofs.Common.{refl}
 use Rattle.std.specs.Coded.{Coded, code_by, coded_bool, coded_ℕ, coded×}
 use Rattle.std.specs.Prelude.{Bool, List, false, length, true, ℕ, ◌*◌, ◌≡◌, ◌≤◌}
 
--- what is to be made: the file's path, its bytes, the length in bytes of its parts, whether a file that stands there is replaced, and what
--- becomes of the markers above it
+-- A file to make: its path, its bytes, the length in bytes of its parts but the last, whether an existing file may be replaced, and what is
+-- done with the markers above it.
 pub record Creation : Type 0 where
   pub path : Path
   pub bytes : List ℕ
@@ -18,22 +18,22 @@ pub record Creation : Type 0 where
   pub overwrite : Bool
   pub policy : MarkerPolicy
 
--- the policy deletes markers
+-- True if the policy deletes markers.
 abbrev pub deletes : MarkerPolicy → Bool
 deletes Keep = false
 deletes Delete = true
 
--- the policy of a bit
+-- The policy for a bit.
 abbrev pub policy_of : Bool → MarkerPolicy
 policy_of false = Keep
 policy_of true = Delete
 
--- a policy's bit gives the policy again
+-- The bit of a policy gives the policy back.
 abbrev pub policy_and_back : (p : MarkerPolicy) → policy_of (deletes p) ≡ p
 policy_and_back Keep = refl
 policy_and_back Delete = refl
 
--- the code of the making of a file
+-- The coding of a file to make as a tuple.
 abbrev pub coded_creation : Coded Creation
 coded_creation =
     code_by (List ℕ × (List ℕ × (List ℕ × (ℕ × (Bool × MarkerPolicy))))) (coded× coded_text
@@ -49,7 +49,7 @@ coded_creation =
           t.1.1.1.1.1;
     }) (λ _. refl)
 
--- the making of a file, of its parts
+-- A file to make, from its parts.
 abbrev pub created_of : List ℕ → List ℕ → List ℕ → ℕ → Bool → MarkerPolicy → Creation
 created_of bucket key bytes block overwrite policy = record {
   path = record { bucket = bucket; key = key };
@@ -59,13 +59,13 @@ created_of bucket key bytes block overwrite policy = record {
   policy = policy;
 }
 
--- what a creation is begun with
+-- The conditions under which a file can be made: a valid key, a block of at least one byte, and few enough parts.
 pub record IsCreation (o : Creation) : Type 0 where
   pub key : is_key o.path.key ≡ true
   pub block : 1 ≤ o.block
   pub room : length o.bytes ≤ o.block * MOST_PARTS
 
--- what it is kept with: the keys of the directories above, and the markers that go
+-- The code's fields for a file to make: the keys of the directories above, and the markers that go.
 pub record IsAsked (o : Creation) (keys markers : List (List ℕ)) : Type 0 where
   pub creation : IsCreation o
   pub above : keys ≡ keys_above o.path.key

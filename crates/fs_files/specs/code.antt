@@ -1,3 +1,3 @@
--- The making of a file stage by stage, as the code goes through it. What it answers and leaves is said in `fs_tree`.
+-- The making of a file stage by stage, as the code goes through it. `fs_tree` states what it answers and leaves.
 pub mod Writing
 pub mod Create

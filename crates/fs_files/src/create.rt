@@ -17,23 +17,29 @@ use s3_types::{Bucket, Bytes, Key, KeyList, PageLimit, Reply, Request, both, cop
 use std::alloc::{AllocError, Global};
 use std::marker::Model;
 
-/// Where the making of a file stands.
+/// The stage of making a file.
 #[derive(Drop)]
 pub enum CreateStage {
-    /// Whether a file stands at the path.
+    /// Asks whether a file exists at the path.
     Here,
-    /// Whether something stands below it.
+    /// Asks whether anything exists below it.
     Below,
-    /// Whether a file stands at one of the directories above.
+    /// Asks whether a file exists at one of the directories above.
     Up(Climb),
-    /// The bytes are written.
+    /// Writes the bytes.
     Write(BlockStream),
-    /// The markers above are deleted.
+    /// Deletes the markers above.
     DropMarkers,
 }
 
-/// A file to be made: its path, the keys and the markers of the directories above it, from the root on, its bytes,
-/// and the length in bytes of its parts.
+/// A file to make.
+///
+/// - `place`: its path in the bucket.
+/// - `above`, `markers`: the keys of the directories above it, from the root down, and the markers
+///   above it that are deleted.
+/// - `bytes`: its bytes.
+/// - `block`: the length in bytes of each of its parts but the last.
+/// - `overwrite`: true if an existing file may be replaced.
 #[derive(Drop)]
 pub struct NewFile {
     alloc: Global,
@@ -65,7 +71,7 @@ type Answer = Result<(), FsRefusal>;
 type CreateStep = Step<CreateStage, Answer>;
 
 impl NewFile {
-    /// A closed stream of all bytes.
+    /// The closed stream that has all bytes.
     fn stream(&self, key: &Key) -> Result<BlockStream, AllocError>
         ensures { IfOk result (λ stream. stream ≡ filled self.now.path.bucket key.now self.now.block self.now.bytes) }
     {
@@ -230,14 +236,22 @@ impl NewFile {
     }
 }
 
-/// Makes the file: its bytes are put at once where they are fewer than a block, and else by the parts of an upload;
-/// then the markers above it are deleted in one batch, where the policy keeps none. At any moment the file is as
-/// it was before, or stands whole. Refused IsDirectory at the root and where a directory stands at the path,
-/// AlreadyExists where a file stands that may not be replaced, and NotDirectory with the key of the first
-/// directory above, from the root on, at which a file stands; and before that NoSuchBucket. This is so on a
-/// store whose least part is not longer than the block; else the upload may be refused, and the answer is
-/// then NotFound. Two requests, one for each directory above, one for each block, and three more. It holds
-/// the bytes once more, cut into blocks. (Hadoop FileSystem specification, create.)
+/// Makes a file. (Hadoop FileSystem specification, create.) If the file is shorter than a block,
+/// one put writes it; otherwise the parts of an upload do. Then one batch deletes the markers above
+/// it, if the policy keeps none. At every point the file is as it was before, or the whole new
+/// file.
+///
+/// The answer is one of these refusals, after which nothing has changed:
+///
+/// - `NoSuchBucket`, before all others, if there is no bucket.
+/// - `IsDirectory` for the root, and if a directory exists at the path.
+/// - `AlreadyExists` if a file exists that may not be replaced.
+/// - `NotDirectory` with the key of the first directory above, from the root down, at which a file
+///   exists.
+///
+/// This holds on a store whose least part is not longer than the block. On another store the upload
+/// may be refused, and the answer is then `NotFound`. It sends two requests, one for each directory
+/// above, one for each block, and three more. It keeps a second copy of the bytes, cut into blocks.
 #[derive(Drop)]
 pub struct CreateFile {
     pub file: NewFile,
@@ -245,7 +259,7 @@ pub struct CreateFile {
 }
 
 impl CreateFile {
-    /// The making of a file with these bytes, at its first stage. `block` is the length in bytes of each of its parts
+    /// Begins to make a file with these bytes. `block` is the length in bytes of each of its parts
     /// but the last.
     pub fn new(
         alloc: Global,

@@ -1,4 +1,4 @@
--- What is asked, told by what follows from it.
+-- What follows of requests from their properties.
 use Rattle.bucket_ops.specs.Asks.{Ask, objects_at}
 use Rattle.bucket_ops.specs.Phases.{SendsAt, SendsIn}
 use Rattle.s3_types.specs.Store.{Objects, Scene}
@@ -7,13 +7,13 @@ use Rattle.s3_types.specs.declared.request.Request.{Request}
 use Rattle.std.specs.List.{AllByRecursion}
 use Rattle.std.specs.Prelude.{List, None, Option, Some, ℕ, [], ◌∷◌}
 
--- of each request
+-- A weaker property holds of each request.
 pub each_asked : (P Q : Request → Type 0) → ((r : Request) → P r → Q r) → (es : List Entry) → AllByRecursion (λ e. P e.request) es
     → AllByRecursion (λ e. Q e.request) es
 each_asked P Q f [] h = tt
 each_asked P Q f (e ∷ es) h = (f e.request h.0, each_asked P Q f es h.1)
 
--- in a bucket
+-- The same for requests in a bucket.
 pub asked_in : (b : List ℕ) (look : Ask) (P Q : Objects → Ask → Type 0) (z : Scene) → ((m : Objects) (a : Ask) → P m a → Q m a)
     → (r : Request) → SendsIn b look P z r → SendsIn b look Q z r
 asked_in b look P Q z f r h = by (objects_at z b) h

@@ -1,4 +1,4 @@
--- What stands at a path, stage by stage, whatever is asked of a file there.
+-- What exists at a path, stage by stage, however a file there is asked for.
 use Rattle.bucket_ops.specs.Asks.{Ask, edited, is_look, reply_in}
 use Rattle.bucket_ops.specs.Phases.{IsPhases, MayAsk}
 use Rattle.dir_markers.specs.Markers.{marker_of}
@@ -18,7 +18,7 @@ use Rattle.s3_types.specs.declared.reply.Reply.{Reply}
 use Rattle.std.proofs.Common.{arith, refl, subst, sym, ◌∙◌}
 use Rattle.std.specs.Prelude.{Err, List, Option, Result, true, ℕ, [], ◌∷◌, ◌≡◌}
 
--- what a question owes that is asked of a file so, is told so, and answers so where a directory stands
+-- What a question must fulfil that asks for a file with `ask`, reads it from a reply with `file`, and answers `directory` for a directory.
 pub record IsQuestion {A : Type 0} (ask : List ℕ → Ask) (file : Reply → Option A) (directory : Result A FsRefusal)
     (gives : List ℕ → Objects → Result A FsRefusal → Objects → Type 0) : Type 0 where
   pub still : (p : List ℕ) (z : Objects) → edited (ask p) z ≡ z
@@ -64,12 +64,12 @@ module _ {A : Type 0} {ask : List ℕ → Ask} {file : Reply → Option A} {dire
   pub question_laws : IsPhases {O = List ℕ} first (asks ask) (goes_by (on directory file)) holds gives IsStill left (Err NoSuchBucket)
   question_laws = phases_of (Err NoSuchBucket) stages
 
--- ---- it only looks
+-- ---- the question only looks
 
 pub looks_there : (p : List ℕ) → is_look (look_asks p) ≡ true
 looks_there p = grind arith
 
--- and a look changes nothing
+-- A look changes nothing.
 pub look_still : (a : Ask) (m : Objects) → is_look a ≡ true → edited a m ≡ m
 look_still a m h = grind arith
 

@@ -1,4 +1,4 @@
--- What a delimited listing has of a directory's children. Contracts cite none of these laws.
+-- What a delimited listing shows of a directory's children. Contracts cite none of these laws.
 use Rattle.basics.proofs.Bools.{not_so}
 use Rattle.basics.proofs.Less.{lt}
 use Rattle.basics.proofs.Members.{filter_in, in_filter, in_map, map_in, nat_true, none_some, some_is, text_exact}
@@ -55,7 +55,7 @@ before_one (x ∷ n) w h =
 stem_more : (q k : List ℕ) (x : ℕ) → stem (x ∷ q) (x ∷ k) ≡ option_map (λ s. x ∷ s) (stem q k)
 stem_more q k x = ap (λ b. cond b (option_map (λ s. x ∷ s) (stem q k)) None) (nat_true x x refl)
 
--- behind a prefix
+-- The same after a prefix.
 pub stem_at : (q n : List ℕ) → NoSlash n → stem q (q ++ n) ≡ None
 stem_at [] n h = before_at n h
 stem_at (x ∷ q) n h = stem_more q (q ++ n) x ∙ ap (option_map (λ s. x ∷ s)) (stem_at q n h)
@@ -64,7 +64,7 @@ pub stem_one : (q n w : List ℕ) → NoSlash n → stem q (q ++ (n ++ 47 ∷ w)
 stem_one [] n w h = before_one n w h
 stem_one (x ∷ q) n w h = stem_more q (q ++ (n ++ 47 ∷ w)) x ∙ ap (option_map (λ s. x ∷ s)) (stem_one q n w h)
 
--- a text has no `/`, or it is cut at its first one
+-- Holds if a text has no `/`, or is cut at its first one.
 abbrev Cut : List ℕ → Type 0
 Cut r = NoSlash r ⊎ ((n : List ℕ) × (w : List ℕ) × (r ≡ n ++ 47 ∷ w) × NoSlash n)
 
@@ -77,7 +77,7 @@ cut (x ∷ r) = by (x == 47) refl (cut r)
     by false e (inl n) = inl (ap (λ b. not b && list_all (is_other 47) r) e ∙ n)
     by false e (inr c) = inr (x ∷ c.0, c.1, ap (λ l. x ∷ l) c.2, ap (λ b. not b && list_all (is_other 47) c.0) e ∙ c.3)
 
--- a name with a `/` behind it has one
+-- A name with a `/` after it has a `/`.
 slashed : (n m : List ℕ) → NoSlash m → m ≡ n ++ 47 ∷ [] → ⊥
 slashed n m h e = false≢true (sym (all n) ∙ ap (list_all (is_other 47)) (sym e) ∙ h)
   where
@@ -92,7 +92,7 @@ abbrev pub entry_at : List ℕ → List ℕ → Status → PageEntry
 entry_at q n Directory = Prefix ((q ++ n) ++ 47 ∷ [])
 entry_at q n (File l) = Single (q ++ n) l
 
--- the entry of a child below a prefix
+-- The listing's entry of a child below a prefix.
 abbrev pub entry_from : List ℕ → DirEntry → PageEntry
 entry_from q d = entry_at q d.name d.status
 
@@ -100,7 +100,7 @@ pub text_at : (q n : List ℕ) (s : Status) → text_in (entry_at q n s) ≡ q +
 text_at q n Directory = append_assoc q n (47 ∷ [])
 text_at q n (File l) = refl
 
--- a key stands behind it: its own, or one below it
+-- Holds if a key shows the child: its own, or one below it.
 abbrev pub Standing : List ℕ → Objects → List ℕ → Status → Type 0
 Standing q z n Directory = (w : List ℕ) × (o : Object) × (fin.get z (q ++ (n ++ 47 ∷ w)) ≡ Some o)
 Standing q z n (File l) = (o : Object) × (fin.get z (q ++ n) ≡ Some o) × (length o.bytes ≡ l)
@@ -109,7 +109,7 @@ pub record IsChild (q : List ℕ) (z : Objects) (d : DirEntry) : Type 0 where
   pub plain : NoSlash d.name
   pub stands : Standing q z d.name d.status
 
--- a text that ends so is behind the empty one
+-- A text that ends so comes after the empty one.
 some_behind : (n w : List ℕ) → lt text_cmp [] (n ++ 47 ∷ w) ≡ true
 some_behind [] w = refl
 some_behind (x ∷ n) w = refl
@@ -127,7 +127,7 @@ folded_sub last (y ∷ ys) x i = by (is_again last y) refl (folded_sub last ys x
         → (IsIn x (folded_from (Some (text_in y)) ys) → IsIn x ys) → IsIn x (y ∷ ys)
     by b h g e = grind arith
 
--- an entry is listed, or another of its text is
+-- Holds if an entry with this text is listed.
 abbrev HasText : List ℕ → List PageEntry → Type 0
 HasText t xs = (y : PageEntry) × IsIn y xs × (text_in y ≡ t)
 
@@ -161,14 +161,14 @@ module _ (q : List ℕ) (z : Objects) where
   abbrev all : List PageEntry
   all = listed q true [] z
 
-  -- keys below the prefix, as entries
+  -- the keys below the prefix, as entries
   abbrev flat : List PageEntry
   flat = map (entry_of q true) (filter (λ (e : Entry). begins q e.0) (fin.entries z))
 
   abbrev after : List ℕ → PageEntry → Bool
   after mark x = is_lt (text_cmp mark (text_in x))
 
-  -- what is listed is a child's entry
+  -- each listed entry is that of a child
   pub record Shown (x : PageEntry) : Type 0 where
     pub child : DirEntry
     pub entry : x ≡ entry_from q child
@@ -197,7 +197,7 @@ module _ (q : List ℕ) (z : Objects) where
       let g : fin.get z c.0.0 ≡ Some c.0.1 = fin.get-entries z c.0.0 ∙ found_at (fin.entries z) c.0 (map_sorted text_cmp z) d.0 in
       subst Shown (sym c.2) (shown_key c.0.0 c.0.1 d.1 g)
 
-  -- something stands below it
+  -- something exists below the prefix
   child_stands : (n : List ℕ) (s : Status) → Standing q z n s → SomeBelow z q
   child_stands n Directory h = (q ++ (n ++ 47 ∷ h.0), begins_more q (n ++ 47 ∷ h.0), h.1, h.2)
   child_stands n (File l) h = (q ++ n, begins_more q n, h.0, h.1)
@@ -206,7 +206,7 @@ module _ (q : List ℕ) (z : Objects) where
   some_listed mark x xs e = let s = shown_in mark x (subst (IsIn x) (sym e) (inl refl)) in child_stands s.child.name s.child.status
       s.is_child.stands
 
-  -- each key that stands has an entry of its text
+  -- each existing key has an entry of its text
   pub has_text : (k : List ℕ) (o : Object) → fin.get z k ≡ Some o → begins q k ≡ true
       → lt text_cmp [] (text_in (entry_of q true (k, o))) ≡ true → HasText (text_in (entry_of q true (k, o))) all
   has_text k o g b l =
@@ -234,7 +234,7 @@ module _ (q : List ℕ) (z : Objects) where
   pub listed_rises : (mark : List ℕ) → RisesFrom mark (map text_in (listed q true mark z))
   listed_rises mark = subst (λ xs. RisesFrom mark (map text_in xs)) (walked_listed q true mark z) (rises_walked mark (fin.entries z))
 
-  -- entries that show children are theirs
+  -- entries that are those of children
   pub record AreShown (xs : List PageEntry) : Type 0 where
     pub children : List DirEntry
     pub entries : xs ≡ map (entry_from q) children
@@ -251,7 +251,7 @@ module _ (q : List ℕ) (z : Objects) where
         are = λ d i. elim i [ inl e ↦ subst (IsChild q z) (sym e) s.is_child | inr j ↦ r.are d j ];
       }
 
-  -- ---- a child that stands is one of them
+  -- ---- each existing child is among them
 
   module _ (ds : List DirEntry) (entries : all ≡ map (entry_from q) ds) (are : (d : DirEntry) → IsIn d ds → IsChild q z d) where
     entry_in : (t : List ℕ) → HasText t all → (d : DirEntry) × IsIn d ds × (q ++ text_by d.name d.status ≡ t)
@@ -292,7 +292,7 @@ module _ (q : List ℕ) (z : Objects) where
         let v = entry_in (text_in (entry_of q true (q ++ (n ++ 47 ∷ w), o))) h in
         dir_is n v.0 s v.1 (v.2 ∙ t)
 
--- where nothing is listed below a prefix nothing stands there
+-- If nothing is listed below a prefix, no key is there.
 pub none_listed : (x : ℕ) (q : List ℕ) (z : Objects) → listed (x ∷ q) true [] z ≡ [] → NoneBelow z (x ∷ q)
 none_listed x q z e k b = by (fin.get z k) refl
   where

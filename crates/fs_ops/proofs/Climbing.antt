@@ -12,7 +12,7 @@ use Rattle.std.specs.Prelude.{List, None, length, ℕ, ◌<◌, ◌≡◌}
 use Rattle.std.specs.FinMap as fin
 
 module _ (z : Objects) (all : List (List ℕ)) where
-  -- what it leads to is so of all
+  -- what a result of the climb says holds of all directories
   abbrev pub IsClimbed : Climbed → Type 0
   IsClimbed (File k) = IsFirstFile z all k
   IsClimbed (On c) = IsClimb z all c
@@ -27,7 +27,7 @@ module _ (z : Objects) (all : List (List ℕ)) where
   pub all_on : IsClimbed (climbing all)
   all_on = begun all (record { file = λ a g. g; free = λ g. g })
 
--- a climb that goes on has fewer than so many to come
+-- Holds if a climb that goes on has fewer than n directories to come.
 abbrev pub IsShorter : Climbed → ℕ → Type 0
 IsShorter (On c) n = length c.rest < n
 IsShorter _ n = Unit {0}

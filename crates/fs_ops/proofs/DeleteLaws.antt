@@ -1,4 +1,4 @@
--- Deleting a path, stage by stage.
+-- The deletion of a path, stage by stage.
 use Rattle.basics.proofs.Less.{irrefl}
 use Rattle.basics.proofs.Members.{in_back, in_front, same_or_other, text_gone, text_here, text_is, text_left, text_other, text_true}
 use Rattle.basics.proofs.Members.{true_or_false}
@@ -54,11 +54,11 @@ use Rattle.store_frame.proofs.Flat.{listed_rises}
 use Rattle.std.specs.FinMap as fin
 use Rattle.list_walk.specs.Walks as walks
 
--- without all keys below a prefix none is left there, and the others are as they were
+-- After the removal of all keys below a prefix none is left there, and the others are as they were.
 without_below : (x : ℕ) (q : List ℕ) (z : Objects) → IsWithoutBelow (x ∷ q) z (without z (keys_below (x ∷ q) z))
 without_below x q z = grind (arith, kept_out, below_stands, gone_still, gone_in, stands_below)
 
--- ---- what the first two entries below a directory tell
+-- ---- what the first two entries below a directory show
 
 abbrev Tells : Objects → List ℕ → Inside → Type 0
 Tells z p Empty = NoneBelow z (marker_of p)
@@ -167,7 +167,7 @@ module _ (recursive : Bool) (z : Objects) where
       (after_sweep x p (edited (sweep_asks (marker_of (x ∷ p)) w) m) (sweep_hears all_go w (reply_in m (sweep_asks (marker_of (x ∷ p)) w)))
       f s e (sweep_goes (marker_of (x ∷ p)) z w m h))
 
-  -- the reply that is due leads on
+  -- the step after the reply that S3 must give
   step : (p : List ℕ) (x : DeleteStage) (m : Objects) → holds (D p) z x m
       → On p (on (D p) x (reply_in m (asks (D p) x))) (edited (asks (D p) x) m)
   step p (Parent k) m h = parent_key (λ l. On p (on_parent k l) m) (parent p) k m h.0
@@ -199,9 +199,9 @@ due_empty recursive (x ∷ p) z f h = inr (f, (marker_of (x ∷ p), begins_all (
 due_removed : (o : Deletion) (z m : Objects) → Removed o z m → IsDue o z
 due_removed o z m h = grind arith
 
--- ---- at any moment
+-- ---- at every point
 
--- the marker above does not go with a key
+-- The marker above does not belong to the deleted path.
 stays_above : (p : List ℕ) (recursive : Bool) (z : Objects) → is_key p ≡ true → (q : List ℕ) → marker_if (parent p) ≡ Some q
     → GoesWith (record { path = p; recursive = recursive }) z q → ⊥
 stays_above [] recursive z key q e (inl h) = h.0.1
@@ -233,7 +233,7 @@ module _ (o : Deletion) (z : Objects) where
   gone_removed n (inr h) k = elim (true_or_false (begins (prefix_of o.path) k))
       [ inl t ↦ inr (h.3.gone k t, inr (h.0, t)) | inr f ↦ inl (h.3.others k f) ]
 
-  -- where the marker above is put, nothing stood
+  -- if the marker above is put, nothing was there
   pub was_free : is_key o.path ≡ true → (q : List ℕ) (n : Objects) → marker_if (parent o.path) ≡ Some q → Removed o z n → NoneBelow n q
       → fin.get z q ≡ None
   was_free key q n e h none = elim (gone_removed n h q) [
@@ -270,7 +270,7 @@ module _ (o : Deletion) (z : Objects) where
   at_end (Err NotEmpty) m h key = inl h.3
   at_end (Err r) m h key = absurd h
 
-  -- ---- what is left
+  -- ---- the requests that are left
 
   fall_up : (u : Option (List ℕ)) (m : Objects) (n : ℕ) → 1 < n → Falls (left o) (up_to u) m n
   fall_up u m n h = grind arith
@@ -319,9 +319,9 @@ stages = record {
 pub delete_laws : IsPhases {O = Deletion} first asks (goes_by on) holds gives always left (Err NoSuchBucket)
 delete_laws = phases_of (Err NoSuchBucket) stages
 
--- ---- what is asked
+-- ---- the requests
 
--- the file's own key is deleted, and the marker of a directory that is empty
+-- A file's own key is deleted.
 drops_file_key : (p : List ℕ) (z : Objects) → HasFile z p → drop_asks p ≡ Drop p
 drops_file_key [] z h = absurd h.1
 drops_file_key (x ∷ p) z h = refl
@@ -330,7 +330,7 @@ drops_marker_key : (p : List ℕ) (z : Objects) → NoFileAt z p → drop_marker
 drops_marker_key [] z h = absurd h
 drops_marker_key (x ∷ p) z h = refl
 
--- what is deleted next stands below the directory
+-- The keys that are deleted next are below the directory.
 batch_of : (o : Deletion) (z m : Objects) (k : List ℕ) (ks : List (List ℕ)) → NoFileAt z o.path → o.recursive ≡ true
     → IsDeleting z (keys_below (prefix_of o.path) z) (k ∷ ks) m
     → IsBatch o z (take 1000 (k ∷ ks))

@@ -1,4 +1,4 @@
--- A deletion, in the tree.
+-- A deletion, on the tree.
 use Rattle.bucket_ops.specs.Asks.{objects_at}
 use Rattle.bucket_ops.specs.Phases.{GivesIn}
 use Rattle.fs_ops.proofs.StepLaws.{same_scene}
@@ -26,7 +26,7 @@ removed recursive x p z n m k (inl h) g =
 removed recursive x p z n m k (inr h) g =
     inr (record { directory = (h.0, h.1); empty = h.2; tree = drops_dir x p z n m h.3 g h.1; without = n; emptied = h.3; marked = g })
 
--- what a deletion gives is what it is in the tree
+-- What a deletion gives is the deletion on the tree.
 pub deletes : (recursive : Bool) (p : List ℕ) (z : Objects) (a : Answer) (m : Objects) → is_key p ≡ true → ends (deletion recursive p) z a m
     → Deletes recursive p z a m
 deletes recursive [] z (Ok x) m k h = elim h.1 [ inl g ↦ absurd g.0.1 | inr g ↦ absurd g.0 ]
@@ -40,7 +40,7 @@ deletes recursive (y ∷ p) z (Err NotFound) m k h = h
 deletes recursive (y ∷ p) z (Err NotEmpty) m k h = (h.0, (h.1, (h.2.0, h.2.1, h.2.3, h.2.4)), h.2, h.3)
 deletes recursive (y ∷ p) z (Err r) m k h = absurd h
 
--- a deletion in a bucket, of a key
+-- The same in a bucket, for a path with a valid key.
 pub deletes_in : (b : List ℕ) (o : Deletion) (z : Scene) (a : Answer) (s : Scene) → is_key o.path ≡ true
     → GivesIn b (gives o) (Err NoSuchBucket) z a s → GivesIn b (Deletes o.recursive o.path) (Err NoSuchBucket) z a s
 deletes_in b o z a s k h = same_scene (objects_at z b) z s b (λ m n. gives o m a n) (λ m n. Deletes o.recursive o.path m a n)

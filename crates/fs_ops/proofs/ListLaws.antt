@@ -1,4 +1,4 @@
--- What a directory holds, stage by stage.
+-- The listing of a directory, stage by stage.
 use Rattle.basics.proofs.Less.{lt}
 use Rattle.basics.specs.Members.{RisesFrom}
 use Rattle.basics.specs.Order.{text_cmp}
@@ -41,13 +41,13 @@ added_more : (q : List ℕ) (n : ℕ) (es : List PageEntry) (found : List DirEnt
 added_more q (suc n) (e ∷ es) found = added_more q n es (added found (shown q found e))
 added_more q _ _ found = refl
 
--- what is listed behind a page are the others
+-- The entries listed after a page are those that the page left.
 behind_page : (q mark : List ℕ) (z : Objects) (n : ℕ) (l : List PageEntry) → listed q true mark z ≡ l
     → listed q true (last_text mark (take n l)) z ≡ drop n l
 behind_page q mark z (suc n) (x ∷ xs) h = behind_page q (text_in x) z n xs (listed_behind q true mark z x xs h)
 behind_page q mark z _ _ h = h
 
--- a mark is what it was before nothing, and else it is not empty
+-- Holds if the mark is unchanged and the page was empty, or the mark is not empty.
 abbrev MarkOf : List ℕ → List ℕ → List PageEntry → Type 0
 MarkOf mark last l = ((last ≡ mark) × (l ≡ [])) ⊎ ((0 < length l) × (0 < length last))
 
@@ -71,7 +71,7 @@ module _ (z : Objects) where
   abbrev On : List ℕ → Step ListStage Answer → Objects → Type 0
   On o y m = Goes (holds o z) (Lists o z) y m
 
-  -- ---- the directory, where something was listed
+  -- ---- the directory, if something was listed
 
   dir_paged : (o mark : List ℕ) (l : List PageEntry) → listed (prefix_of o) true mark z ≡ l → 0 < length l → HasDir z o
   dir_paged o mark [] e h = absurd (omega (arith, h))
@@ -96,7 +96,7 @@ module _ (z : Objects) where
               added_more (prefix_of o) 1000 l found ∙ is,
         )
 
-    -- the first page of all, or a later one
+    -- the first page, or a later one
     ended : (o : List ℕ) → NoFile z o → (mark ≡ []) ⊎ HasDir z o → listed (prefix_of o) true mark z ≡ l
         → all_added (prefix_of o) found l ≡ children (prefix_of o) z → (k : List ℕ) → MarkOf mark k l
         → On o (whole o (all_added (prefix_of o) found l) k) z
@@ -126,7 +126,7 @@ module _ (z : Objects) where
   step : (o : List ℕ) (x : ListStage) → holds o z x z → On o (on o x (reply_in z (asks o x))) (edited (asks o x) z)
   step o x h = grind (arith, none_found, here, page_goes)
 
--- ---- what is left
+-- ---- the requests that are left
 
 fall_whole : (o : List ℕ) (found : List DirEntry) (mark : List ℕ) (m : Objects) (n : ℕ) → Falls (left o) (whole o found mark) m n
 fall_whole o found mark m n = grind arith

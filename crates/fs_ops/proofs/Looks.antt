@@ -1,4 +1,4 @@
--- What looks tell where there is the bucket.
+-- What looks show while the bucket exists.
 use Rattle.basics.specs.Members.{IsIn}
 use Rattle.basics.specs.Order.{text_cmp}
 use Rattle.bucket_ops.specs.Looks.{look_of}
@@ -16,7 +16,7 @@ use Rattle.std.specs.Prelude.{List, None, Option, Some, false, map, take, true, 
 use Rattle.store_frame.proofs.Flat.{listed_all, page_begins}
 use Rattle.std.specs.FinMap as fin
 
--- what a look says is so
+-- Holds if what the look showed is true.
 abbrev pub IsSeen : Look → Type 0 → Type 0 → Type 0
 IsSeen There there nothing = there
 IsSeen Nothing there nothing = nothing
@@ -24,14 +24,14 @@ IsSeen _ there nothing = ⊥
 
 -- ---- a look at a key
 
--- it tells whether an object stands there
+-- It shows whether an object exists there.
 pub head_tells : (m : Objects) (k : List ℕ) → IsSeen (look_of (head (fin.get m k))) (Stands m k) (fin.get m k ≡ None)
 head_tells m k = elim (fin.get m k) as (λ o. IsSeen (look_of (head o)) ((v : Object) × (o ≡ Some v)) (o ≡ None))
     [ None ↦ refl | Some v ↦ (v, refl) ]
 
 -- ---- a look below a prefix that is not empty
 
--- where nothing is listed nothing stands
+-- If nothing is listed, no key is there.
 pub none_listed : (x : ℕ) (q : List ℕ) (m : Objects) → listed (x ∷ q) false [] m ≡ [] → NoneBelow m (x ∷ q)
 none_listed x q m e k b = by k b (fin.get m k) refl
   where
@@ -42,13 +42,13 @@ none_listed x q m e k b = by k b (fin.get m k) refl
     by : (k : List ℕ) → begins (x ∷ q) k ≡ true → (o : Option Object) → fin.get m k ≡ o → fin.get m k ≡ None
     by k h o g = grind (arith, stands)
 
--- what is listed first stands below
+-- The first listed entry is below the prefix.
 pub first_listed : (q : List ℕ) (m : Objects) (e : PageEntry) (es : List PageEntry) → listed q false [] m ≡ e ∷ es → SomeBelow m q
 first_listed q m e es h =
     let w = page_begins 1 q [] (text_in e) m (subst (λ l. IsIn (text_in e) (map text_in (take 1 l))) (sym h) (inl refl)) in
     (text_in e, w.0, w.1.0, w.1.1)
 
--- it tells whether a key stands there
+-- It shows whether a key exists there.
 pub page_tells : (x : ℕ) (q : List ℕ) (m : Objects)
     → IsSeen (look_of (page 1 (listed (x ∷ q) false [] m))) (SomeBelow m (x ∷ q)) (NoneBelow m (x ∷ q))
 page_tells x q m = by (listed (x ∷ q) false [] m) refl
@@ -57,7 +57,7 @@ page_tells x q m = by (listed (x ∷ q) false [] m) refl
     by [] e = none_listed x q m e
     by (y ∷ l) e = first_listed (x ∷ q) m y l e
 
--- ---- what is so of either is so of what a look tells
+-- ---- what holds in both cases holds of what a look shows
 
 pub told : (A B : Type 0) (P : Look → Type 0) (l : Look) → IsSeen l A B → (A → P There) → (B → P Nothing) → P l
 told A B P l h g e = grind arith

@@ -1,4 +1,4 @@
--- Making a directory, stage by stage.
+-- The making of a directory, stage by stage.
 use Rattle.bucket_ops.specs.Asks.{edited, reply_in}
 use Rattle.bucket_ops.specs.Looks.{look_of}
 use Rattle.bucket_ops.specs.Phases.{IsPhases, MayAsk}

@@ -1,4 +1,4 @@
--- The keys of paths and of the directories above them, and what texts have behind a prefix.
+-- The keys of paths and of the directories above them, and the rests of texts after a prefix.
 use Rattle.basics.proofs.Pieces.{one_part}
 use Rattle.basics.specs.Parts.{is_other, parts_of}
 use Rattle.dir_markers.proofs.Above.{front_some}
@@ -21,7 +21,7 @@ use Rattle.std.specs.List.{list_all, starts_with}
 use Rattle.std.specs.Option.{MatchOption}
 use Rattle.std.specs.Str.Pattern.{FindsTextPrefix, StripsPrefix}
 
--- a path that is not the root
+-- A path that is not the root.
 pub record IsPlace (key : List ℕ) : Type 0 where
   pub some : 0 < length key
   pub own : key_if key ≡ Some key
@@ -30,7 +30,7 @@ pub record IsPlace (key : List ℕ) : Type 0 where
 pub is_place : (key : List ℕ) (b : Bool) → b ≡ (length key == 0) → b ≡ false → IsPlace key
 is_place key b h g = grind arith
 
--- its key is an object's
+-- Its key is valid as an object's.
 pub path_key : (key : List ℕ) → 0 < length key → is_key key ≡ true → is_key_path key ≡ true
 path_key key some k = let is = some_key key some k in key_path_from key is.0 (omega (arith, is.1))
 
@@ -48,12 +48,12 @@ one_more key front back m found first e h f k =
     ∙ (append_assoc found (keys_above front) (front ∷ [])
     ∙ ap (λ (l : List (List ℕ)). found ++ l) (sym (more_above key front back e h))))
 
--- the key of one of them is an object's
+-- The key of each of them is valid as an object's.
 pub front_key : (key front back : List ℕ) → is_key key ≡ true → key ≡ front ++ 47 ∷ back → list_all (is_other 47) back ≡ true
     → is_key_path front ≡ true
 front_key key front back k e h = path_key front (front_some key front back k e) (front_is_key key front back k e h)
 
--- what a path that is not the root is kept as
+-- What the code stores of a path that is not the root.
 pub kept_as : (path text key marker : List ℕ) → IsPlace path → is_key path ≡ true → text ≡ path → key ≡ text → marker ≡ marker_of path
     → (Some key ≡ key_if text) × (Some marker ≡ marker_if text) × (is_key text ≡ true)
 kept_as path text key marker h k e f g = (
@@ -63,7 +63,7 @@ kept_as path text key marker h k e f g = (
       is_key e ∙ k,
 )
 
--- what the keys below a path begin with, by its marker
+-- The prefix of the keys below a path is its marker.
 pub prefix_marked : (p m : List ℕ) → Some m ≡ marker_if p → m ≡ prefix_of p
 prefix_marked p m h = grind arith
 
@@ -88,7 +88,7 @@ pub last_of_none : {E : Type 0} (r : Result (List ℕ) E) (key : List ℕ) → l
     → IfOk r (λ n. n ≡ own_name key)
 last_of_none r key h k = at_end r key (own_name key) k (sym (ap last_of (one_part 47 key h)))
 
--- ---- what a text has behind a prefix
+-- ---- the rest of a text after a prefix
 
 pub rest_found : (q t : List ℕ) (r : Option (Bor (List ℕ)))
     → MatchOption r (FindsTextPrefix q t None) (λ x. StripsPrefix (FindsTextPrefix q) t x.now) → option_map (λ r. r.now) r ≡ rest_of q t

@@ -1,4 +1,4 @@
--- The bytes of a file are a question at its path.
+-- The read of a file is a question at its path.
 use Rattle.bucket_ops.specs.Phases.{IsPhases, MayAsk}
 use Rattle.fs_ops.proofs.AtPathLaws.{IsQuestion, gets_there, question_asked, question_laws}
 use Rattle.fs_ops.specs.Places.{get_asks}

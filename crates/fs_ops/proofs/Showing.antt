@@ -56,11 +56,11 @@ cmp_behind (x ∷ q) a b = ap (λ r. ordering_then r (text_cmp (q ++ a) (q ++ b)
 first_part : (n : List ℕ) → NoSlash n → first_of (parts_of 47 (n ++ 47 ∷ [])) ≡ n
 first_part n h = ap first_of (parts_append 47 n [] ∙ ap (λ (l : List (List ℕ)). l ++ parts_of 47 []) (one_part 47 n h))
 
--- a name is before the same with a `/`
+-- A name comes before the same name with a `/`.
 before_marker : (n : List ℕ) → lt text_cmp n (marker_of n) ≡ true
 before_marker n = ap (λ l. lt text_cmp l (marker_of n)) (sym (append-nil n)) ∙ ap is_lt (cmp_behind n [] (47 ∷ []))
 
--- what begins a directory's text begins its name, or is the text
+-- What begins a directory's text begins its name, or is the text.
 begins_front : (n m : List ℕ) → begins n (marker_of m) ≡ true → (n ≡ marker_of m) ⊎ (begins n m ≡ true)
 begins_front [] m h = inr refl
 begins_front (x ∷ []) [] h = inl (ap (λ v. v ∷ []) (eq_nat x 47 (and_parts (nat_eq x 47) true h).0))
@@ -84,7 +84,7 @@ begins_name n m Directory h b =
 abbrev Below : List DirEntry → List ℕ → Type 0
 Below es t = (e : DirEntry) → IsIn e es → lt text_cmp (text_of e) t ≡ true
 
--- texts fall
+-- Holds if the texts fall.
 abbrev Falls : List DirEntry → Type 0
 Falls [] = Unit {0}
 Falls (e ∷ es) = Below es (text_of e) × Falls es
@@ -105,7 +105,7 @@ among n es = list_any (is_file_named n) (take_while (test n) es)
 among_more : (n : List ℕ) (e : DirEntry) (es : List DirEntry) → test n e ≡ true → among n (e ∷ es) ≡ (is_file_named n e || among n es)
 among_more n e es h = ap (list_any (is_file_named n)) (while_more (test n) e es h)
 
--- a file of this name is found
+-- A file of this name is found.
 file_among : (n : List ℕ) (l : ℕ) (es : List DirEntry) → Falls es → Below es (marker_of n) → IsIn (child_at n (File l)) es
     → among n es ≡ true
 file_among n l [] f b i = absurd i
@@ -124,7 +124,7 @@ file_among n l (e ∷ es) f b i = by i (file_among n l es f.1 (λ d j. b d (inr 
         (lt_not text_total (text_of e) (marker_of n) high) (begins_marker n)) in
         among_more n e es t ∙ (elim (is_file_named n e) as (λ a. (a || (among n es)) ≡ true) [ true ↦ refl | false ↦ (ih j) ])
 
--- what is found is a file of this name
+-- Holds if a file of this name was found.
 abbrev HasNamed : List ℕ → List DirEntry → Type 0
 HasNamed n es = (l : ℕ) × IsIn (child_at n (File l)) es
 
@@ -208,7 +208,7 @@ all_entries q (d ∷ ds) found h =
     ap (λ o. all_added q (added found o) (map (entry_from q) ds)) (seen_entry q d.name d.status found (h d (inl refl)))
     ∙ all_entries q ds (added found (seen found d)) (λ e i. h e (inr i))
 
--- what is found when the first of the children were seen
+-- What was found after the first of the children were seen.
 record Found (ds firsts found : List DirEntry) : Type 0 where
   sub : (e : DirEntry) → IsIn e found → IsIn e firsts
   files : (x : ℕ) (r : List ℕ) (l : ℕ) → IsIn (child_at (x ∷ r) (File l)) firsts → IsIn (child_at (x ∷ r) (File l)) found
@@ -237,7 +237,7 @@ module _ (ds firsts found : List DirEntry) (f : Found ds firsts found) (d : DirE
   before_back : Below (reverse found) (text_of d)
   before_back e i = before e (reverse_in e found i)
 
-  -- it is found
+  -- the child is added to what was found
   adds : IsIn d ds → ((l : ℕ) → child_at [] (File l) ≡ d → ⊥)
       → ((x : ℕ) (r : List ℕ) (l : ℕ) → d ≡ child_at (x ∷ r) Directory → IsIn (child_at (x ∷ r) (File l)) ds → ⊥)
       → Found ds (firsts ++ d ∷ []) (found ++ d ∷ [])
@@ -267,7 +267,7 @@ module _ (ds firsts found : List DirEntry) (f : Found ds firsts found) (d : DirE
       old n (inl k) = inl (in_front (child_at n Directory) found (d ∷ []) k)
       old n (inr k) = inr (k.0, in_front (child_at n (File k.0)) found (d ∷ []) k.1)
 
-  -- it is passed over
+  -- the child is passed over
   skips : ((x : ℕ) (r : List ℕ) (l : ℕ) → child_at (x ∷ r) (File l) ≡ d → ⊥) → ((n : List ℕ) → child_at n Directory ≡ d → HasNamed n found)
       → Found ds (firsts ++ d ∷ []) found
   skips other has = record {
@@ -281,7 +281,7 @@ module _ (ds firsts found : List DirEntry) (f : Found ds firsts found) (d : DirE
     sorted = f.sorted;
   }
 
--- a child after those that are greater than a text
+-- Holds if the children rise and come after a text.
 abbrev Later : List ℕ → List DirEntry → Type 0
 Later b es = RisesFrom b (map text_of es)
 
@@ -299,7 +299,7 @@ no_name h = grind arith
 same_name : {n m : List ℕ} → child_at n Directory ≡ child_at m Directory → n ≡ m
 same_name e = ap (λ (d : DirEntry). d.name) e
 
--- one child more
+-- One child more.
 seen_one : (ds firsts rest found : List DirEntry) (n : List ℕ) (s : Status) → ds ≡ firsts ++ child_at n s ∷ rest
     → Below firsts (text_by n s) → Later (text_by n s) rest → Found ds firsts found
     → Found ds (firsts ++ child_at n s ∷ []) (added found (seen_by found n s))
@@ -346,7 +346,7 @@ seen_one ds firsts rest found n Directory e b a f = by (has_file found n) refl
     by false h = subst (λ c. Found ds (firsts ++ d ∷ []) (added found (dir_named c n))) (sym h)
         (adds ds firsts found f d b at (λ k g. no_file g) (never h))
 
--- children in order, of which the first is greater than those before it
+-- Holds if the children rise.
 abbrev Ordered : List DirEntry → Type 0
 Ordered [] = Unit {0}
 Ordered (d ∷ ds) = Later (text_of d) ds
@@ -366,7 +366,7 @@ before_next firsts (x ∷ rest) d b a = λ e i. elim (in_append e firsts (d ∷ 
   | inr i ↦ ap (λ e. lt text_cmp (text_of e) (text_of x)) (in_one i) ∙ a.0
 ]
 
--- all of them
+-- All children.
 all_found : (ds firsts rest found : List DirEntry) → ds ≡ firsts ++ rest → Before firsts rest → Ordered rest → Found ds firsts found
     → Found ds ds (all_seen found rest)
 all_found ds firsts [] found e b a f = subst (λ l. Found ds l found) (sym (e ∙ append-nil firsts)) f
@@ -381,7 +381,7 @@ below_is : (p n : List ℕ) → prefix_of p ++ n ≡ below p n
 below_is [] n = refl
 below_is (x ∷ p) n = append_assoc (x ∷ p) (47 ∷ []) n
 
--- a text that is not empty begins with something
+-- A text that is not empty has a first byte.
 at_some : (P : List ℕ → Type 0) (k : List ℕ) → 0 < length k → ((x : ℕ) (r : List ℕ) → P (x ∷ r)) → P k
 at_some P [] l f = absurd (omega (arith, l))
 at_some P (x ∷ k) l f = f x k
@@ -411,7 +411,7 @@ module _ (p : List ℕ) (z : Objects) where
     file_of : (n : List ℕ) (o : Object) → IsName n → fin.get z (below p n) ≡ Some o → IsIn (child_at n (File (length o.bytes))) ds
     file_of n o h g = grind (arith, name_parts, file_listed, below_is, named_some, lt)
 
-    -- what stands at a child's key
+    -- what exists at a child's key
     child_file : (n : List ℕ) (l : ℕ) → IsName n → IsIn (child_at n (File l)) ds → IsStatus z (below p n) (File l)
     child_file n l h g = grind (arith, at_some, named_some, below_is)
 

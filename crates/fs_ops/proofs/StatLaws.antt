@@ -1,4 +1,4 @@
--- The status of a path is a question at it.
+-- The look at the status of a path is a question at it.
 use Rattle.bucket_ops.specs.Phases.{IsPhases, MayAsk}
 use Rattle.dir_markers.specs.declared.status.Status.TheVariants.{Directory}
 use Rattle.fs_ops.proofs.AtPathLaws.{IsQuestion, looks_there, question_asked, question_laws}

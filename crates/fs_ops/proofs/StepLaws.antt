@@ -11,7 +11,7 @@ use Rattle.std.proofs.Common.{arith}
 use Rattle.std.specs.Prelude.{List, None, Option, Some, ℕ, ◌≡◌}
 
 module _ {Y : Type 0} (absent y : Y) where
-  -- a bucket that is there never tells that it is not
+  -- a bucket that exists never answers that it does not
   pub not_missing : (m : Objects) (a : Ask) → unless (look_of (reply_in m a)) absent y ≡ y
   not_missing m a = grind arith
 
@@ -21,7 +21,7 @@ module _ {O X A : Type 0} {first : O → X} {asks : O → X → Ask} {on : O →
   pub phases_of : IsPhases first asks (λ o x r. unless (look_of r) (End absent) (on o x r)) holds gives always left absent
   phases_of = grind arith
 
--- what is so of a bucket's objects is so in a scene
+-- What holds of a bucket's objects holds in a scene.
 pub same_scene : (x : Option Objects) (z s : Scene) (b : List ℕ) (H G : Objects → Objects → Type 0) (N : Type 0)
     → ((m n : Objects) → H m n → G m n) → InScene x H N z b s → InScene x G N z b s
 same_scene None z s b H G N f h = h

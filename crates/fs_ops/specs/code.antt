@@ -1,4 +1,4 @@
--- The operations stage by stage, as the code goes through them. What they answer and leave is said in `fs_tree`.
+-- The operations stage by stage, as the code goes through them. `fs_tree` states what they answer and leave.
 pub mod Steps
 pub mod AtPath
 pub mod Climbs

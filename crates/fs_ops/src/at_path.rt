@@ -9,16 +9,17 @@ use bucket_ops::Look;
 use fs_tree::FsRefusal;
 use operations::Step;
 
-/// Where a question at a path stands.
+/// The stage of a question about a path.
 #[derive(Clone, Copy)]
 pub enum PathStage {
-    /// What stands at the path.
+    /// Asks whether a file exists at the path.
     Here,
-    /// Whether something stands below it.
+    /// Asks whether anything exists below it.
     Below,
 }
 
-/// By what a reply told of a file at a path, if one stands there, and by what is answered of a directory.
+/// The step after the reply about a file at the path: `found` if there is one, `directory` at the
+/// root, else a look below.
 fn on_here<A: Drop>(
     place: &Place,
     found: Option<A>,
@@ -47,7 +48,7 @@ fn on_below<A: Drop>(
     }
 }
 
-/// Where a reply leads that is such a look and told this of a file.
+/// The step after a reply, which showed this look and this file.
 pub(crate) fn heard<A: Drop>(
     place: &Place,
     stage: PathStage,

@@ -6,26 +6,26 @@ use bucket_ops::Look;
 use s3_types::{Bucket, Key, KeyList, Request, Sequence, Text};
 use std::alloc::AllocError;
 
-/// The directories above a path that are still to be looked at for a file, the next one first.
+/// The directories above a path at which a file is still to be looked for, the next one first.
 #[derive(Drop)]
 pub struct Climb {
     pub first: Key,
     pub rest: KeyList,
 }
 
-/// Where a climb leads.
+/// The result of one step of a climb.
 #[derive(Drop)]
 pub enum Climbed {
-    /// A file stands at this key.
+    /// A file exists at this key.
     File(Text),
-    /// Others are to be looked at.
+    /// More directories are to be looked at.
     On(Climb),
-    /// No file stands at any of them.
+    /// No file exists at any of them.
     Free,
 }
 
 impl Climb {
-    /// The climb over these keys. Takes no memory.
+    /// Starts a climb over these keys. Takes no memory.
     pub fn over(keys: KeyList) -> Climbed
         ensures { result ≡ climbing keys }
     {
@@ -40,14 +40,14 @@ impl Climb {
         })
     }
 
-    /// The look at the next one.
+    /// The request that looks at the next directory.
     pub fn request(&self, bucket: &Bucket) -> Result<Request, AllocError>
         ensures { IfOk result (λ request. request ≡ request_of bucket.now (Head self.now.first)) }
     {
         Request::head_object(bucket, &self.first)
     }
 
-    /// Where it leads that this was seen there.
+    /// The result after this look at the next directory.
     pub fn hear(self, seen: Look) -> Result<Climbed, AllocError>
         ensures { IfOk result (λ led. led ≡ climbed self seen) }
     {

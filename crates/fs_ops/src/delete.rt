@@ -21,7 +21,7 @@ use s3_types::{Bucket, Key, PageEntry, PageLimit, Reply, Request, Text, let_go};
 use std::alloc::{AllocError, Global};
 use std::marker::Model;
 
-/// What stands below a path.
+/// What exists below a path.
 #[derive(Clone, Copy)]
 pub enum Inside {
     Empty,
@@ -30,30 +30,39 @@ pub enum Inside {
     Children,
 }
 
-/// Where a deletion stands.
+/// The stage of a deletion.
 #[derive(Drop)]
 pub enum DeleteStage {
-    /// Whether a file stands at the path.
+    /// Asks whether a file exists at the path.
     Here,
-    /// The file is deleted.
+    /// Deletes the file.
     DropFile,
-    /// What stands below the path.
+    /// Asks what exists below the path.
     Below,
-    /// The marker of an empty directory is deleted.
+    /// Deletes the marker of an empty directory.
     DropMarker,
-    /// All keys below the path are listed and deleted.
+    /// Lists and deletes all keys below the path.
     Sweep(list_walk::Sweep),
-    /// Whether something is left below the directory above, whose marker this is.
+    /// Asks whether anything is left below the directory above, which has this marker.
     Parent(Key),
-    /// The marker of the directory above is put.
+    /// Puts this marker of the directory above.
     PutMarker(Key),
 }
 
-/// Deletes a path: a file, an empty directory, or, where it is recursive, a directory with all that is below it. Then
-/// the marker of the directory above is put where that is no root and is left empty. Refused IsRoot at the root,
-/// NotFound where nothing stands at the path, and NotEmpty where something else than a directory's marker stands
-/// below it and the deletion is not recursive; and before that NoSuchBucket. Five requests at most, and for a
-/// recursive deletion one page and one batch more for each 1,000 keys. (Hadoop FileSystem specification, delete.)
+/// Deletes a path: a file, an empty directory, or, if `recursive` is set, a directory with all that
+/// is below it. Then it puts the marker of the directory above, if that is left empty and is not
+/// the root. (Hadoop FileSystem specification, delete.)
+///
+/// The answer is one of these refusals, after which nothing has changed:
+///
+/// - `NoSuchBucket`, before all others, if there is no bucket.
+/// - `IsRoot` for the root.
+/// - `NotFound` if nothing exists at the path.
+/// - `NotEmpty` if the deletion is not recursive and anything but the directory's marker exists
+///   below it.
+///
+/// It sends at most five requests, and for a recursive deletion one page and one batch more for
+/// each 1,000 keys.
 #[derive(Drop)]
 pub struct DeletePath {
     alloc: Global,
@@ -76,7 +85,7 @@ impl Model for DeletePath {
 
 type Answer = Result<(), FsRefusal>;
 
-/// What the first two entries below a path tell.
+/// What the first two entries below a path show.
 fn first_below(prefix: &Text, entries: &[PageEntry]) -> Inside
     ensures { result ≡ inside prefix.now entries.now }
 {
@@ -102,7 +111,7 @@ fn on_parent(marker: Key, seen: Look) -> Step<DeleteStage, Answer>
 }
 
 impl DeletePath {
-    /// The deletion of a path of a bucket, where it is recursive with all that is below it.
+    /// The deletion of a path of a bucket; if `recursive` is set, with all that is below it.
     pub fn new(alloc: Global, path: &S3Path, recursive: bool) -> Result<DeletePath, AllocError>
         ensures deletion { IfOk result (λ deletion. deletion ≡ record { path = path.now.key; recursive = recursive }) }
         ensures key { IfOk result (λ deletion. is_key deletion.path ≡ true) }
@@ -255,7 +264,7 @@ impl Phases for DeletePath {
     fn laws() {}
 }
 
-/// The marker of the directory above a path, unless that is the root.
+/// The marker of the directory above a path, unless that directory is the root.
 pub fn marker_above(alloc: Global, path: &S3Path) -> Result<Option<Key>, AllocError>
     ensures { IfOk result (λ marker. marker ≡ marker_if (parent path.now.key)) }
 {

@@ -1,26 +1,32 @@
-//! File operations on a bucket: the status of a path, the bytes of a file, what a directory holds, the
-//! making of directories and the deletion of paths, each named by its path in the bucket and told by its
-//! stages. `bucket_ops::perform_in` performs one alone, whatever the store loses. (Hadoop FileSystem
-//! specification; Hadoop, S3A: directory markers.)
+//! The operations of a file system on one bucket: `Stat`, `ReadFile`, `ListDir`, `MakeDirs` and
+//! `DeletePath`. Each takes a path and goes through stages, with one request a stage.
+//! `bucket_ops::perform_in` performs one of them, whichever requests and replies the store loses.
+//! (Hadoop FileSystem specification; Hadoop, S3A: directory markers.)
 //!
 //! # What is proved
 //!
-//! `Stat`, `ReadFile`, `ListDir`, `MakeDirs`, `DeletePath`: What `perform_in` gives of each is in the
-//! words of the tree (`given`), with `performed` and `fault` as `bucket_ops` has them; a refused
-//! operation changes nothing, and NoSuchBucket comes first. `Stat`: the status of a path, and NotFound
-//! exactly where nothing stands there. `ReadFile`: the bytes of a file, else IsDirectory or NotFound.
-//! `ListDir`: what a directory holds, each child once, a file where it is one, in the order of their
-//! names with a `/` behind a directory's, and the directory's own marker as none; of a file its own
-//! entry; else NotFound. `MakeDirs`: the path and the paths above it are directories, no other is new,
-//! every file is as it was; the marker is put exactly where nothing stood at the path, and is all that
-//! changed; AlreadyExists where a file stands, NotDirectory with the first file above. `DeletePath`:
-//! IsRoot, NotFound, and NotEmpty exactly where something else than the marker stands below a directory
-//! and the deletion is not recursive; else the file, or the directory with all below it, is no more,
-//! all else is as it was, and the marker of the directory above is put exactly where that is no root
-//! and is left empty; at each moment every key is as it was, or goes with the path and is gone, or is that
-//! marker, which is put only where nothing stood. The first three ask nothing but looks, and `MakeDirs` puts its
-//! marker only where it is due. `DeletePath` asks looks, and, where there is something to delete, deletes the file,
-//! the marker of an empty directory, or keys below the directory in batches, and puts the marker above (`sends`).
+//! What `perform_in` answers for each is stated on the tree of the bucket's objects (`given`), with
+//! `performed` and `fault` as `bucket_ops` has them. A refused operation changes nothing, and
+//! `NoSuchBucket` comes before all other refusals.
+//!
+//! - `Stat` answers the status of a path, and `NotFound` exactly if nothing exists there.
+//! - `ReadFile` answers the bytes of a file, else `IsDirectory` or `NotFound`.
+//! - `ListDir` answers what a directory holds, each child once, as a file if it is one, in the
+//!   order of their names with a `/` after a directory's. The directory's own marker is no child.
+//!   For a file the answer is its own entry, else `NotFound`.
+//! - `MakeDirs` makes the path and the paths above it directories, makes no other, and leaves every
+//!   file unchanged. It puts the marker exactly if nothing exists at the path, and changes nothing
+//!   else. It answers `AlreadyExists` if a file exists there, and `NotDirectory` with the first
+//!   file above.
+//! - `DeletePath` answers `IsRoot`, `NotFound`, or `NotEmpty`, the last exactly if the deletion is
+//!   not recursive and anything but the marker exists below a directory. Otherwise it removes the
+//!   file, or the directory with all below it, and leaves all else unchanged. It puts the marker of
+//!   the directory above exactly if that is left empty and is not the root.
+//! - During `DeletePath`, at every point each key is as it was, or belongs to the path and is gone,
+//!   or is that marker, put only if nothing was there.
+//! - `Stat`, `ReadFile` and `ListDir` only look. `MakeDirs` puts its marker only if it must.
+//!   `DeletePath` looks; if there is something to delete, it deletes the file, the marker of an
+//!   empty directory, or keys below the directory in batches, and puts the marker above (`sends`).
 #![tactic(auto)]
 
 mod above;

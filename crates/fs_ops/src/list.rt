@@ -20,7 +20,7 @@ use s3_types::{Bucket, PageEntry, PageLimit, Reply, Request, Text, let_go, put};
 use std::alloc::{AllocError, Global};
 use std::marker::Model;
 
-/// The text of the last entry so far, which is empty where there was none.
+/// The text of the last entry so far, or the empty text if there was none.
 #[derive(Drop)]
 pub struct Mark {
     last: Option<Text>,
@@ -54,7 +54,7 @@ impl Mark {
     }
 }
 
-/// The request for a page of children behind a mark.
+/// The request for a page of children after a mark.
 fn page_behind(
     alloc: Global,
     bucket: &Bucket,
@@ -70,20 +70,23 @@ fn page_behind(
     }
 }
 
-/// Where the listing of a directory stands.
+/// The stage of the listing of a directory.
 #[derive(Drop)]
 pub enum ListStage {
-    /// Whether a file stands at the path.
+    /// Asks whether a file exists at the path.
     Here,
-    /// The children that were found, and the text behind which the next page begins.
+    /// Asks for the next page, after the text `mark`; `found` are the children so far.
     Pages { found: DirList, mark: Mark },
 }
 
-/// The children of a directory, each once, ordered by the bytes of their names with a `/` behind a
-/// directory's: a child that is a file and has something below it is the file alone, and the
-/// directory's own marker is none. Of a file its own entry. Refused NotFound where nothing stands at
-/// the path, and before that NoSuchBucket; nothing changes. One request for the path, and then one page
-/// for each 1,000 children. (Hadoop FileSystem specification, listStatus.)
+/// Lists the children of a directory, each once, ordered by the bytes of their names with a `/`
+/// after a directory's. A child that is a file and has keys below it is listed as the file only,
+/// and the directory's own marker is no child. For a file the answer is its own entry. (Hadoop
+/// FileSystem specification, listStatus.)
+///
+/// The answer is refused with `NoSuchBucket` if there is no bucket, and with `NotFound` if nothing
+/// exists at the path. Nothing changes. It sends one request for the path, and then one page for
+/// each 1,000 children.
 #[derive(Drop)]
 pub struct ListDir {
     alloc: Global,
@@ -113,7 +116,8 @@ fn is_file(status: Status) -> bool
     }
 }
 
-/// Whether a file of this name was found. Between the two in order there are only names that begin with it.
+/// True if a file of this name was found. Between the file and a directory of its name the order
+/// has only names that begin with it.
 fn has_file(found: &[DirEntry], name: &Text) -> bool
     ensures { result ≡ has_file found.now name.now }
 {
@@ -124,14 +128,15 @@ fn has_file(found: &[DirEntry], name: &Text) -> bool
         .any(|entry| is_file(entry.status) && entry.name == *name)
 }
 
-/// What stands behind a prefix in a text that begins so. Takes no memory.
+/// The rest of a text after a prefix, if it begins with the prefix. Takes no memory.
 pub fn rest_of<'t>(prefix: &str, text: &'t str) -> Option<&'t str>
     ensures { option_map (λ r. r.now) result ≡ rest_of prefix.now text.now }
 {
     text.strip_prefix(prefix)
 }
 
-/// The child that an entry of a page shows, unless it was found before, or is the directory's own marker.
+/// The child that an entry of a page shows, unless it was found before or is the directory's own
+/// marker.
 fn shown(
     alloc: Global,
     prefix: &Text,
@@ -154,7 +159,8 @@ fn shown(
     }
 }
 
-/// A file's entry; the key that is the prefix itself is the directory's own marker and shows none.
+/// A file's entry. The key that equals the prefix is the directory's own marker, and gives no
+/// entry.
 fn file_entry(alloc: Global, name: &str, length: u64) -> Result<Option<DirEntry>, AllocError>
     ensures { IfOk result (λ child. child ≡ file_by (Some name.now) length) }
 {
@@ -195,7 +201,8 @@ fn add(
     }
 }
 
-/// Adds the children that the entries of a page show, and marks the text of the last of them, where there is one.
+/// Adds the children that the entries of a page show, and marks the text of the last entry, if
+/// there is one.
 fn add_all(
     alloc: Global,
     prefix: &Text,

@@ -16,23 +16,26 @@ use s3_types::{Bucket, KeyList, PageLimit, Reply, Request, copied_keys, let_go};
 use std::alloc::{AllocError, Global};
 use std::marker::Model;
 
-/// Where the making of a directory stands.
+/// The stage of making a directory.
 #[derive(Drop)]
 pub enum MakeStage {
-    /// Whether a file stands at the path.
+    /// Asks whether a file exists at the path.
     Here,
-    /// Whether something stands below it.
+    /// Asks whether anything exists below it.
     Below,
-    /// Whether a file stands at one of the directories above.
+    /// Asks whether a file exists at one of the directories above.
     Up(Climb),
-    /// The marker is put.
+    /// Puts the marker.
     PutMarker,
 }
 
-/// Makes a directory: its marker is put where nothing stands at the path, and nothing changes where a directory
-/// stands. Refused AlreadyExists where a file stands, and NotDirectory with the key of the first directory above,
-/// from the root on, at which a file stands; and before that NoSuchBucket. One request for each directory above,
-/// and three more. (Hadoop FileSystem specification, mkdirs.)
+/// Makes a directory: puts its marker if nothing exists at the path, and changes nothing if a
+/// directory exists. (Hadoop FileSystem specification, mkdirs.)
+///
+/// The answer is refused with `NoSuchBucket` if there is no bucket, and with `AlreadyExists` if a
+/// file exists at the path. It is refused with `NotDirectory` and the key of the first directory
+/// above, from the root down, at which a file exists. Nothing has changed then. It sends one
+/// request for each directory above, and three more.
 #[derive(Drop)]
 pub struct MakeDirs {
     alloc: Global,
@@ -64,7 +67,7 @@ fn on_climb(climbed: Climbed) -> Step<MakeStage, Answer>
 }
 
 impl MakeDirs {
-    /// The making of the directory at a path of a bucket.
+    /// The operation that makes the directory at a path of a bucket.
     pub fn new(alloc: Global, path: &S3Path) -> Result<MakeDirs, AllocError>
         ensures { IfOk result (λ dirs. dirs ≡ path.now.key) }
     {

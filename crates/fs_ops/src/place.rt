@@ -31,7 +31,8 @@ impl Model for Place {
     ghost invariant = { λ p. (p.key ≡ key_if p.path) × (p.marker ≡ marker_if p.path) × (is_key p.path ≡ true) };
 }
 
-/// The request for the first key that begins with this prefix; for the bucket, where that is the empty text.
+/// The request for the first key that begins with this prefix. With the empty prefix it asks for
+/// the bucket.
 pub fn first_key(alloc: Global, bucket: &Bucket, prefix: &Text) -> Result<Request, AllocError>
     ensures { IfOk result (λ request. request ≡ request_of bucket.now (Page prefix.now false [] 1)) }
 {
@@ -39,14 +40,14 @@ pub fn first_key(alloc: Global, bucket: &Bucket, prefix: &Text) -> Result<Reques
     Request::list_page(bucket, prefix, false, &after, PageLimit::new(1))
 }
 
-/// The look at a bucket.
+/// The request that looks whether the bucket exists.
 pub fn look_at_bucket(alloc: Global, bucket: &Bucket) -> Result<Request, AllocError>
     ensures { IfOk result (λ request. request ≡ request_of bucket.now bucket_asks) }
 {
     first_key(alloc, bucket, &Text::empty(alloc)?)
 }
 
-/// The put of a marker, which has no bytes.
+/// The request that puts a marker, which has no bytes.
 pub fn put_empty(alloc: Global, bucket: &Bucket, marker: &Key) -> Result<Request, AllocError>
     ensures { IfOk result (λ request. request ≡ request_of bucket.now (Put marker.now [])) }
 {
@@ -85,21 +86,21 @@ impl Place {
         })
     }
 
-    /// Whether it is the root. Takes no memory.
+    /// True for the root. Takes no memory.
     pub fn is_root(&self) -> bool
         ensures { result ≡ (length self.now == 0) }
     {
         self.path.as_bytes().is_empty()
     }
 
-    /// Its key; the root has none. Takes no memory.
+    /// The key of the path, or None for the root. Takes no memory.
     pub fn key(&self) -> Option<&Key>
         ensures { option_copied result ≡ key_if self.now }
     {
         self.key.as_ref()
     }
 
-    /// What the keys below it begin with: its marker, and at the root nothing, as the path is. Takes no memory.
+    /// The prefix of all keys below the path: its marker, or nothing at the root. Takes no memory.
     #[tactic(auto, using(crate::proofs::Names::prefix_marked, crate::proofs::Names::prefix_root))]
     pub fn prefix(&self) -> &Text
         ensures { result.now ≡ prefix_of self.now }
@@ -110,7 +111,8 @@ impl Place {
         }
     }
 
-    /// The request for the first so many keys below it, its marker among them.
+    /// The request for the first keys below the path, up to the limit. The path's marker counts as
+    /// one.
     pub fn below(&self, bucket: &Bucket, limit: PageLimit) -> Result<Request, AllocError>
         ensures { IfOk result (λ request. request ≡ request_of bucket.now (below_asks self.now limit)) }
     {
@@ -118,7 +120,7 @@ impl Place {
         Request::list_page(bucket, self.prefix(), false, &after, limit)
     }
 
-    /// The request whether a file stands there; at the root, whether there is the bucket.
+    /// The request that looks for a file at the path; at the root, for the bucket.
     pub fn look(&self, bucket: &Bucket) -> Result<Request, AllocError>
         ensures { IfOk result (λ request. request ≡ request_of bucket.now (look_asks self.now)) }
     {
@@ -128,7 +130,7 @@ impl Place {
         }
     }
 
-    /// The request for the bytes of its file.
+    /// The request for the bytes of the path's file.
     pub fn get(&self, bucket: &Bucket) -> Result<Request, AllocError>
         ensures { IfOk result (λ request. request ≡ request_of bucket.now (get_asks self.now)) }
     {
@@ -138,7 +140,7 @@ impl Place {
         }
     }
 
-    /// The deletion of its file.
+    /// The request that deletes the path's file.
     pub fn drop_file(&self, bucket: &Bucket) -> Result<Request, AllocError>
         ensures { IfOk result (λ request. request ≡ request_of bucket.now (drop_asks self.now)) }
     {
@@ -148,7 +150,7 @@ impl Place {
         }
     }
 
-    /// The deletion of its marker.
+    /// The request that deletes the path's marker.
     pub fn drop_marker(&self, bucket: &Bucket) -> Result<Request, AllocError>
         ensures { IfOk result (λ request. request ≡ request_of bucket.now (drop_marker_asks self.now)) }
     {
@@ -158,7 +160,7 @@ impl Place {
         }
     }
 
-    /// The request that puts its marker.
+    /// The request that puts the path's marker.
     pub fn put_marker(&self, bucket: &Bucket) -> Result<Request, AllocError>
         ensures { IfOk result (λ request. request ≡ request_of bucket.now (put_marker_asks self.now)) }
     {

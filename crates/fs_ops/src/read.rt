@@ -15,9 +15,11 @@ use s3_types::{Bucket, Bytes, PageLimit, Reply, Request};
 use std::alloc::{AllocError, Global};
 use std::marker::Model;
 
-/// The bytes of a file, in at most two requests. Refused IsDirectory where a directory stands at the path, and
-/// NotFound where nothing does, and before that NoSuchBucket; nothing changes. The bytes are shared and not
-/// copied. (Hadoop FileSystem specification, open.)
+/// Reads the bytes of a file, with at most two requests. (Hadoop FileSystem specification, open.)
+///
+/// The answer is refused with `NoSuchBucket` if there is no bucket, with `IsDirectory` if a
+/// directory exists at the path, and with `NotFound` if nothing does. Nothing changes. The bytes
+/// are shared and not copied.
 #[derive(Drop)]
 pub struct ReadFile {
     place: Place,
@@ -33,7 +35,7 @@ impl Model for ReadFile {
 
 type Answer = Result<Bytes, FsRefusal>;
 
-/// The bytes that a reply has.
+/// The bytes in a reply, if it has any.
 fn bytes_in(reply: &Reply) -> Result<Option<Bytes>, AllocError>
     ensures { IfOk result (λ bytes. bytes ≡ read.bytes_in reply.now) }
 {
@@ -44,7 +46,7 @@ fn bytes_in(reply: &Reply) -> Result<Option<Bytes>, AllocError>
 }
 
 impl ReadFile {
-    /// The reading of the file at a path of a bucket.
+    /// The operation that reads the file at a path of a bucket.
     pub fn new(alloc: Global, path: &S3Path) -> Result<ReadFile, AllocError>
         ensures { IfOk result (λ file. file ≡ path.now.key) }
     {

@@ -16,8 +16,9 @@ use s3_types::{Bucket, PageLimit, Reply, Request};
 use std::alloc::{AllocError, Global};
 use std::marker::Model;
 
-/// The status of a path, in at most two requests. Refused NotFound where nothing stands there, and before that
-/// NoSuchBucket; nothing changes. (Hadoop FileSystem specification, getFileStatus.)
+/// Looks up the status of a path, with at most two requests. It is refused with `NoSuchBucket` if
+/// there is no bucket, and with `NotFound` if nothing exists at the path. Nothing changes. (Hadoop
+/// FileSystem specification, getFileStatus.)
 #[derive(Drop)]
 pub struct Stat {
     place: Place,
@@ -33,7 +34,7 @@ impl Model for Stat {
 
 type Answer = Result<Status, FsRefusal>;
 
-/// The status of the file that a reply tells of.
+/// The status of the file that a reply shows, if it shows one.
 fn status_in(reply: &Reply) -> Option<Status>
     ensures { result ≡ stat.status_in reply.now }
 {
@@ -44,7 +45,7 @@ fn status_in(reply: &Reply) -> Option<Status>
 }
 
 impl Stat {
-    /// The question what stands at a path of a bucket.
+    /// The operation that looks up the status of a path of a bucket.
     pub fn new(alloc: Global, path: &S3Path) -> Result<Stat, AllocError>
         ensures { IfOk result (λ stat. stat ≡ path.now.key) }
     {

@@ -1,4 +1,4 @@
--- An operation in one bucket, or between two of them.
+-- An operation in one bucket, or between two buckets.
 use Rattle.basics.proofs.Members.{none_some, text_is, text_true}
 use Rattle.basics.specs.Order.{text_eq}
 use Rattle.bucket_ops.proofs.AskLaws.{with_same}
@@ -35,7 +35,7 @@ pub given_other : {A : Type 0} (b c : List ℕ) (gives : Objects → A → Objec
     → true ≡ not (text_eq b c) → GivesBetween b c gives absent refused z refused z
 given_other b c gives absent refused z e = record { one = λ f. absurd (other_bucket b c e f); other = λ f. (refl, refl) }
 
--- where nothing was sent, all stands as it stood
+-- If nothing was sent, all is as it was.
 still_in : (b : List ℕ) (always : Objects → Objects → Type 0) (z : Scene) → ((m : Objects) → always m m) → AlwaysIn b always z z
 still_in b always z same = by (objects_at z b) refl
   where

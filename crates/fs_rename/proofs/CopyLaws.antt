@@ -56,12 +56,12 @@ one_in_take _ k l _ h = absurd h
 
 -- ---- one copy
 
--- it leaves every key but its target
+-- It leaves every key but its target unchanged.
 copy_keeps : (m : Objects) (q : List ℕ) (o : Option Object) (k : List ℕ) → (k ≡ q → ⊥) → fin.get (copied m q o) k ≡ fin.get m k
 copy_keeps m q None k h = refl
 copy_keeps m q (Some v) k h = text_other m q k v h
 
--- and puts there what stood at the source
+-- It puts at the target what was at the source.
 copy_puts : (m : Objects) (q l : List ℕ) (o : Option Object) (v : Object) → l ≡ q → o ≡ Some v → fin.get (copied m q o) l ≡ Some v
 copy_puts m q l None v e h = absurd (none_some refl h)
 copy_puts m q l (Some w) v e h = text_here m q l w e ∙ h
@@ -73,11 +73,11 @@ copies_keep m [] k h = refl
 copies_keep m (p ∷ ps) k h = copies_keep (copied m p.1 (fin.get m p.0)) ps k (λ g. h (inr g)) ∙ copy_keeps m p.1 (fin.get m p.0) k
     (λ e. h (inl e))
 
--- no key that is to be moved is a new key
+-- No key that is to be moved is a new key.
 pub not_target : (z : Objects) (ps : List Move) → AreFree z ps → (k l : List ℕ) → IsOneOf k l ps → IsIn k (targets ps) → ⊥
 not_target z ps h k l g e = grind (arith, is_target)
 
--- what is copied stands at its new key, where m has the sources as z had them
+-- Each key's object is at its new key after all copies, if m has the sources as z had them.
 copies_put : (z : Objects) (ps : List Move) (m : Objects) → ((k l : List ℕ) → IsOneOf k l ps → fin.get m k ≡ fin.get z k)
     → ((k l : List ℕ) → IsOneOf k l ps → IsIn k (targets ps) → ⊥) → ((k l : List ℕ) → IsOneOf k l ps → Stands z k)
     → ((k j l : List ℕ) → IsOneOf k l ps → IsOneOf j l ps → k ≡ j)
@@ -105,7 +105,7 @@ copies_put z (p ∷ ps) m same apart stands one k l h =
     by ih (inl e) = here ih e.0 e.1 (is_in l (targets ps))
     by ih (inr g) = ih k l g
 
--- so it is of the first moves, and of all
+-- The same for the first moves, so for all.
 pub copied_stand : (z : Objects) (ps : List Move) → AreFree z ps → (n : ℕ) (k l : List ℕ) → IsOneOf k l (take n ps)
     → fin.get (copied_all z (take n ps)) l ≡ fin.get z k
 copied_stand z ps h n k l i =
@@ -135,7 +135,7 @@ one_in_drop (suc n) [] k l i = absurd i
 one_in_drop (suc n) (s ∷ ps) k l i = inr (one_in_drop n ps k l i)
 
 module _ (z : Objects) (ps : List Move) where
-  -- what is asked is the copy of one of them
+  -- the request is the copy of one of them
   pub copy_of_one : (c : Copying) (m : Objects) → IsCopying z ps c m → (k : List ℕ) × (l : List ℕ) × (copy_asks c ≡ CopyKey k l)
       × IsOneOf k l ps
   copy_of_one c m h =
@@ -168,7 +168,7 @@ module _ (z : Objects) (ps : List Move) where
       → IsCopied z ps (copied_next b c) (edited (copy_asks c) m)
   step b c m h g = grind (arith, more_true, copied_one, length-map, take_all, more_false)
 
-  -- the honest reply leads on
+  -- the step after the reply that S3 must give
   pub copying_goes : (c : Copying) (m : Objects) → IsCopying z ps c m → IsCopied z ps (copied_next (has_more c) c) (edited (copy_asks c) m)
   copying_goes c m h = step (has_more c) c m refl h
 

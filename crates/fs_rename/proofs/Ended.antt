@@ -1,4 +1,4 @@
--- What the renaming of a path has done.
+-- What the rename of a path has done.
 use Rattle.bucket_ops.specs.Asks.{objects_at}
 use Rattle.bucket_ops.specs.Phases.{AlwaysIn, SendsIn, left_at}
 use Rattle.bucket_ops.specs.Walking.{all_below}
@@ -19,7 +19,7 @@ use Rattle.s3_types.specs.declared.request.Actor.{Actor}
 use Rattle.std.proofs.Common.{Err, IfOk, List, None, Ok, Option, Result, Some, arith, length, subst, take, true, ℕ, ◌+◌, ◌≡◌, ◌≤◌}
 use Rattle.std.specs.Prelude.{◌*◌}
 
--- what a renaming is kept as
+-- The route of a rename.
 abbrev kept : List ℕ → Renaming → List ℕ → Route
 kept b o c = record { bucket = b; source = o.source; to_bucket = c; target = o.target }
 
@@ -54,9 +54,9 @@ module _ {A : Type 0} {actor : Actor} {event retries : ℕ} {old new : Seen} {re
         counts = h.counts;
       })
 
--- ---- how many requests it sends
+-- ---- the number of its requests
 
--- what is left at its beginning
+-- The bound at its beginning.
 most_left : (o : Renaming) (x : Option Objects)
     → left_at x left o (first_stage o) + 1 ≡ most_in x (λ m. 13 + 4 * length (all_below (prefix_of o.source) m))
 most_left o None = omega arith

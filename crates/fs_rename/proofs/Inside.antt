@@ -25,11 +25,11 @@ use Rattle.std.specs.List.{list_all}
 
 -- ---- elements
 
--- they do not end in `/`
+-- Elements do not end in `/`.
 pub no_marker : (q : List ℕ) → are_elements q ≡ true → is_marker q ≡ false
 no_marker q h = grind (arith, marker_ends, parts_append, one_part, list_all-append, and_parts)
 
--- there is at least one
+-- There is at least one element.
 key_is : (q : List ℕ) → are_elements q ≡ true → key_if q ≡ Some q
 key_is [] h = absurd (false≢true (sym (ap (list_all is_element) (one_part 47 [] refl)) ∙ h))
 key_is (x ∷ q) h = refl
@@ -48,7 +48,7 @@ own_elements p k = by (cut p)
         ap are_elements name ∙ ap (list_all is_element) (one_part 47 c.1 c.3) ∙
         (and_parts (list_all is_element (parts_of 47 c.0)) (list_all is_element (c.1 ∷ [])) all).1
 
--- the path inside the target has elements alone
+-- The path inside the target consists of elements.
 pub inside_elements : (s t : List ℕ) → 0 < length s → is_key s ≡ true → is_key t ≡ true → are_elements (inside s t) ≡ true
 inside_elements s t some k h = below_elements t (own_name s) h (own_elements s (some_key s some k).0)
 
@@ -77,6 +77,6 @@ above_none p o e f = by p.key refl (sym e ∙ f)
     by [] i h = i ∙ before_none [] refl ∙ ap parent (sym i)
     by (x ∷ k) i h = absurd (none_some h (ap (λ b. above_by b p) (not_zero (length k))))
 
--- what has a new place is below a marker
+-- A source that has a new place is below a marker.
 pub place_marker : (s t q : List ℕ) (i : Bool) → place_by s t i ≡ Some q → is_marker (prefix_of s) ≡ true
 place_marker s t q i h = grind (arith, marker_is)

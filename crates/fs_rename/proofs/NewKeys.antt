@@ -60,20 +60,20 @@ module _ (q front : List ℕ) (e : are_elements q ≡ true) where
       let els = ap are_elements (other_end (front ++ 47 ∷ r) (marker_behind front 47 r ∙ i)) ∙ key_elements (front ++ 47 ∷ r) k in
       ap are_elements (sym (other_end (q ++ 47 ∷ r) (marker_behind q 47 r ∙ i))) ∙ elements_append q r e (cut_elements front r els).1
 
-  -- what a key has behind a `/` is so behind other elements, within the limit
+  -- the rest of a key after a `/` makes a key after other elements too, within the limit
   pub below_key : (r : List ℕ) → is_key_path (front ++ 47 ∷ r) ≡ true → is_too_long (q ++ 47 ∷ r) ≡ false → is_key_path (q ++ 47 ∷ r) ≡ true
   below_key r k f = key_path (q ++ 47 ∷ r) (let l = length-append q (47 ∷ r) in omega (arith, l)) (short (q ++ 47 ∷ r) f)
       (by_end r (is_marker (47 ∷ r)) refl k)
 
--- what stands behind a text
+-- A text is the prefix and its rest.
 pub rest_is : (from k r : List ℕ) → rest_of from k ≡ Some r → k ≡ from ++ r
 rest_is from k r h = grind (arith, starts_is, Decides-eqb)
 
--- what a key has behind a text it has behind another
+-- The new key of a text and a rest is the new text and this rest.
 pub new_is : (from to r : List ℕ) → new_key from to (from ++ r) ≡ to ++ r
 new_is from to r = ap (λ o. new_by o to (from ++ r)) (rest_follows from r)
 
--- what a key has behind a marker, behind another path's marker, is a key within the limit
+-- The rest of a key after a marker makes a key after another path's marker, within the limit.
 pub new_legal : (q from k rest prefix text : List ℕ) → are_elements q ≡ true → is_marker from ≡ true → is_key_path k ≡ true
     → rest_of from k ≡ Some rest → prefix ≡ marker_of q → text ≡ prefix ++ rest → is_too_long text ≡ false → is_key_path text ≡ true
 new_legal q from k rest prefix text e m h r a b f =
@@ -89,7 +89,7 @@ front_again : (new : List (List ℕ)) (q : List ℕ) (m : Result (List (List ℕ
 front_again new q (Ok qs) = ap Ok (sym (append_assoc new (q ∷ []) qs))
 front_again new q (Err k) = refl
 
--- a key that fits is behind the new keys so far
+-- A key that fits is added to the new keys so far.
 pub one_more : (from to : List ℕ) (new : List (List ℕ)) (k place : List ℕ) (rest : List (List ℕ)) → fitting (new_key from to k) ≡ Some place
     → with_front new (new_keys from to (k ∷ rest)) ≡ with_front (new ++ place ∷ []) (new_keys from to rest)
 one_more from to new k place rest h = grind (arith, front_again)

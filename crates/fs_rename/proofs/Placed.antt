@@ -29,7 +29,7 @@ use Rattle.std.specs.Ordering.{is_lt}
 use Rattle.store_frame.proofs.Flat.{behind, listed_rises}
 use Rattle.std.specs.FinMap as fin
 
--- ---- keys that are moved from one text behind another
+-- ---- keys that are moved from below one text to below another
 
 module _ (from to : List ℕ) where
   pub move_of : (ks : List (List ℕ)) (k l : List ℕ) → IsOneOf k l (moves_to from to ks) → IsIn k ks × (l ≡ new_key from to k)
@@ -46,7 +46,7 @@ module _ (from to : List ℕ) where
   sources_to [] = refl
   sources_to (k ∷ ks) = ap (λ l. k ∷ l) (sources_to ks)
 
-  -- where all fit, these are they
+  -- if all fit, these are the new keys
   found : (x : List ℕ) (ks ls : List (List ℕ)) → ((ls : List (List ℕ)) → new_keys from to ks ≡ Ok ls → (ls ≡ targets (moves_to from to ks))
       × ((k : List ℕ) → IsIn k ks → is_too_long (new_key from to k) ≡ false))
       → (b : Bool) → is_too_long (new_key from to x) ≡ b → (r : Result (List (List ℕ)) (List ℕ)) → new_keys from to ks ≡ r
@@ -59,7 +59,7 @@ module _ (from to : List ℕ) where
   all_found [] ls e = (cc, λ k i. absurd i)
   all_found (x ∷ ks) ls e = found x ks ls (λ ls g. all_found ks ls g) (is_too_long (new_key from to x)) refl (new_keys from to ks) refl e
 
-  -- or this is the first that does not
+  -- or this is the first key that does not fit
   abbrev IsFirst : List (List ℕ) → List ℕ → Type 0
   IsFirst ks k = IsIn k ks × (is_too_long (new_key from to k) ≡ true)
       × ((j : List ℕ) → IsIn j ks → is_lt (text_cmp j k) ≡ true → is_too_long (new_key from to j) ≡ false)
@@ -91,7 +91,7 @@ module _ (from to : List ℕ) where
 
 -- ---- a file
 
--- its key alone is moved
+-- Only the file's own key is moved.
 pub only_file : (z : Objects) (x : ℕ) (p q : List ℕ) → HasFile z (x ∷ p) → (k l : List ℕ) → IsMove z (x ∷ p) q k l → (k ≡ x ∷ p) × (l ≡ q)
 only_file z x p q h k l g = grind arith
 
@@ -176,7 +176,7 @@ module _ (z : Objects) (x : ℕ) (p : List ℕ) (y : ℕ) (q : List ℕ) where
       → AllFit z (x ∷ p) (y ∷ q)
   dir_fit h f k l i = let w = move_of P Q (keys_below P z) k l (dir_to h k l i) in ap is_too_long w.1 ∙ f k w.0
 
-  -- or this is the first that does not
+  -- or this is the first key that does not fit
   pub dir_long : (k : List ℕ) → IsDirectory z (x ∷ p) → new_keys P Q (keys_below P z) ≡ Err k → IsFirstTooLong z (x ∷ p) (y ∷ q) k
   dir_long k h e =
       let w = first_long P Q [] (keys_below P z) k (listed_rises P [] z) e in

@@ -24,7 +24,7 @@ target_none s t h = grind arith
 pub target_some : (s t : List ℕ) → (length s == 0) ≡ false → (length t == 0) ≡ false → place_of s t ≡ Some t
 target_some s t h g = grind arith
 
--- what has a new place is below a marker
+-- A source that has a new place is below a marker.
 pub place_marker : (s t q : List ℕ) → place_of s t ≡ Some q → is_marker (prefix_of s) ≡ true
 place_marker [] t q h = absurd (none_some refl h)
 place_marker (x ∷ s) t q h = marker_is (x ∷ s)

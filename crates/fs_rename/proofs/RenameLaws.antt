@@ -1,4 +1,4 @@
--- Renaming, stage by stage.
+-- A rename, stage by stage.
 use Rattle.basics.proofs.Less.{irrefl}
 use Rattle.basics.proofs.Members.{in_back, in_front}
 use Rattle.basics.specs.Members.{IsIn}
@@ -99,7 +99,7 @@ module _ (x : ℕ) (p t : List ℕ) (z : Objects) where
 
   -- ---- the file's own key, or the keys below the directory
 
-  -- the file's key alone is moved
+  -- only the file's own key is moved
   one_fit : (q : List ℕ) → is_too_long q ≡ false → HasFile z (x ∷ p) → AllFit z (x ∷ p) q
   one_fit q f h k l i = ap is_too_long (only_file z x p q h k l i).1 ∙ f
 
@@ -268,9 +268,9 @@ steps : (p t : List ℕ) (z : Objects) (s : RenameStage) (m : Objects) → holds
 steps [] t z s m h = root_step t z s m h
 steps (x ∷ p) t z s m h = step x p t z s m h
 
--- ---- what is left
+-- ---- the number of requests that are left
 
--- where no file was seen the look below a path tells
+-- After no file was seen, the look below a path shows what exists.
 told : (r b : Bool) (l : Look) → b ≡ true → kind_of r b l ≡ None → ⊥
 told r b l h g = grind arith
 
@@ -306,7 +306,7 @@ falls o z (PutMarker k) m h = tt
 stays : (o : Renaming) (s : RenameStage) (m : Objects) → left o s (edited (asks o s) m) ≡ left o s m
 stays o s m = grind (arith, still, sweep_stays)
 
--- ---- at any moment
+-- ---- at every point
 
 deleted_way : (o : Renaming) (z : Objects) (d i : Bool) (q : List ℕ) (w : walks.Sweep) (m : Objects) → MayGo o z d i q
     → IsDeleted (copied_all z (moves_of d o.source q z)) (sources (moves_of d o.source q z)) (Some w) m → always o z m
@@ -331,7 +331,7 @@ during o z (Parent k) m h = moved_way o z m h.1
 during o z (PutMarker k) m h = moved_way o z m h.1
 during o z _ m h = inl h.0
 
--- a refused renaming changes nothing
+-- A refused rename changes nothing.
 refused : (x : ℕ) (p t : List ℕ) (z m : Objects) (r : RenameRefusal) → RenamesPath (x ∷ p) t z (Err r) m → m ≡ z
 refused x p t z m r h = grind arith
 
@@ -354,7 +354,7 @@ rename_laws = phases_of (Err NoSuchBucket) (record {
   at_end = at_end;
 })
 
--- ---- what is asked
+-- ---- the requests
 
 module _ (x : ℕ) (p t : List ℕ) (z : Objects) where
   abbrev A : Renaming

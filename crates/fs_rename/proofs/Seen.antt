@@ -1,4 +1,4 @@
--- What the looks of a renaming tell.
+-- What the looks of a rename show.
 use Rattle.basics.proofs.Members.{none_or_some, text_is, text_true}
 use Rattle.basics.specs.Members.{IsIn, RisesFrom}
 use Rattle.basics.specs.Order.{text_cmp, text_eq}
@@ -30,27 +30,27 @@ use Rattle.std.specs.Ordering.{is_lt}
 use Rattle.store_frame.proofs.Flat.{behind, listed_rises}
 use Rattle.std.specs.FinMap as fin
 
--- what stands at a path
+-- Holds if this kind is what exists at a path.
 abbrev pub TellsKind : Objects → List ℕ → Kind → Type 0
 TellsKind z p File = HasFile z p
 TellsKind z p Directory = IsDirectory z p
 TellsKind z p Nothing = IsAbsent z p
 
--- it is known, or no file does
+-- Holds if the kind is known and true, or not known and no file exists.
 abbrev pub Tells : Objects → List ℕ → Option Kind → Type 0
 Tells z p (Some k) = TellsKind z p k
 Tells z p None = NoFileAt z p
 
--- a look at a path, or below it
+-- A look at a path, or below it.
 pub place_tells : (z : Objects) (p : List ℕ) (b : Bool) → NoFileIf b z p
     → Tells z p (kind_of (is_root p) b (look_of (reply_in z (asks_at p b))))
 place_tells z [] b n = (tt, tt)
 place_tells z (x ∷ p) false n = at_key (λ l. Tells z (x ∷ p) (kind_of false false l)) z (x ∷ p) (λ s. s) (λ s. s)
 place_tells z (x ∷ p) true n = below_key (λ l. Tells z (x ∷ p) (kind_of false true l)) x (marker_of p) z (λ s. (n, s)) (λ s. (n, s))
 
--- ---- the first key that begins with a path is the path, where it stands
+-- ---- the first key that begins with a path is the path itself, if it exists
 
--- a text that begins with another is not less
+-- A text that begins with another is not less.
 not_less : (p k : List ℕ) → begins p k ≡ true → is_lt (text_cmp k p) ≡ true → ⊥
 not_less p k b l =
     let r = rest_after p k b in

@@ -1,4 +1,4 @@
--- A renaming comes to an end.
+-- A rename ends.
 use Rattle.bucket_ops.proofs.Sweeps.{length_keys}
 use Rattle.bucket_ops.specs.Sweeping.{LessLeft, sweep_left}
 use Rattle.bucket_ops.specs.Walking.{LessWalked}
@@ -49,7 +49,7 @@ module _ (o : Renaming) (m : Objects) where
       → Falls (left o) (found o s d k) m (2 * sweep_left (prefix_of o.source) sweep_start m + 4 + looks_left s b)
   fall_found s d k b = grind (arith, fall_source, fall_target, fall_inside, fall_above)
 
-  -- where no file is seen at a path, it is looked below it once
+  -- if no file is seen at a path, the next look is below it, once
   pub fall_looked : (s : Spot) (d b : Bool) (k : Option Kind) → (b ≡ true → k ≡ None → ⊥)
       → Falls (left o) (looked o s d k) m (2 * sweep_left (prefix_of o.source) sweep_start m + 4 + looks_left s b)
   fall_looked s d b k h = grind (arith, fall_found)

@@ -1,4 +1,4 @@
--- A renaming, in the tree.
+-- A rename, on the tree.
 use Rattle.basics.proofs.Members.{in_front, none_some}
 use Rattle.basics.specs.Members.{IsIn}
 use Rattle.bucket_ops.specs.Asks.{objects_at}
@@ -35,9 +35,9 @@ no_root d z h = grind arith
 pub stands : (d : Bool) (z : Objects) (x : ℕ) (p : List ℕ) → IsSource d z (x ∷ p) → HasFile z (x ∷ p) ⊎ IsDirectory z (x ∷ p)
 stands d z x p h = grind arith
 
--- ---- at any moment
+-- ---- at every point
 
--- some moves are made, or all are and of the old keys some are deleted, or all are and the marker is put where it is due
+-- Some moves are made, or all are and some of the old keys are deleted, or all are and the marker is put as it must be.
 whole_of : (u : Option (List ℕ)) (z : Objects) (ps : List Move) (m : Objects) → AreFree z ps
     → ((k : List ℕ) → u ≡ Some k → IsIn k (sources ps) → ⊥)
     → ((n : ℕ) × (m ≡ copied_all z (take n ps))) ⊎ (((left : List (List ℕ)) × IsDeleting (copied_all z ps) (sources ps) left m) ⊎ IsMarked u
@@ -77,7 +77,7 @@ module _ (x : ℕ) (p t : List ℕ) (z : Objects) where
   moves_from false i (y ∷ q) g k l h = file_from z x p y q g.ready.begun.source k l h
   moves_from true i (y ∷ q) g k l h = dir_from z x p y q g.ready.begun.source k l h
 
-  -- where the marker above is put, nothing stood
+  -- if the marker above is put, nothing was there
   pub was_free_above : (d i : Bool) (q k : List ℕ) → is_marker (x ∷ p) ≡ false → MayGo O z d i q → marker_if (parent (x ∷ p)) ≡ Some k
       → NoneBelow (moved O z d q) k → fin.get z k ≡ None
   was_free_above d i [] k f g e none = absurd g.ready.free
@@ -135,12 +135,12 @@ module _ (x : ℕ) (p t : List ℕ) (z : Objects) where
   )
   path_renames (Err r) m k l h = h
 
--- what a renaming gives is what it is in the tree
+-- What a rename gives is the rename on the tree.
 renames : (p t : List ℕ) (z : Objects) (a : Answer) (m : Objects) → is_key p ≡ true → is_key t ≡ true
     → gives (record { source = p; target = t }) z a m → Renames p t z a m
 renames p t z a m h g e = grind (arith, no_root, path_renames)
 
--- and at any moment each object of the source stands whole
+-- At every point each object of the source is whole.
 stand_whole : (p t : List ℕ) (z m : Objects) → is_key p ≡ true → always (record { source = p; target = t }) z m → MayStand p t z m
 stand_whole [] t z m k (inl e) = inl e
 stand_whole [] t z m k (inr h) = absurd (no_root h.0 z h.3.ready.begun.source)

@@ -1,4 +1,4 @@
--- Each object stands whole while it is moved.
+-- Each object is whole while it is moved.
 use Rattle.basics.proofs.Less.{lt_not}
 use Rattle.basics.proofs.Members.{none_some, same_or_other, text_here, text_other}
 use Rattle.basics.specs.Members.{IsIn, RisesFrom}
@@ -21,11 +21,11 @@ use Rattle.std.specs.Ordering.{is_lt}
 use Rattle.store_frame.proofs.Flat.{behind}
 use Rattle.std.specs.FinMap as fin
 
--- a key is the marker u, which was put where nothing stood
+-- Holds if a key is the marker u, which was put, and nothing was there.
 abbrev IsPut : Option (List ℕ) → Objects → Objects → List ℕ → Type 0
 IsPut u z m k = (u ≡ Some k) × (fin.get z k ≡ None) × (fin.get m k ≡ Some marker)
 
--- the moves are under way, or done and a marker u is put
+-- The moves are under way, or are done and a marker u is put.
 pub record AreWhole (u : Option (List ℕ)) (z : Objects) (ps : List Move) (m : Objects) : Type 0 where
   pub moved : (k l : List ℕ) → IsOneOf k l ps → (fin.get m k ≡ fin.get z k) ⊎ ((fin.get m k ≡ None) × (fin.get m l ≡ fin.get z k))
   pub new : (k l : List ℕ) → IsOneOf k l ps → (fin.get m l ≡ None) ⊎ (fin.get m l ≡ fin.get z k)
@@ -34,7 +34,7 @@ pub record AreWhole (u : Option (List ℕ)) (z : Objects) (ps : List Move) (m : 
   pub all_first : (k l j i : List ℕ) → IsOneOf k l ps → IsOneOf j i ps → fin.get m k ≡ None → fin.get m i ≡ fin.get z j
   pub others : (k : List ℕ) → (IsIn k (sources ps) → ⊥) → (IsIn k (targets ps) → ⊥) → (fin.get m k ≡ fin.get z k) ⊎ IsPut u z m k
 
--- of keys that rise, those before one of the first are among the first
+-- In rising keys, those before one of the first are among the first.
 earlier : (x : List ℕ) (ks : List (List ℕ)) → RisesFrom x ks → (n : ℕ) (k j : List ℕ) → IsIn k (take n ks) → IsIn j ks
     → is_lt (text_cmp j k) ≡ true → IsIn j (take n ks)
 earlier x (q ∷ ks) r (suc n) k j h (inl e) l = inl e
@@ -123,7 +123,7 @@ module _ (u : Option (List ℕ)) (z : Objects) (ps : List Move) (h : AreFree z p
       others = λ k s t. inl (others_stay k s t);
     }
 
-  -- ---- when the marker is put
+  -- ---- after the marker is put
 
   abbrev D : Objects
   D = without (copied_all z ps) (sources ps)
@@ -137,7 +137,7 @@ module _ (u : Option (List ℕ)) (z : Objects) (ps : List Move) (h : AreFree z p
   pub others_at_end : (k : List ℕ) → (IsIn k (sources ps) → ⊥) → (IsIn k (targets ps) → ⊥) → fin.get D k ≡ fin.get z k
   others_at_end k s t = others_stay (sources ps) (λ k g. g) k s t
 
-  -- where it is put, nothing stood
+  -- if it is put, nothing was there
   pub was_free : (q : List ℕ) → NoneBelow D q → (IsIn q (sources ps) → ⊥) → fin.get z q ≡ None
   was_free q none apart =
       sym (others_at_end q apart (λ i. let w = is_target ps q i in none_some (none q (begins_all q))
@@ -173,7 +173,7 @@ module _ (u : Option (List ℕ)) (z : Objects) (ps : List Move) (h : AreFree z p
   pub whole_marked : (m : Objects) → ((q : List ℕ) → u ≡ Some q → IsIn q (sources ps) → ⊥) → IsMarked u D m → AreWhole u z ps m
   whole_marked m a g = whole_by u m refl a g
 
--- ---- by the moves of a path
+-- ---- with the moves of a path
 
 pub is_whole : (p q : List ℕ) (z m : Objects) (ps : List Move) → ((k l : List ℕ) → IsMove z p q k l → IsOneOf k l ps)
     → ((k l : List ℕ) → IsOneOf k l ps → IsMove z p q k l) → AreWhole (marker_if (parent p)) z ps m → IsWhole p q z m

@@ -1,4 +1,4 @@
--- Keys that are copied one by one, and deleted when all are.
+-- Keys that are copied one by one, and are deleted after all are copied.
 use Rattle.basics.specs.Members.{RisesFrom}
 use Rattle.bucket_ops.specs.Asks.{Ask, Copy}
 use Rattle.bucket_ops.specs.Walking.{keys_below}
@@ -14,73 +14,73 @@ use Rattle.s3_types.specs.Store.{Objects}
 use Rattle.std.specs.Prelude.{Bool, List, None, drop, false, length, map, nat_lt, take, true, ℕ, [], ◌&&◌, ◌+◌, ◌-◌, ◌<◌, ◌∷◌, ◌≡◌, ◌⊎◌}
 use Rattle.std.specs.FinMap as fin
 
--- a key and its new key
+-- A key and its new key.
 abbrev pub Move : Type 0
 Move = List ℕ × List ℕ
 
--- one of them leads from k to l
+-- Holds if one of these moves leads from k to l.
 abbrev pub IsOneOf : List ℕ → List ℕ → List Move → Type 0
 IsOneOf k l [] = ⊥
 IsOneOf k l (p ∷ ps) = ((k ≡ p.0) × (l ≡ p.1)) ⊎ IsOneOf k l ps
 
--- the keys that are moved
+-- The keys that are moved.
 abbrev pub sources : List Move → List (List ℕ)
 sources ps = map (λ (p : Move). p.0) ps
 
--- the keys that they become
+-- The new keys.
 abbrev pub targets : List Move → List (List ℕ)
 targets ps = map (λ (p : Move). p.1) ps
 
--- all of them copied, in order
+-- The objects after all these copies, in order.
 abbrev pub copied_all : Objects → List Move → Objects
 copied_all m [] = m
 copied_all m (p ∷ ps) = copied_all (copied m p.1 (fin.get m p.0)) ps
 
--- the first key is copied to its new key
+-- The request that copies the first key to its new key, or looks at the bucket if there is none.
 abbrev pub copy_of : List (List ℕ) → List (List ℕ) → Ask
 copy_of [] ls = bucket_asks
 copy_of (k ∷ ks) [] = bucket_asks
 copy_of (k ∷ ks) (l ∷ ls) = Copy k l
 
--- the CopyObject of the key in hand
+-- The request that copies the next key.
 abbrev pub copy_asks : Copying → Ask
 copy_asks c = copy_of (drop c.from c.keys) (drop c.from c.places)
 
--- another copy is to come behind the one in hand
+-- True if another copy follows the next one.
 abbrev pub has_more : Copying → Bool
 has_more c = nat_lt c.from (length c.keys) && nat_lt 1 (length c.keys - c.from)
 
--- the next key is copied, or all are
+-- The next copy, or the end if all keys are copied.
 abbrev pub copied_next : Bool → Copying → CopyStep
 copied_next true c = Next (record { keys = c.keys; places = c.places; from = c.from + 1 })
 copied_next false c = All c.keys
 
 -- ---- what holds
 
--- the first of these moves are copied
+-- The first of these moves are copied.
 pub record IsCopying (z : Objects) (ps : List Move) (c : Copying) (m : Objects) : Type 0 where
   pub keys : c.keys ≡ sources ps
   pub places : c.places ≡ targets ps
   pub some : c.from < length c.keys
   pub copied : m ≡ copied_all z (take c.from ps)
 
--- it goes on, or all of them are copied
+-- Holds if the copies go on, or all of them are made.
 abbrev pub IsCopied : Objects → List Move → CopyStep → Objects → Type 0
 IsCopied z ps (Next c) m = IsCopying z ps c m
 IsCopied z ps (All ks) m = (ks ≡ sources ps) × (m ≡ copied_all z ps)
 
--- how many copies are to come
+-- The number of copies that are still to come.
 abbrev pub copies_left : Copying → ℕ
 copies_left c = length c.keys - c.from
 
--- fewer copies than this are to come
+-- Holds if fewer than n copies are still to come.
 abbrev pub LessCopies : CopyStep → ℕ → Type 0
 LessCopies (Next c) n = copies_left c < n
 LessCopies (All ks) n = 0 < n
 
 -- ---- moves that may be made
 
--- what is to be moved stands, and rises; nothing stands at the new keys; each key has one new key, which is of no other
+-- The keys to move exist, in rising order, and nothing exists at the new keys. Each key has one new key, and no other key has the same.
 pub record AreFree (z : Objects) (ps : List Move) : Type 0 where
   pub stands : (k l : List ℕ) → IsOneOf k l ps → Stands z k
   pub free : (k l : List ℕ) → IsOneOf k l ps → fin.get z l ≡ None
@@ -90,11 +90,11 @@ pub record AreFree (z : Objects) (ps : List Move) : Type 0 where
 
 -- ---- the moves of a source
 
--- keys and what they become behind another text
+-- Keys below a text `from`, each with its new key below the text `to`.
 abbrev pub moves_to : List ℕ → List ℕ → List (List ℕ) → List Move
 moves_to from to ks = map (λ k. (k, new_key from to k)) ks
 
--- each key of a directory with all that is below it, or of a file, and what it becomes
+-- The moves of a source: for a directory each key below it with its marker, for a file its own key.
 abbrev pub moves_of : Bool → List ℕ → List ℕ → Objects → List Move
 moves_of true p q z = moves_to (marker_of p) (marker_of q) (keys_below (marker_of p) z)
 moves_of false p q z = (p, q) ∷ []

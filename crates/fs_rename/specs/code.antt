@@ -1,3 +1,3 @@
--- A renaming stage by stage, as the code goes through it. What it answers and leaves is said in `fs_tree` and by `Public`.
+-- A rename stage by stage, as the code goes through it. `fs_tree` and `Public` state what it answers and leaves.
 pub mod Rename
 pub mod Meaning

@@ -11,7 +11,7 @@ use s3_types::{Key, KeyList, Text, let_go};
 use std::alloc::{AllocError, Global};
 use std::marker::Model;
 
-/// Whether a key is that of a directory's marker.
+/// True if the key is that of a directory's marker.
 fn is_marker(key: &[u8]) -> bool
     ensures { result ≡ is_marker key.now }
 {
@@ -21,7 +21,7 @@ fn is_marker(key: &[u8]) -> bool
     }
 }
 
-/// Whether a key is over its limit.
+/// True if the key is over its limit.
 fn is_too_long(key: &[u8]) -> bool
     ensures { result ≡ is_too_long key.now }
 {
@@ -29,7 +29,7 @@ fn is_too_long(key: &[u8]) -> bool
     key.len() > limit
 }
 
-/// A text as a key, unless it is over its limit.
+/// The text as a key, unless it is over its limit.
 fn fitting(text: Text) -> Option<Key>
     requires { is_too_long text ≡ false → is_key_path text ≡ true }
     ensures { result ≡ fitting text }
@@ -41,14 +41,15 @@ fn fitting(text: Text) -> Option<Key>
     }
 }
 
-/// A text and what stands behind it.
+/// Two texts, one after the other.
 fn joined(alloc: Global, text: &str, rest: &str) -> Result<Text, AllocError>
     ensures { IfOk result (λ whole. whole ≡ text.now ++ rest.now) }
 {
     Text::new(alloc, format!(in alloc; "{text}{rest}")?)
 }
 
-/// A path that things come to stand at, which may be over the limit of keys, and what the keys below it begin with.
+/// A path to which keys are moved or copied, and the prefix of the keys below it. The path may be
+/// over the limit of keys.
 #[derive(Drop)]
 pub struct Base {
     path: Text,
@@ -80,7 +81,7 @@ impl Base {
         Ok(Base { path, prefix })
     }
 
-    /// The target as a new place; there is none where the source or the target is the root.
+    /// The target as a base, or None if the source or the target is the root.
     #[tactic(auto, using(crate::proofs::Places::source_none, crate::proofs::Places::target_none, crate::proofs::Places::target_some, crate::proofs::Places::target_elements))]
     pub fn of_target(
         alloc: Global,
@@ -105,22 +106,23 @@ impl Base {
         &self.path
     }
 
-    /// What the keys below it begin with. Takes no memory.
+    /// The prefix of the keys below it. Takes no memory.
     pub fn prefix(&self) -> &Text
         ensures { result.now ≡ marker_of self.now }
     {
         &self.prefix
     }
 
-    /// The path's key, or None where it is over the limit.
+    /// The path's key, or None if it is over the limit.
     pub fn key(&self) -> Result<Option<Key>, AllocError>
         ensures { IfOk result (λ key. key ≡ fitting self.now) }
     {
         Ok(fitting(self.path.clone()?))
     }
 
-    /// What a key becomes below it, or None where that is over the limit: what it has behind another path's
-    /// marker stands behind this one's. A key that does not begin so stays as it is.
+    /// The new key of a key below this base, or None if that is over the limit: the rest after the
+    /// marker `from` follows this base's marker. A key that does not begin with `from` stays as it
+    /// is.
     fn new_key(&self, alloc: Global, from: &Text, key: &Key) -> Result<Option<Key>, AllocError>
         requires { is_marker from.now ≡ true }
         ensures { IfOk result (λ new. new ≡ fitting (new_key from.now (marker_of self.now) key.now)) }
@@ -131,7 +133,8 @@ impl Base {
         }
     }
 
-    /// What keys below another path become below this one, or the first of them that would be over the limit.
+    /// The new keys below this base of keys below another path, or the first key whose new key
+    /// would be over the limit.
     pub fn new_keys(
         &self,
         alloc: Global,

@@ -10,8 +10,8 @@ use machine::DriveStop;
 use s3_types::{Actor, Bucket, Journal, ObjectStore, let_go};
 use std::alloc::Global;
 
-/// Performs an operation on the objects of a bucket as `perform_in` does, where that is the bucket of its target
-/// too. Where it is not, nothing is sent, and `refused` is the answer.
+/// Performs an operation on the objects of a bucket as `perform_in` does, if its target is in the
+/// same bucket. If it is in another, nothing is sent, and the answer is `refused`.
 pub fn perform_between<O: Phases, S: ObjectStore>(
     alloc: Global,
     bucket: Bucket,

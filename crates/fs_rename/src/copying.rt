@@ -7,7 +7,8 @@ use list_walk::keys_behind;
 use s3_types::{Bucket, Key, KeyList, Request};
 use std::alloc::{AllocError, Global};
 
-/// Keys that are copied one by one, in order, and their new keys; so many of them are copied.
+/// Keys to copy one by one, in order, and their new keys. `from` is the number of those that are
+/// copied.
 #[derive(Drop)]
 pub struct Copying {
     pub keys: KeyList,
@@ -15,14 +16,14 @@ pub struct Copying {
     pub from: usize,
 }
 
-/// Where a copy leads: to the next one, or to all keys, which are copied.
+/// The result of a copy: the next one to make, or all keys, if all are copied.
 #[derive(Drop)]
 pub enum CopyStep {
     Next(Copying),
     All(KeyList),
 }
 
-/// The copy of the first of these keys. Where there is none, the bucket is looked at.
+/// The request that copies the first of these keys. If there is none, it looks at the bucket.
 fn first_copy(
     alloc: Global,
     bucket: &Bucket,
@@ -38,7 +39,7 @@ fn first_copy(
 }
 
 impl Copying {
-    /// These keys, of which none is copied yet. Takes no memory.
+    /// These keys, none of which is copied yet. Takes no memory.
     pub fn new(keys: KeyList, places: KeyList) -> Copying
         ensures { result ≡ record { keys = keys; places = places; from = 0 } }
     {
@@ -49,7 +50,7 @@ impl Copying {
         }
     }
 
-    /// The copy of the next key.
+    /// The request that copies the next key.
     pub fn request(&self, alloc: Global, bucket: &Bucket) -> Result<Request, AllocError>
         ensures { IfOk result (λ request. request ≡ request_of bucket.now (copy_asks self.now)) }
     {
@@ -58,7 +59,7 @@ impl Copying {
         first_copy(alloc, bucket, keys, places)
     }
 
-    /// Where its reply leads. Takes no memory.
+    /// The result after the reply to that request. Takes no memory.
     pub fn next(self) -> CopyStep
         ensures { result ≡ copied_next (has_more self) self }
     {

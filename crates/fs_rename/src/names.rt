@@ -14,9 +14,12 @@ use s3_types::{Bucket, Key, PageLimit, Request, Text, both};
 use std::alloc::{AllocError, Global};
 use std::marker::Model;
 
-/// The source and the target of a renaming, the path above the target, the new places that the source may come
-/// to, whether the target is the source or below it, and the marker of the directory above the source, unless that
-/// is the root.
+/// The paths of a rename.
+///
+/// - `source`, `target`, `above`: the source, the target, and the path above the target.
+/// - `to_target`, `to_inside`: the two new places that the source may get.
+/// - `under`: true if the target is the source or below it.
+/// - `marker`: the marker of the directory above the source, unless that is the root.
 #[derive(Drop)]
 pub(crate) struct RenameNames {
     pub(crate) alloc: Global,
@@ -57,7 +60,7 @@ fn place_above(alloc: Global, path: &S3Path) -> Result<Place, AllocError>
     }
 }
 
-/// The path inside the target that bears the source's last element.
+/// The path inside the target that has the source's last element.
 fn inside_text(alloc: Global, source: &S3Path, target: &S3Path) -> Result<String, AllocError>
     ensures text { IfOk result (λ text. string_bytes text ≡ inside source.now.key target.now.key) }
     ensures source { IfOk result (λ text. is_key source.now.key ≡ true) }
@@ -67,7 +70,7 @@ fn inside_text(alloc: Global, source: &S3Path, target: &S3Path) -> Result<String
     target.text_below(alloc, name.as_str())
 }
 
-/// The path inside the target that bears the source's last element, as a new place; there is none where the
+/// The path inside the target that has the source's last element, as a new place, or None if the
 /// source is the root.
 #[tactic(auto, using(crate::proofs::Inside::inside_none, crate::proofs::Inside::inside_some))]
 fn inside_base(alloc: Global, source: &S3Path, target: &S3Path) -> Result<Option<Base>, AllocError>
@@ -80,7 +83,7 @@ fn inside_base(alloc: Global, source: &S3Path, target: &S3Path) -> Result<Option
     Ok(Some(Base::new(alloc, text)?))
 }
 
-/// The look whether a file stands at a path, or whether something stands below it.
+/// The request that looks for a file at a path, or for anything below it.
 fn look(place: &Place, bucket: &Bucket, below: bool) -> Result<Request, AllocError>
     ensures { IfOk result (λ request. request ≡ request_of bucket.now (asks_at place.now below)) }
 {
@@ -91,7 +94,8 @@ fn look(place: &Place, bucket: &Bucket, below: bool) -> Result<Request, AllocErr
     }
 }
 
-/// The same for a path that may be over the limit of keys, by the first key that begins with it.
+/// The same request for a path that may be over the limit of keys. It lists the first key that
+/// begins with the path.
 fn look_inside(
     alloc: Global,
     base: &Base,
@@ -135,7 +139,7 @@ impl RenameNames {
         })
     }
 
-    /// Whether a path that is looked at is the root. Takes no memory.
+    /// True if the path that is looked at is the root. Takes no memory.
     pub(crate) fn is_root(&self, spot: Spot) -> bool
         ensures { result ≡ is_root_at self.now spot }
     {

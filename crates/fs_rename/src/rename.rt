@@ -12,11 +12,11 @@ use s3_types::{Actor, Bucket, Journal, ObjectStore, both};
 use std::alloc::{AllocError, Global};
 use std::marker::Model;
 
-/// How a renaming ends: the source stands at its new place, or it is refused, or a request wore out, or memory
-/// was wanting.
+/// How a rename ends: the source is at its new place, or the rename is refused, or a request ran
+/// out of retries, or memory ran out.
 pub type RenameEnd = Result<Result<(), RenameRefusal>, DriveStop>;
 
-/// The renaming of a source to a target.
+/// The rename of a source to a target.
 #[derive(Drop)]
 pub struct Rename {
     bucket: Bucket,
@@ -42,8 +42,8 @@ impl Model for Rename {
 }
 
 impl Rename {
-    /// The renaming of a file, or of a directory with all that is below it, to a target, or into it where that is a
-    /// directory.
+    /// The rename of a file, or of a directory with all that is below it, to a target, or into the
+    /// target if that is a directory.
     pub fn new(alloc: Global, source: &S3Path, target: &S3Path) -> Result<Rename, AllocError>
         ensures { IfOk result (λ rename. rename ≡ record {
           bucket = source.now.bucket;
@@ -61,22 +61,30 @@ impl Rename {
         })
     }
 
-    /// Renames the source. Its keys, those of its file or all below its directory with its marker, are copied to the
-    /// new place one by one in their order, then they are deleted, and then the marker of the directory above is
-    /// put where that is no root and is left empty. The new place is the target, or, where a directory stands there,
-    /// the path inside it that bears the source's last element.
+    /// Renames the source. The new place is the target, or, if a directory exists there, the path
+    /// inside it that has the source's last element. The keys of the source are that of its file,
+    /// or all below its directory with its marker. They are copied to the new place one by one in
+    /// their order, and then deleted. Then the marker of the directory above is put, if that is
+    /// left empty and is not the root. (Hadoop FileSystem specification, rename.)
     ///
-    /// Refused, with nothing changed, by the first that is so: OtherBucket where the target is in another bucket;
-    /// NoSuchBucket; SourceRoot; SourceMissing; UnderSource where the target is the source or below it; TargetFile
-    /// where a file stands at the target, or at the place inside it; TargetExists where a directory stands at that
-    /// place; ParentIsFile and ParentMissing, where nothing stands at the target, by what stands above it; and
-    /// TooLong with the first key of the source whose new key would be over its limit, which is 1,024 bytes for a
-    /// marker and else 1,023.
+    /// The rename is refused, with nothing changed, by the first that applies:
     ///
-    /// At any moment, whatever the store loses and wherever it stops, each file of the source stands whole at its
-    /// old or at its new place, and each other file is as it was. Six looks at most, a page and a batch for each 1,000
-    /// keys, a copy for each key, and two requests more; what is proved is the looser bound `most_moves`. Memory for
-    /// the keys and the new keys. (Hadoop FileSystem specification, rename.)
+    /// - `OtherBucket` if the target is in another bucket.
+    /// - `NoSuchBucket`, `SourceRoot`, `SourceMissing`.
+    /// - `UnderSource` if the target is the source or below it.
+    /// - `TargetFile` if a file exists at the target, or at the place inside it.
+    /// - `TargetExists` if a directory exists at the place inside the target.
+    /// - `ParentIsFile` and `ParentMissing`, if nothing exists at the target, for what exists above
+    ///   it.
+    /// - `TooLong` with the first key of the source whose new key would be over its limit, which is
+    ///   1,024 bytes for a marker and otherwise 1,023.
+    ///
+    /// At every point, whatever the store loses and wherever it stops, each file of the source is
+    /// whole at its old or at its new place, and each other file is as it was.
+    ///
+    /// It sends at most six looks, a page and a batch for each 1,000 keys, a copy for each key, and
+    /// two requests more. The bound that is proved, `most_moves`, is looser. It takes memory for
+    /// the keys and the new keys.
     pub fn perform<S: ObjectStore>(
         self,
         alloc: Global,

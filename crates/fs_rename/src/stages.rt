@@ -22,8 +22,8 @@ use operations::Step;
 use s3_types::{Bucket, Key, KeyList, PageEntry, Reply, Request, Text, both, let_go};
 use std::alloc::{AllocError, Global};
 
-/// The paths that a renaming looks at: the source, the target, the new place inside the target, and the path above
-/// the target.
+/// The paths at which a rename looks: the source, the target, the new place inside the target, and
+/// the path above the target.
 #[derive(Clone, Copy)]
 pub enum Spot {
     Source,
@@ -32,7 +32,7 @@ pub enum Spot {
     Above,
 }
 
-/// What stands at a path.
+/// What exists at a path.
 #[derive(Clone, Copy)]
 pub enum Kind {
     File,
@@ -40,34 +40,34 @@ pub enum Kind {
     Nothing,
 }
 
-/// Where a renaming stands.
+/// The stage of a rename.
 #[derive(Drop)]
 pub enum RenameStage {
-    /// Whether a file stands at a path, or, where none does, whether something stands below it; and whether the
-    /// source is a directory, once that is known.
+    /// Asks whether a file exists at `spot`, or, if `below`, whether anything exists below it.
+    /// `directory` is true if the source is known to be a directory.
     Look {
         spot: Spot,
         below: bool,
         directory: bool,
     },
-    /// The keys below the source are listed, for a new place inside the target or at it.
+    /// Lists the keys below the source, for a new place inside the target or at it.
     Walk {
         inside: bool,
         walk: KeyWalk,
     },
-    /// They are copied to their new keys.
+    /// Copies the keys to their new keys.
     Copy(Copying),
-    /// They are deleted.
+    /// Deletes the old keys.
     Batch(Sweep),
-    /// Whether something is left below the directory above the source, whose marker this is.
+    /// Asks whether anything is left below the directory above the source, which has this marker.
     Parent(Key),
-    /// The marker of the directory above the source is put.
+    /// Puts the marker of the directory above the source.
     PutMarker(Key),
 }
 
 type Answer = Result<(), RenameRefusal>;
 
-/// Whether the first of these entries is the path itself.
+/// Shows whether the first of these entries is the path itself.
 fn first_is(path: &Text, entries: &[PageEntry]) -> Look
     ensures { result ≡ first_is path.now entries.now }
 {
@@ -83,7 +83,7 @@ fn first_is(path: &Text, entries: &[PageEntry]) -> Look
     }
 }
 
-/// What a reply tells of the new place inside the target.
+/// What a reply shows of the new place inside the target.
 fn seen_inside(base: &Base, below: bool, reply: &Reply, seen: Look) -> Look
     requires { seen ≡ look_of reply.now }
     ensures { result ≡ seen_inside (Some base.now) below reply.now }
@@ -97,7 +97,7 @@ fn seen_inside(base: &Base, below: bool, reply: &Reply, seen: Look) -> Look
     }
 }
 
-/// What stands at a path, where that is known.
+/// What exists at a path, if that is known after this look.
 fn kind_of(root: bool, below: bool, seen: Look) -> Option<Kind>
     ensures { result ≡ kind_of root below seen }
 {
@@ -198,7 +198,7 @@ impl RenameNames {
         }
     }
 
-    /// The source's own key alone is copied.
+    /// The step that copies only the source's own key.
     fn one_copy(&self, base: &Base) -> Result<Step<RenameStage, Answer>, AllocError>
         ensures { IfOk result (λ step. step ≡ one_copy (key_if self.now.source) (fitting base.now)) }
     {
@@ -305,7 +305,7 @@ impl RenameNames {
         }
     }
 
-    /// All keys below the source were listed.
+    /// The step after all keys below the source were listed.
     fn listed_to(
         &self,
         inside: bool,

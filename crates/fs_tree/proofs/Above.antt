@@ -60,15 +60,15 @@ front_begins (x ∷ front) back = ap (λ b. b && begins (marker_of front) (front
 
 -- ---- the path above a path
 
--- the marker of a path above a path begins that of its parent
+-- If a path begins with the marker of a path, the marker of its parent does too.
 pub above_parent : (q p : List ℕ) → begins (marker_of q) p ≡ true → begins (marker_of q) (marker_of (parent p)) ≡ true
 above_parent q p h = grind (arith, cut, no_begin, before_slash, begins_cut)
 
--- a path is below its parent
+-- A path is below its parent.
 pub parent_begins : (p : List ℕ) (x : ℕ) (u : List ℕ) → parent p ≡ x ∷ u → begins (marker_of (x ∷ u)) p ≡ true
 parent_begins p x u h = grind (arith, cut, before_none, before_slash, front_begins)
 
--- ---- all of them
+-- ---- all paths above a path
 
 pub none_above : (p : List ℕ) → NoSlash p → keys_above p ≡ []
 none_above p n = ap (λ (l : List (List ℕ)). map (join_with_byte 47) (fronts l)) (one_part 47 p n)
@@ -90,7 +90,7 @@ above_in (suc n) q p l h = elim (cut p) [
   ]
 ]
 
--- the marker of a directory above a path begins the path
+-- A path begins with the marker of each directory above it.
 pub above_begins : (q p : List ℕ) → IsIn q (keys_above p) → begins (marker_of q) p ≡ true
 above_begins q p h = above_in (suc (length p)) q p (omega arith) h
 
@@ -104,7 +104,7 @@ in_above (suc n) q p l h = elim (cut p) [
   ])
 ]
 
--- and only theirs do
+-- Only directories above a path have markers with which it begins.
 pub begins_above : (q p : List ℕ) → begins (marker_of q) p ≡ true → IsIn q (keys_above p)
 begins_above q p h = in_above (suc (length p)) q p (omega arith) h
 
@@ -118,7 +118,7 @@ marker_ends [] h = absurd (false≢true h)
 marker_ends (x ∷ []) h = ([], ap (λ v. v ∷ []) (eqb-true x 47 h))
 marker_ends (x ∷ y ∷ p) h = let w = marker_ends (y ∷ p) h in (x ∷ w.0, ap (λ l. x ∷ l) w.1)
 
--- it is no marker's
+-- The key of a path does not end in `/`.
 pub key_no_marker : (x : ℕ) (p : List ℕ) → is_key (x ∷ p) ≡ true → is_marker (x ∷ p) ≡ false
 key_no_marker x p k = contrary (is_marker (x ∷ p)) (λ e.
     let w = marker_ends (x ∷ p) e in
@@ -143,13 +143,13 @@ marker_elements t front e = ap (λ t. are_elements (trimmed t)) e ∙ ap are_ele
 pub key_elements : (k : List ℕ) → is_key_path k ≡ true → are_elements (trimmed k) ≡ true
 key_elements k h = (and_parts (nat_le 1 (length k) && nat_le (length k) 1024) (are_elements (trimmed k)) h).1
 
--- before a `/` and behind it
+-- The text before a `/` and the text after it consist of elements.
 pub cut_elements : (a r : List ℕ) → are_elements (a ++ 47 ∷ r) ≡ true → (are_elements a ≡ true) × (are_elements r ≡ true)
 cut_elements a r h =
     and_parts (are_elements a) (are_elements r) (sym (ap (list_all is_element) (parts_append 47 a r) ∙ list_all-append is_element
     (parts_of 47 a) (parts_of 47 r)) ∙ h)
 
--- before one that may be its last byte
+-- The text before a `/` that may be the last byte consists of elements.
 pub front_elements : (a r : List ℕ) → are_elements (trimmed (a ++ 47 ∷ r)) ≡ true → are_elements a ≡ true
 front_elements a r h = elim (true_or_false (is_marker (47 ∷ r))) [
   | inl i ↦ let w = marker_ends (47 ∷ r) i in ended w.0 w.1
@@ -164,7 +164,7 @@ front_elements a r h = elim (true_or_false (is_marker (47 ∷ r))) [
         (cut_elements a f (sym (marker_elements (a ++ 47 ∷ r) (a ++ 47 ∷ f) (ap (λ l. a ++ l) k ∙ sym (append_assoc a (47 ∷ f) (47 ∷ []))))
         ∙ h)).0
 
--- ---- the name of what is below a path
+-- ---- the name of a child of a path
 
 pub plain_end : (n : List ℕ) → NoSlash n → is_marker n ≡ false
 plain_end [] s = refl
@@ -183,7 +183,7 @@ below_marker : (p : List ℕ) (x : ℕ) (n : List ℕ) → is_marker (below p (x
 below_marker [] x n = refl
 below_marker (y ∷ p) x n = marker_behind (y ∷ p) 47 (x ∷ n)
 
--- of a file, and of a directory in which something stands
+-- The name of a file below a path is an element.
 pub file_element : (p : List ℕ) (x : ℕ) (n : List ℕ) → NoSlash (x ∷ n) → is_key_path (below p (x ∷ n)) ≡ true → is_element (x ∷ n) ≡ true
 file_element p x n h g = grind (arith, name_element, other_end, below_marker, plain_end, key_elements)
 

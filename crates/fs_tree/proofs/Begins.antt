@@ -1,4 +1,4 @@
--- Texts that begin with others, and markers.
+-- Texts that begin with other texts, and markers.
 use Rattle.basics.proofs.Members.{eq_nat, nat_true}
 use Rattle.dir_markers.specs.Markers.{marker_of}
 use Rattle.fs_tree.specs.Tree.{is_marker}
@@ -26,7 +26,7 @@ begins_trans (x ∷ p) (y ∷ q) (z ∷ k) h g =
     let b = and_parts (nat_eq y z) (begins q k) g in
     ap (λ c. c && begins p k) (ap (λ v. nat_eq v z) (eq_nat x y a.0) ∙ b.0) ∙ begins_trans p q k a.1 b.1
 
--- of two beginnings of one text, one begins with the other
+-- If a text begins with two texts, one of these begins with the other.
 pub one_begins : (a b k : List ℕ) → begins a k ≡ true → begins b k ≡ true → (begins a b ≡ true) ⊎ (begins b a ≡ true)
 one_begins [] b k h g = inl refl
 one_begins (x ∷ a) [] k h g = inr refl
@@ -42,7 +42,7 @@ begins_length [] q h = omega arith
 begins_length (x ∷ p) [] h = absurd (false≢true h)
 begins_length (x ∷ p) (y ∷ q) h = let e = begins_length p q (and_parts (nat_eq x y) (begins p q) h).1 in omega (arith, e)
 
--- a marker's key ends in `/`
+-- The key of a marker ends in `/`.
 pub marker_is : (p : List ℕ) → is_marker (marker_of p) ≡ true
 marker_is (x ∷ y ∷ p) = marker_is (y ∷ p)
 marker_is _ = refl
@@ -51,7 +51,7 @@ pub no_empty : (q : List ℕ) → begins (marker_of q) [] ≡ true → ⊥
 no_empty [] h = false≢true h
 no_empty (y ∷ q) h = false≢true h
 
--- a marker that begins with another is that of the same path, or of one below it
+-- If a marker begins with another marker, its path is the same or below that of the other.
 pub marker_at : (q p : List ℕ) → begins (marker_of q) (marker_of p) ≡ true → (q ≡ p) ⊎ (begins (marker_of q) p ≡ true)
 marker_at [] [] h = inl refl
 marker_at (y ∷ q) [] h = absurd (no_empty q (and_parts (nat_eq y 47) (begins (marker_of q) []) h).1)

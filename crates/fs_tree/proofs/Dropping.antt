@@ -14,12 +14,12 @@ use Rattle.std.proofs.Common.{◌≡◌, ◌⊎◌}
 use Rattle.std.proofs.lemmas.Bool.{false≢true}
 use Rattle.std.specs.FinMap as fin
 
--- ---- a marker that is put where nothing is left
+-- ---- the marker that is put if nothing is left
 
 pub if_marker : (u k : List ℕ) → marker_if u ≡ Some k → marker_of u ≡ k
 if_marker u k h = grind arith
 
--- what stands then stood before, or is the marker
+-- An object that exists afterwards existed before, or is the marker.
 pub marked_was : (u : Option (List ℕ)) (n m : Objects) → IsMarked u n m → (k : List ℕ) → Stands m k → Stands n k ⊎ (u ≡ Some k)
 marked_was None n m g k h = inl (subst (λ m. Stands m k) g h)
 marked_was (Some u) n m (inl g) k h = inl (subst (λ m. Stands m k) g.1 h)
@@ -31,7 +31,7 @@ marked_stands None n m g k h = subst (λ m. Stands m k) (sym g) h
 marked_stands (Some u) n m (inl g) k h = subst (λ m. Stands m k) (sym g.1) h
 marked_stands (Some u) n m (inr g) k h = subst (λ m. Stands m k) (sym g.1) (put_stands n u k marker h)
 
--- other keys are as they were
+-- Other keys are as before.
 pub marked_other : (u : Option (List ℕ)) (n m : Objects) → IsMarked u n m → (k : List ℕ) → (u ≡ Some k → ⊥) → fin.get m k ≡ fin.get n k
 marked_other u n m h k g = grind (arith, text_other)
 
@@ -44,12 +44,12 @@ marked_files u n m g k f = marked_other (marker_if u) n m g k (λ e. false≢tru
 
 -- ---- the path above
 
--- no marker but the root's begins the root's
+-- Only the root's marker is a prefix of the root's marker.
 pub not_above_root : (y : ℕ) (q : List ℕ) → begins (marker_of (y ∷ q)) (marker_of []) ≡ true → ⊥
 not_above_root y q h = let l = begins_length (marker_of (y ∷ q)) (marker_of []) h in omega (arith, l, length-append q (47 ∷ []))
 
 module _ (p : List ℕ) where
-  -- the directory above is one still, and so are those above it
+  -- The directory above still exists, and so do those above it.
   pub above_kept : (u : List ℕ) → parent p ≡ u → (n m : Objects) → IsMarked (marker_if u) n m → (q : List ℕ) → begins (marker_of q) p ≡ true
       → HasDir m q
   above_kept u e n m g [] b = tt
@@ -62,7 +62,7 @@ module _ (p : List ℕ) where
       up : begins (marker_of (y ∷ q)) (marker_of (x ∷ u)) ≡ true
       up = rw e at (above_parent (y ∷ q) p b)
 
-  -- a marker that begins the one above begins the path
+  -- If the marker above a path begins with a marker, the path does too.
   pub through : (u : List ℕ) → parent p ≡ u → (k q : List ℕ) → marker_if u ≡ Some k → begins (marker_of q) k ≡ true
       → begins (marker_of q) p ≡ true
   through u h k q g e = grind (arith, begins_trans, parent_begins)
@@ -76,7 +76,7 @@ drop_was z p k h = elim (same_or_other k p) [
 ]
 
 module _ (p : List ℕ) (z m : Objects) (g : IsMarked (marker_if (parent p)) (fin.remove z p) m) where
-  -- a file that goes is gone in the tree, and nothing else is
+  -- After a deletion of a file, the file is gone in the tree, and nothing else has changed.
   pub drops_file : is_marker p ≡ false → Stands z p → DropsFile p z m
   drops_file f s = record {
     gone = marked_files (parent p) (fin.remove z p) m g p f ∙ text_gone z p p refl;
@@ -93,7 +93,7 @@ module _ (p : List ℕ) (z m : Objects) (g : IsMarked (marker_if (parent p)) (fi
 
 -- ---- a directory
 
--- the marker above a path is no key below it
+-- The marker above a path is not below the path.
 pub marker_not_below : (x : ℕ) (p u k : List ℕ) → parent (x ∷ p) ≡ u → marker_if u ≡ Some k → begins (marker_of (x ∷ p)) k ≡ true → ⊥
 marker_not_below x p [] k e f b = absurd (cc)
 marker_not_below x p (v ∷ u) k e f b =
@@ -101,7 +101,7 @@ marker_not_below x p (v ∷ u) k e f b =
     let s = begins_length (marker_of (v ∷ u)) (x ∷ p) (parent_begins (x ∷ p) v u e) in
     omega (arith, l, s, length-append p (47 ∷ []))
 
--- of a path that neither is another nor is below it: a directory at it, with a key that begins with the other's marker, is above the other
+-- If d is neither x ∷ p nor below it, and some key begins with the markers of both, then x ∷ p is below d.
 pub stands_above : (x : ℕ) (p d k : List ℕ) → (IsAtOrBelow (x ∷ p) d → ⊥) → begins (marker_of d) k ≡ true
     → begins (marker_of (x ∷ p)) k ≡ true
     → begins (marker_of d) (x ∷ p) ≡ true
@@ -135,7 +135,7 @@ module _ (x : ℕ) (p : List ℕ) (z n m : Objects) (w : IsWithoutBelow (marker_
         apart (inl e) = false_true b (ap (λ v. begins Q (marker_of v)) e ∙ begins_all Q)
         apart (inr i) = false_true b (begins_trans Q q (marker_of q) i (begins_marker q))
 
-    -- a directory that goes with what is below it is gone in the tree, and nothing else is
+    -- After a deletion of a directory with everything below it, it is gone in the tree, and nothing else has changed.
     pub drops_dir : SomeBelow z Q → DropsDir (x ∷ p) z m
     drops_dir d = record {
       below = gone_below;

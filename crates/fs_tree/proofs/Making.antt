@@ -1,4 +1,4 @@
--- Making a directory, in the tree.
+-- Making a directory, seen in the tree.
 use Rattle.basics.proofs.Members.{same_or_other, text_here, text_other}
 use Rattle.basics.specs.Members.{IsIn}
 use Rattle.dir_markers.specs.Markers.{keys_above, marker_of}
@@ -14,25 +14,25 @@ use Rattle.std.proofs.Common.{List, ap, arith, inl, inr, refl, subst, sym, true,
 use Rattle.std.proofs.lemmas.Bool.{false≢true}
 use Rattle.std.specs.FinMap as fin
 
--- what stands stays there
+-- An existing object still exists after a put.
 pub put_stands : (z : Objects) (k q : List ℕ) (v : Object) → Stands z q → Stands (fin.insert z k v) q
 put_stands z k q v h = elim (same_or_other q k) [ inl e ↦ (v, text_here z k q v e) | inr n ↦ (h.0, text_other z k q v n ∙ h.1) ]
 
 pub put_was : (z : Objects) (k q : List ℕ) (v : Object) → Stands (fin.insert z k v) q → (q ≡ k) ⊎ Stands z q
 put_was z k q v h = elim (same_or_other q k) [ inl e ↦ inl e | inr n ↦ inr (h.0, sym (text_other z k q v n) ∙ h.1) ]
 
--- with something below a path, it and the paths above it are directories
+-- If something is below a path, the path and those above it are directories.
 pub dir_of : (m : Objects) (q p : List ℕ) → begins (marker_of q) p ≡ true → SomeBelow m p → HasDir m q
 dir_of m [] p b h = tt
 dir_of m (x ∷ q) p b h = (h.0, begins_trans (marker_of (x ∷ q)) p h.0 b h.1, h.2, h.3)
 
--- a directory is one still where each key that makes it one does so
+-- A directory is still one if each key that made it one still does.
 pub dir_each : (z m : Objects) (q : List ℕ) → ((k : List ℕ) → begins (marker_of q) k ≡ true → Stands z k → HasDir m q) → HasDir z q
     → HasDir m q
 dir_each z m [] f h = tt
 dir_each z m (x ∷ q) f h = f h.0 h.1 (h.2, h.3)
 
--- a key that stands makes it one
+-- An existing key below a path makes the path a directory.
 pub dir_by : (m : Objects) (q k : List ℕ) → begins (marker_of q) k ≡ true → Stands m k → HasDir m q
 dir_by m q k h g = grind arith
 
@@ -66,7 +66,7 @@ dir_above (x ∷ p) z h q i = dir_of z q (marker_of (x ∷ p)) (above_marker q (
 makes_none : (p : List ℕ) (z : Objects) → HasDir z p → MakesDirs p z z
 makes_none p z h = record { files = λ k f. refl; kept = λ q d. d; path = h; above = dir_above p z h; only = λ q d. inl d }
 
--- what making a directory puts makes it one in the tree
+-- The marker that making a directory puts makes it a directory in the tree.
 pub makes_dirs : (p : List ℕ) (z m : Objects) → PutsDir p z m → MakesDirs p z m
 makes_dirs p z m (inl h) = subst (MakesDirs p z) (sym h.1) (makes_none p z h.0.1)
 makes_dirs p z m (inr h) = subst (MakesDirs p z) (sym h.2) (makes_new p z)

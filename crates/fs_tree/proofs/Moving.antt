@@ -1,4 +1,4 @@
--- Moving a file or a directory, in the tree.
+-- Moving a file or a directory, seen in the tree.
 use Rattle.basics.proofs.Members.{eq_nat, none_some, same_or_other, true_or_false}
 use Rattle.basics.proofs.Pieces.{one_part}
 use Rattle.basics.specs.Parts.{parts_of}
@@ -21,7 +21,7 @@ use Rattle.std.specs.FinMap as fin
 
 -- ---- texts
 
--- a text that begins with another is that and its rest
+-- A text that begins with another is that text and some rest.
 pub rest_after : (p k : List ℕ) → begins p k ≡ true → (rest : List ℕ) × (k ≡ p ++ rest)
 rest_after [] k h = (k, refl)
 rest_after (x ∷ p) [] h = absurd (false≢true h)
@@ -33,7 +33,7 @@ rest_after (x ∷ p) (y ∷ k) h =
     same : (x y : ℕ) (p k r : List ℕ) → nat_eq x y ≡ true → k ≡ p ++ r → y ∷ k ≡ x ∷ p ++ r
     same x y p k r e f i = sym (eq_nat x y e) i ∷ f i
 
--- the last element of a path has no `/`
+-- The last of a list with p at its end is p.
 last_end : (ps : List (List ℕ)) (p : List ℕ) → last_of (ps ++ p ∷ []) ≡ p
 last_end (q ∷ r ∷ ps) p = last_end (r ∷ ps) p
 last_end _ p = refl
@@ -45,14 +45,14 @@ own_no_slash p =
       | inr c ↦ subst NoSlash (sym (ap last_of (parts_round p c.0 c.1 c.2 c.3) ∙ last_end (parts_of 47 c.0) c.1)) c.3
     ]
 
--- the directory that a path is inside is the one above it
+-- The path inside a directory has that directory above it.
 pub inside_above : (p t : List ℕ) → parent (inside p t) ≡ t
 inside_above p [] = sym (before_none (own_name p) (own_no_slash p))
 inside_above p (y ∷ t) = sym (before_slash (inside p (y ∷ t)) (y ∷ t) (own_name p) refl (own_no_slash p))
 
 -- ---- the directory above the new place
 
--- stands
+-- It exists.
 pub place_above : (z : Objects) (p t q : List ℕ) → IsPlace z p t q → HasDir z (parent q)
 place_above z p t q (inl h) = subst (HasDir z) (sym (ap parent h.1 ∙ inside_above p t)) h.0.1
 place_above z p t q (inr h) = subst (λ q. HasDir z (parent q)) (sym h.2) h.1.1
@@ -62,7 +62,7 @@ dirs_above z q u e h [] b = tt
 dirs_above z q [] e h (y ∷ d) b = absurd (not_above_root y d (rw e at (above_parent (y ∷ d) q b)))
 dirs_above z q (x ∷ u) e h (y ∷ d) b = dir_of z (y ∷ d) (marker_of (x ∷ u)) (rw e at (above_parent (y ∷ d) q b)) h
 
--- the new place is neither the source nor below it
+-- The new place is neither the source nor below it.
 pub place_apart : (z : Objects) (x : ℕ) (p t q : List ℕ) → MayMove z (x ∷ p) t → IsPlace z (x ∷ p) t q → IsAbsent z q
     → begins (marker_of (x ∷ p)) (marker_of q) ≡ true → ⊥
 place_apart z x p t q m i n b = elim (marker_at (x ∷ p) q b) [ inl e ↦ stands m.stands (subst (IsAbsent z) (sym e) n) | inr b ↦ below b i ]
@@ -83,7 +83,7 @@ place_apart z x p t q m i n b = elim (marker_at (x ∷ p) q b) [ inl e ↦ stand
 
 module _ (p q : List ℕ) (z n m : Objects) (w : IsFileMoved p q z n) (g : IsMarkedAbove p n m) (free : fin.get z q ≡ None)
     (above : HasDir z (parent q)) where
-  -- a file that is moved is so in the tree, and nothing else is
+  -- After a move of a file, the file has moved in the tree, and nothing else has changed.
   pub moves_file : is_marker p ≡ false → is_marker q ≡ false → Stands z p → MovesFile p q z m
   moves_file f i s = record {
     moved = marked_files (parent p) n m g q i ∙ w.moved;
@@ -110,7 +110,7 @@ module _ (p q : List ℕ) (z n m : Objects) (w : IsFileMoved p q z n) (g : IsMar
 
 -- ---- a directory
 
--- what stands below a stands below b too, where each key that begins with b has what the same behind a has
+-- If v has below b what u has below a, then something below a in u is also below b in v.
 moved_below : (a b : List ℕ) (u v : Objects) → ((rest : List ℕ) → fin.get v (b ++ rest) ≡ fin.get u (a ++ rest))
     → (rest : List ℕ) → SomeBelow u (a ++ rest) → SomeBelow v (b ++ rest)
 moved_below a b u v moved rest h =
@@ -127,7 +127,7 @@ module _ (x : ℕ) (p : List ℕ) (y : ℕ) (q : List ℕ) (z n m : Objects) (w 
   abbrev Q : List ℕ
   Q = marker_of (y ∷ q)
 
-  -- the marker above is no key below the new place
+  -- The marker above the source is not below the new place.
   not_above : begins Q P ≡ true → ⊥
   not_above b = none_some (free there.0 (begins_trans Q P there.0 b there.1)) there.3
 
@@ -154,7 +154,7 @@ module _ (x : ℕ) (p : List ℕ) (y : ℕ) (q : List ℕ) (z n m : Objects) (w 
   marker_end : (a rest : List ℕ) → a ++ marker_of rest ≡ marker_of (a ++ rest)
   marker_end a rest = sym (append_assoc a rest (47 ∷ []))
 
-  -- a directory that is moved with what is below it is so in the tree, and nothing else is
+  -- After a move of a directory with everything below it, it has moved in the tree, and nothing else has changed.
   pub moves_dir : MovesDir (x ∷ p) (y ∷ q) z m
   moves_dir = record {
     moved = moved_all;

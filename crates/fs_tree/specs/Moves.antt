@@ -12,25 +12,25 @@ use Rattle.std.specs.FinMap as fin
 
 -- ---- the source, the target and the new place
 
--- a path is another or below it
+-- t is p or below it.
 abbrev pub IsAtOrBelow : List ℕ → List ℕ → Type 0
 IsAtOrBelow p t = (t ≡ p) ⊎ (begins (marker_of p) t ≡ true)
 
--- something stands at the source p, and the target t is neither it nor below it
+-- The source p is a file or a directory, and the target t is neither p nor below it.
 pub record MayMove (z : Objects) (p t : List ℕ) : Type 0 where
   pub stands : HasFile z p ⊎ IsDirectory z p
   pub apart : IsAtOrBelow p t → ⊥
 
--- the path inside a directory t that bears the last element of the source
+-- The path inside the directory t with the name of the source.
 abbrev pub inside : List ℕ → List ℕ → List ℕ
 inside p t = below t (own_name p)
 
--- the new place q: inside the directory that stands at the target, or the target itself where nothing stands there and a directory stands
--- above it
+-- The new place q. If the target is a directory, q is inside it, with the name of the source. If nothing is at the target and the path
+-- above it is a directory, q is the target.
 abbrev pub IsPlace : Objects → List ℕ → List ℕ → List ℕ → Type 0
 IsPlace z p t q = (IsDirectory z t × (q ≡ inside p t)) ⊎ (IsAbsent z t × IsDirectory z (parent t) × (q ≡ t))
 
--- the new place of a source that may be moved: nothing stands there
+-- The source may be moved, q is its new place, and nothing is there.
 pub record IsFreePlace (z : Objects) (p t q : List ℕ) : Type 0 where
   pub source : MayMove z p t
   pub place : IsPlace z p t q
@@ -38,42 +38,42 @@ pub record IsFreePlace (z : Objects) (p t q : List ℕ) : Type 0 where
 
 -- ---- keys and their new keys
 
--- k is a key of what stands at p, and l is the same behind q
+-- k is a key of the source p, and l is the key that it gets at q, with the same rest.
 abbrev pub IsMove : Objects → List ℕ → List ℕ → List ℕ → List ℕ → Type 0
 IsMove z p q k l =
     (HasFile z p × (k ≡ p) × (l ≡ q))
     ⊎ (IsDirectory z p × Stands z k × ((rest : List ℕ) × (k ≡ marker_of p ++ rest) × (l ≡ marker_of q ++ rest)))
 
--- a key is over its limit: 1,024 bytes for a marker, and 1,023 for a file
+-- The key is longer than it may be: 1,024 bytes for a marker, and 1,023 for a file.
 abbrev pub is_too_long : List ℕ → Bool
 is_too_long k = nat_lt (cond (is_marker k) 1024 1023) (length k)
 
--- no new key is over its limit
+-- No new key is too long.
 abbrev pub AllFit : Objects → List ℕ → List ℕ → Type 0
 AllFit z p q = (k l : List ℕ) → IsMove z p q k l → is_too_long l ≡ false
 
--- k is the first key whose new key is over its limit
+-- k is the least key whose new key is too long.
 pub record IsFirstTooLong (z : Objects) (p q k : List ℕ) : Type 0 where
   pub new : List ℕ
   pub moves : IsMove z p q k new
   pub long : is_too_long new ≡ true
   pub first : (j l : List ℕ) → IsMove z p q j l → is_lt (text_cmp j k) ≡ true → is_too_long l ≡ false
 
--- ---- what a renaming does
+-- ---- what a rename does
 
--- n is z with the object of p at q, header included
+-- n is z with the object of p moved to q, header included.
 pub record IsFileMoved (p q : List ℕ) (z n : Objects) : Type 0 where
   pub moved : fin.get n q ≡ fin.get z p
   pub gone : fin.get n p ≡ None
   pub others : (k : List ℕ) → (k ≡ p → ⊥) → (k ≡ q → ⊥) → fin.get n k ≡ fin.get z k
 
--- n is z with all keys below p below q, headers and markers included
+-- n is z with all keys below p moved below q, headers and markers included.
 pub record IsDirMoved (p q : List ℕ) (z n : Objects) : Type 0 where
   pub moved : (rest : List ℕ) → fin.get n (marker_of q ++ rest) ≡ fin.get z (marker_of p ++ rest)
   pub gone : (k : List ℕ) → begins (marker_of p) k ≡ true → fin.get n k ≡ None
   pub others : (k : List ℕ) → begins (marker_of p) k ≡ false → begins (marker_of q) k ≡ false → fin.get n k ≡ fin.get z k
 
--- of the tree of a renaming: q is the file that p was, and p is none; every other file and every directory is as it was
+-- In the tree: the file p is now q, with its header. Every other file and every directory is as before.
 pub record MovesFile (p q : List ℕ) (z m : Objects) : Type 0 where
   pub moved : fin.get m q ≡ fin.get z p
   pub gone : fin.get m p ≡ None
@@ -81,7 +81,7 @@ pub record MovesFile (p q : List ℕ) (z m : Objects) : Type 0 where
   pub kept : (d : List ℕ) → HasDir z d → HasDir m d
   pub only : (d : List ℕ) → HasDir m d → HasDir z d
 
--- of the tree of a renaming: what stood at p or below it stands at q with the same rest; all else is as it was
+-- In the tree: everything at p and below it is now at q, with the same rest. Everything else is as before.
 pub record MovesDir (p q : List ℕ) (z m : Objects) : Type 0 where
   pub moved : (rest : List ℕ) → fin.get m (marker_of q ++ rest) ≡ fin.get z (marker_of p ++ rest)
   pub directory : HasDir m q
@@ -94,29 +94,29 @@ pub record MovesDir (p q : List ℕ) (z m : Objects) : Type 0 where
   pub kept : (d : List ℕ) → (IsAtOrBelow p d → ⊥) → HasDir z d → HasDir m d
   pub only : (d : List ℕ) → (IsAtOrBelow q d → ⊥) → HasDir m d → HasDir z d
 
--- ---- a renaming that is under way
+-- ---- during a rename
 
--- a key that is at neither an old place nor a new one
+-- k is neither an old key nor a new one.
 abbrev pub IsElsewhere : Objects → List ℕ → List ℕ → List ℕ → Type 0
 IsElsewhere z p q k = ((l : List ℕ) → IsMove z p q k l → ⊥) × ((j : List ℕ) → IsMove z p q j k → ⊥)
 
--- each object of the source stands whole at its old or at its new place, and nothing else is at the new places; they come there in the
--- order of their keys, and only when all are there does one leave its old place; every file that is at neither is as it was, header
--- included, and so is every marker, unless it is that of the directory above the source, which is put only where none stood
+-- The objects at some point of a rename. Each object of the source is whole at its old or its new key, and nothing else is at the new
+-- keys. The copies come in the order of their keys, and no old key goes before all copies are there. Every file elsewhere is as before,
+-- with its header. So is every marker elsewhere; only that of the directory above the source may be new.
 pub record IsWhole (p q : List ℕ) (z m : Objects) : Type 0 where
-  -- a key of the source that is gone stands at its new place
+  -- If a key of the source is gone, its object is at the new key.
   pub moved : (k l : List ℕ) → IsMove z p q k l → (fin.get m k ≡ fin.get z k) ⊎ ((fin.get m k ≡ None) × (fin.get m l ≡ fin.get z k))
-  -- a new key is absent or has its source's object
+  -- A new key is absent, or has the object of its source.
   pub new : (k l : List ℕ) → IsMove z p q k l → (fin.get m l ≡ None) ⊎ (fin.get m l ≡ fin.get z k)
-  -- copies come in the order of their keys
+  -- The copies come in the order of their keys.
   pub in_order : (k l j i : List ℕ) → IsMove z p q k l → IsMove z p q j i → is_lt (text_cmp j k) ≡ true → fin.get m l ≡ fin.get z k
       → fin.get m i ≡ fin.get z j
-  -- nothing goes before all are copied
+  -- No key goes before all are copied.
   pub all_first : (k l j i : List ℕ) → IsMove z p q k l → IsMove z p q j i → fin.get m k ≡ None → fin.get m i ≡ fin.get z j
   pub files : (k : List ℕ) → is_marker k ≡ false → IsElsewhere z p q k → fin.get m k ≡ fin.get z k
   pub markers : (k : List ℕ) → IsElsewhere z p q k
       → (fin.get m k ≡ fin.get z k) ⊎ ((marker_if (parent p) ≡ Some k) × (fin.get z k ≡ None) × (fin.get m k ≡ Some marker))
 
--- at any moment: nothing has changed, or the source is on its way to its new place
+-- What may be there at any point of a rename: nothing has changed, or the source is on its way to its new place.
 abbrev pub MayStand : List ℕ → List ℕ → Objects → Objects → Type 0
 MayStand p t z m = (m ≡ z) ⊎ ((q : List ℕ) × IsFreePlace z p t q × IsWhole p q z m)

@@ -4,28 +4,28 @@ use s3_types::{Sequence, Text};
 /// Why a file operation is refused. A refused operation changes nothing.
 #[derive(Drop)]
 pub enum FsRefusal {
-    /// Nothing stands at the path.
+    /// Nothing is at the path.
     NotFound,
-    /// A file stands at the path.
+    /// A file is at the path.
     AlreadyExists,
-    /// A directory stands at the path.
+    /// A directory is at the path.
     IsDirectory,
-    /// A file stands at a directory above the path: the key of the first one from the root.
+    /// A path above this one is a file: the key of the first such path, from the root down.
     NotDirectory(Text),
-    /// Something stands below the directory.
+    /// Something is below the directory.
     NotEmpty,
-    /// The path is a bucket's root.
+    /// The path is the root of a bucket.
     IsRoot,
     /// There is no bucket of this name.
     NoSuchBucket,
 }
 
-/// A child of a directory, or a file by itself: its last element, and what it is.
+/// A child of a directory, or a file by itself: its last element and its status.
 #[derive(Drop)]
 pub struct DirEntry {
     pub name: Text,
     pub status: Status,
 }
 
-/// What a directory holds, in order.
+/// The entries of a directory, in order.
 pub type DirList = Sequence<DirEntry>;

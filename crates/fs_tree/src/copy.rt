@@ -9,19 +9,20 @@ pub enum CopyRefusal {
     NoSuchBucket,
     /// One path is the other, or below it.
     Overlap,
-    /// A file stands at the source.
+    /// The source is a file.
     SourceIsFile,
     /// No key is below the source.
     SourceMissing,
-    /// A file stands at the target or at a path above it: the first one from the root.
+    /// A file is at the target or at a path above it: the first one, from the root down.
     TargetFile(Text),
     /// A key of the source would be too long at its new place: the first such key.
     TooLong(Text),
-    /// A new key stands with other bytes or another header than its source: the least such new key.
+    /// A new key has an object that differs from that of its source, in its bytes or its header:
+    /// the least such new key.
     Differs(Text),
 }
 
-/// How many keys a copy of a tree has copied, and how many stood already.
+/// How many keys a copy of a tree has copied, and how many existed already.
 #[derive(Clone, Copy, PartialEq, Eq)]
 pub struct CopyCount {
     pub copied: u64,

@@ -1,10 +1,11 @@
-//! The tree of files and directories that a bucket's objects are, and what each file operation answers and
-//! leaves of it, in `specs/`; with a law on listings, and the plain data that operations answer. (Hadoop
-//! FileSystem specification; Hadoop, S3A: directory markers.)
+//! How the objects of a bucket form a tree of files and directories. Its `specs/` say what each
+//! file operation answers, and what it leaves of the tree. Beside them are a law on listings, and
+//! the plain data that operations answer. (Hadoop FileSystem specification; Hadoop, S3A: directory
+//! markers.)
 //!
 //! # What is proved
 //!
-//! `listings`: Where objects stand at keys alone, each entry of a listing is a child (`list`).
+//! `listings`: if every object has a valid key, each entry of a listing is a child (`list`).
 #![tactic(auto)]
 
 ghost use Rattle.fs_tree.specs.Changes.{ListChildren};

@@ -1,11 +1,11 @@
 use s3_types::{Key, Sequence};
 
-/// What a marker is to the tree. (Hadoop, S3A: directory markers, the marker tool.)
+/// The kind of a marker. (Hadoop, S3A: directory markers, the marker tool.)
 #[derive(Clone, Copy, PartialEq, Eq)]
 pub enum MarkerKind {
-    /// It has no bytes, and another key begins with it: the directory stands without it.
+    /// It has no bytes, and another key begins with it: the directory exists without it.
     Surplus,
-    /// It has no bytes, and no other key begins with it: it is an empty directory.
+    /// It has no bytes, and no other key begins with it: the directory is empty.
     Leaf,
     /// It has bytes.
     Odd,

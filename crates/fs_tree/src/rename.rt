@@ -1,21 +1,21 @@
 use s3_types::Text;
 
-/// Why a renaming is refused. A refused renaming changes nothing.
+/// Why a rename is refused. A refused rename changes nothing.
 #[derive(Drop)]
 pub enum RenameRefusal {
-    /// Nothing stands at the source.
+    /// Nothing is at the source.
     SourceMissing,
-    /// The source is a bucket's root.
+    /// The source is the root of a bucket.
     SourceRoot,
     /// The target is the source, or below it.
     UnderSource,
-    /// A file stands at the target, or at the place inside the directory that stands there.
+    /// A file is at the target, or, if the target is a directory, at the new place inside it.
     TargetFile,
-    /// A directory stands at the place inside the directory that stands at the target.
+    /// The target is a directory, and the new place inside it is a directory too.
     TargetExists,
-    /// Nothing stands at the path above the target.
+    /// Nothing is at the path above the target.
     ParentMissing,
-    /// A file stands at the path above the target.
+    /// The path above the target is a file.
     ParentIsFile,
     /// The source and the target are in two buckets.
     OtherBucket,

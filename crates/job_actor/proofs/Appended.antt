@@ -1,4 +1,4 @@
--- One entry more.
+-- A journal with one more entry.
 use Rattle.std.proofs.Common.{◌≡◌, List, [], ◌∷◌, ◌++◌, ap, ◌∙◌}
 
 pub put_on : {X : Type 0} (old mid new : List X) (e : X) → new ≡ mid ++ e ∷ [] → mid ≡ old → new ≡ old ++ e ∷ []

@@ -1,4 +1,4 @@
--- That the picks which the job's commit keeps are those that are seen, after each of its sendings.
+-- The picks that the job's commit has are those that the journal shows, after each of its sends.
 use Rattle.basics.proofs.Members.{none_some, same_or_not, some_is}
 use Rattle.job_actor.proofs.Tallies.{below_more, below_same}
 use Rattle.job_actor.proofs.Unread.{Free, FreeAt, left, next, next_here, next_other, reads_so, unread}
@@ -42,14 +42,14 @@ use Rattle.std.proofs.Common.{List, None, Option, Some, ap, arith, false, inl, i
 use Rattle.std.proofs.Common.{◌++◌, ◌<◌, ◌^◌, ◌∙◌, ◌∷◌, ◌≡◌, ◌≤◌}
 use Rattle.std.specs.Option.{is_some}
 
--- ---- the picks that a commit keeps
+-- ---- the picks that a commit has
 
--- with those of a set that was read, if it was
+-- The picks, with the one of a set that was read, if one was.
 abbrev pub with_read : List Pick → Option PendingSet → List Pick
 with_read ps (Some h) = ps ++ record { task = length ps; attempt = h.attempt } ∷ []
 with_read ps None = ps
 
--- after a sending
+-- The picks after a send.
 abbrev pub picks_then : List Pick → Commit → Outcome → List Pick
 picks_then ps (Fetching sets n) (Answered x) = with_read ps (set_read x)
 picks_then ps c o = ps
@@ -73,7 +73,7 @@ module _ (w : Script) (minimum : ℕ) (j : IsLegal w) (k : Times) (s : Seen) (m 
     other : (t : ℕ) → t < w.tasks → (t ≡ length sets → ⊥) → now t ≡ s.picks t
     other = next_other w j s (is_picking k s.begun n) begun (length sets) low
 
-    -- nothing was read, and nothing is picked
+    -- Nothing was read, and nothing is picked.
     none_read : s.last (length sets) ≡ None → ps ≡ picks_below now w.tasks
     none_read none = are ∙ below_same s.picks now w.tasks (λ t l. sym (at t l))
       where
@@ -97,7 +97,7 @@ module _ (w : Script) (minimum : ℕ) (j : IsLegal w) (k : Times) (s : Seen) (m 
       | inr y ↦ ap (with_read ps) y.1 ∙ one_read y.0 y.2
     ]
 
-  -- ---- what reads no set
+  -- ---- requests that read no set
 
   unread_so : (r : Request) (x : Reply) → ((t : ℕ) → is_reading w t r ≡ false)
       → ps ≡ picks_below (see w k s (driver_entry n r (Answered x))).picks w.tasks

@@ -1,4 +1,4 @@
--- That the driver's commit is at work exactly where it was begun last, and that nothing is picked before it.
+-- The driver runs the job's commit exactly if it began that last, and nothing is picked before it.
 use Rattle.basics.proofs.Members.{none_some}
 use Rattle.job_actor.specs.Picks.{ArePicksOf, PicksGo, is_committing, is_job_commit}
 use Rattle.job_facts.specs.Told.{Told}
@@ -36,7 +36,7 @@ use Rattle.std.proofs.lemmas.Bool.{false≢true}
 
 -- ---- what the driver began last
 
--- it is at the job's commit exactly where it began that last, and between events nothing goes on
+-- The driver is in the job's commit exactly if it began that last, and between two events no operation is in progress.
 record Doing (x : Play) : Type 0 where
   same : is_committing (x.running Driver) ≡ is_commit (x.live.doing Driver)
   rest : x.now ≡ None → x.live.doing ≡ x.past.doing
@@ -55,7 +55,7 @@ module _ (g : Setting) where
   opened x (Start Driver op) h = began op (knows_now g x Driver) (x.past.events + 1) (reports g.script x.past.reported)
   opened x _ h = h
 
-  -- an outcome leads an operation to one of the same kind
+  -- After an outcome, an operation is of the same kind.
   told_commit : (op : Operation) (o : Outcome) → is_job_commit (tells g (who Driver) op o) ≡ is_job_commit op
   told_commit (TheCheck t) o = after_check_so g (λ op. is_job_commit op ≡ true) refl (λ u. refl)
       (step g.script.retries (check_after g.script) t o)
@@ -87,7 +87,7 @@ module _ (g : Setting) (opening : Content) where
 
 -- ---- before the commit
 
--- where the event that begins it is not refused the driver is at a stage in which it may
+-- If the event that begins the commit is not refused, the driver is in a stage in which it may begin it.
 may_commit : (st : Actor → ActorState) (ev : Event) → begins_commit ev ≡ true → refusal st ev ≡ None
     → driver_may Commit (st Driver).stage ≡ true
 may_commit st (Do Driver Commit) b r = (begins_so (st Driver).stage Driver Commit (st Driver).life (st Driver).stage r).may_begin
@@ -99,7 +99,7 @@ none_below p h zero = refl
 none_below p h (suc n) = ap (λ l. l ++ picked n (p n)) (none_below p h n) ∙ ap (picked n) (h n)
 
 module _ (g : Setting) (opening : Content) (j : IsLegal g.script) (is_opening : IsOpening g opening) where
-  -- right after its set-up nothing is picked
+  -- Right after the set-up nothing is picked.
   pub unpicked : (d : Option Operation) (s : Seen) (m : Told) → is_just_set d ≡ true → At g opening d s m → (t : ℕ) → s.picks t ≡ None
   unpicked (Some (TheSetup v)) s m e h t = h.1.unpicked t
   unpicked _ s m e h t = absurd (false≢true e)

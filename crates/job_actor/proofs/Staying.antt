@@ -1,4 +1,4 @@
--- The picks of a run stay while nobody sends who picks.
+-- The picks of a run stay while no operation sends that picks.
 use Rattle.job_actor.specs.Picks.{ArePicksOf, LeavesPicks}
 use Rattle.job_model.specs.JobScript.{Script}
 use Rattle.job_model.specs.declared.ends.EventEnd.{EventEnd}
@@ -19,7 +19,7 @@ all_of : (w : Script) (k : Times) (opening : Content) (es : List Entry)
     → seen w k opening es (length es) ≡ see_all w k (nothing_seen opening) es
 all_of w k opening es = ap (see_all w k (nothing_seen opening)) (take_whole es)
 
--- an entry that leaves what is seen of the picks leaves those of the run
+-- An entry that changes no pick in what the journal shows changes no pick of the run.
 pub picks_stay : (w : Script) (opening : Content) (es : List Entry) (e : Entry) (xs : List EventEnd)
     → ((s : Seen) → (see w (times w xs) s e).picks ≡ s.picks) → all_picks w opening (es ++ e ∷ []) xs ≡ all_picks w opening es xs
 picks_stay w opening es e xs stays =

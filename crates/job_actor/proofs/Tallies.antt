@@ -1,4 +1,4 @@
--- The picks of a report, as one more set is read.
+-- The list of picks, as one more set is read.
 use Rattle.job_model.specs.declared.ends.Pick.{Pick}
 use Rattle.job_protocol.specs.Outputs.{Picks}
 use Rattle.job_spec.specs.Promise.{picked, picks_below}
@@ -12,7 +12,7 @@ below_same p q zero h = refl
 below_same p q (suc n) h = ap (λ l. l ++ picked n (p n)) (below_same p q n (λ t l. h t (omega arith))) ∙ ap
     (λ o. picks_below q n ++ picked n o) (h n (omega arith))
 
--- tasks of which none is picked add nothing
+-- Tasks without a pick add nothing.
 pub below_none : (p : Picks) (n high : ℕ) → n ≤ high → ((t : ℕ) → n ≤ t → t < high → p t ≡ None) → picks_below p high ≡ picks_below p n
 below_none p n zero l h = let e : zero ≡ n = omega arith in ap (picks_below p) e
 below_none p n (suc high) l h = elim (here n high l) [
@@ -27,7 +27,7 @@ below_none p n (suc high) l h = elim (here n high l) [
     here (suc a) zero l = inr (omega arith)
     here (suc a) (suc b) l = elim (here a b (omega arith)) [ inl k ↦ inl (omega arith) | inr e ↦ inr (omega arith) ]
 
--- where each task has a pick there are as many
+-- If each task has a pick, there are as many picks as tasks.
 pub below_all : (p : Picks) (n : ℕ) → ((t : ℕ) → t < n → is_some (p t) ≡ true) → length (picks_below p n) ≡ n
 below_all p zero h = refl
 below_all p (suc n) h =
@@ -40,7 +40,7 @@ below_all p (suc n) h =
     one (Some a) e = refl
     one None e = absurd cc
 
--- one more pick is the last one
+-- One more pick is the last one.
 pub below_more : (p q : Picks) (n high a : ℕ) → n < high → ((t : ℕ) → t < n → is_some (p t) ≡ true)
     → ((t : ℕ) → n ≤ t → t < high → p t ≡ None) → ((t : ℕ) → t < high → (t ≡ n → ⊥) → q t ≡ p t) → q n ≡ Some a
     → picks_below p high ++ record { task = length (picks_below p high); attempt = a } ∷ [] ≡ picks_below q high

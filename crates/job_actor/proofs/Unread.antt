@@ -1,4 +1,4 @@
--- While the job's commit reads, nothing is picked of the tasks whose sets it has yet to read.
+-- While the job's commit reads, the tasks whose sets it has yet to read have no pick.
 use Rattle.basics.proofs.Members.{none_or_some, none_some, same_or_not, some_is}
 use Rattle.basics.proofs.Options.{both_hold}
 use Rattle.job_actor.proofs.Picking.{unpicked}
@@ -46,9 +46,9 @@ use Rattle.s3_types.specs.declared.request.Request.{Request}
 use Rattle.std.proofs.Common.{Bool, List, None, Option, Some, ap, arith, cond, false, inl, inr, length, length-append, nat_lt, refl, subst}
 use Rattle.std.proofs.Common.{sym, true, ℕ, [], ◌&&◌, ◌++◌, ◌<◌, ◌^◌, ◌∙◌, ◌∷◌, ◌≡◌, ◌≤◌, ◌⊎◌}
 
--- ---- what is read of a task
+-- ---- what a read of a task's set brings
 
--- nothing, of a task that none has published, or the set of its last publisher
+-- Nothing, if none has published the task; else the set of its last publisher.
 abbrev pub ReadSo : Option PendingSet → Option ℕ → Type 0
 ReadSo read latest = ((read ≡ None) × (latest ≡ None)) ⊎ ((h : PendingSet) × (read ≡ Some h) × (latest ≡ Some h.attempt))
 
@@ -82,7 +82,7 @@ pub left : (b c : Bool) (x y : Option ℕ) → c ≡ false → cond (b && c) x y
 left true c x y h = ap (λ d. cond d x y) h
 left false c x y h = refl
 
--- the picks after the read's answer, by the task
+-- The picks after the answer to the read, by the task.
 module _ (w : Script) (j : IsLegal w) (s : Seen) (begun : Bool) (has_begun : begun ≡ true) (t : ℕ) (low : t < w.tasks) where
   abbrev pub next : Picks
   next = picks_by w begun s.last s.picks (set_request w.committer w t)
@@ -93,7 +93,7 @@ module _ (w : Script) (j : IsLegal w) (s : Seen) (begun : Bool) (has_begun : beg
   pub next_other : (u : ℕ) → u < w.tasks → (u ≡ t → ⊥) → next u ≡ s.picks u
   next_other u l ne = left begun _ (s.last u) (s.picks u) (reads_other j u t l low ne)
 
--- ---- nothing is picked of what is to be read
+-- ---- a task whose set is yet to be read has no pick
 
 abbrev pub Free : Script → Picks → Commit → Type 0
 Free w p (Fetching sets n) = (t : ℕ) → length sets ≤ t → t < w.tasks → p t ≡ None
@@ -197,7 +197,7 @@ module _ (w : Script) (minimum : ℕ) (j : IsLegal w) (k : Times) (s : Seen) (m 
   free_next c low free r e Slow honest = free_missed w s.picks c false free
   free_next c low free r e _ honest = free_missed w s.picks c true free
 
--- an attempt picks nothing
+-- An attempt picks nothing.
 pub attempt_picks : (w : Script) (k : Times) (s : Seen) (a : Who) (n : ℕ) (r : Request) (o : Outcome)
     → (see w k s (entry a n r o)).picks ≡ s.picks
 attempt_picks w k s a n r (Answered x) = refl

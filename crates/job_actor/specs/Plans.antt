@@ -8,7 +8,7 @@ use Rattle.s3_types.specs.declared.request.Actor.{Actor}
 use Rattle.s3_types.specs.declared.request.Actor.TheVariants.{Attempt, Driver}
 use Rattle.std.specs.Prelude.{◌≡◌}
 
--- the script gives this actor, who knows this, the plan
+-- The script gives this plan to this actor, who knows k.
 abbrev pub IsPlanOf : Setting → Actor → Known → Plan → Type 0
 IsPlanOf g Driver k (Job j) = j ≡ job_of g.script
 IsPlanOf g (Attempt t a) k (Task p) = p ≡ task_of g.script g.minimum (who (Attempt t a)) k

@@ -1,4 +1,4 @@
--- One sending of the request that an actor asks.
+-- One send of the request that an operation asks.
 use Rattle.job_actor.specs.Acts.{EndsWanting}
 use Rattle.job_actor.specs.declared.posting.Posted.{Posted}
 use Rattle.job_actor.specs.declared.posting.Posted.TheVariants.{Broken, Heard, Unsent}
@@ -14,24 +14,24 @@ use Rattle.s3_types.specs.declared.request.Actor.{Actor}
 use Rattle.s3_types.specs.declared.request.Request.{Request}
 use Rattle.std.specs.Prelude.{List, Option, Some, ℕ, [], ◌++◌, ◌+◌, ◌∷◌, ◌≡◌}
 
--- what is seen of a run: the scene, how many requests were made, what becomes of those to come as far as it is told beforehand, and the
--- entries
+-- What is visible of a run: the scene, the number of requests so far, the fates of those to come as far as they are known in advance, and
+-- the entries.
 pub record Sight : Type 0 where
   pub scene : Scene
   pub requests : ℕ
   pub told : ℕ → Option Fate
   pub entries : List Entry
 
--- what is seen of a run, of its parts
+-- What is visible of a run, from its parts.
 abbrev pub sight : Scene → ℕ → (ℕ → Option Fate) → List Entry → Sight
 sight scene requests told entries = record { scene = scene; requests = requests; told = told; entries = entries }
 
--- each outcome that a sending of its request may have here fits
+-- The operation accepts each outcome that a send of its request may have in this scene.
 abbrev pub DueFits : {A : Type 0} → (A → Option Request) → (A → Outcome → Type 0) → A → Scene → Type 0
 DueFits wants fits a s = (r : Request) (o : Outcome) → wants a ≡ Some r → IsHonestOutcome o (answer s r) → fits a o
 
--- one entry was appended, by this actor in this event: of the request that was asked, honest, and with the outcome that was told
--- beforehand, where one was
+-- One entry was appended, by this actor in this event, for the asked request. Its outcome is honest, and is the one that was named in
+-- advance, if one was.
 pub record Grew (asked : Option Request) (actor : Actor) (event : ℕ) (c d : Sight) : Type 0 where
   pub request : Request
   pub outcome : Outcome
@@ -42,26 +42,26 @@ pub record Grew (asked : Option Request) (actor : Actor) (event : ℕ) (c d : Si
   pub scene : d.scene ≡ effect c.scene request outcome
   pub count : d.requests ≡ c.requests + 1
 
--- nothing was sent, and the actor is at what it was at
+-- Nothing was sent, and the operation has not changed.
 pub record NotSent {A : Type 0} (a b : A) (c d : Sight) : Type 0 where
   pub act : b ≡ a
   pub entries : d.entries ≡ c.entries
   pub scene : d.scene ≡ c.scene
   pub count : d.requests ≡ c.requests
 
--- it was sent, and the actor found no memory when it was told
+-- The request was sent, and memory ran out when the operation received the outcome.
 pub record SentBroken {A : Type 0} (wants : A → Option Request) (end_of : A → Option OpEnd) (actor : Actor) (event : ℕ) (a b : A)
     (c d : Sight) : Type 0 where
   pub grew : Grew (wants a) actor event c d
   pub over : EndsWanting (wants b) (end_of b)
 
--- it was sent, and the actor was told the outcome of its entry
+-- The request was sent, and the operation received the outcome of its entry.
 pub record SentHeard {A : Type 0} (wants : A → Option Request) (tells : A → Outcome → A) (actor : Actor) (event : ℕ) (a b : A)
     (c d : Sight) : Type 0 where
   pub grew : Grew (wants a) actor event c d
   pub told : b ≡ tells a grew.outcome
 
--- what one sending has done, by how it went
+-- What one send has done, by what became of it.
 abbrev pub PostedBy : {A : Type 0} → (A → Option Request) → (A → Outcome → A) → (A → Option OpEnd) → Actor → ℕ → A → A → Sight → Sight
     → Posted → Type 0
 PostedBy wants tells end_of actor event a b c d Unsent = NotSent a b c d

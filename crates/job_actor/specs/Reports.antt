@@ -13,15 +13,15 @@ use Rattle.std.specs.Prelude.{List, Some, is_some, ℕ, ◌≡◌}
 use Rattle.job_model.specs.declared.events.Op.TheVariants as ops
 use Rattle.job_protocol.specs.Conflicts as conflicts
 
--- the partitions of the files of attempts
+-- The partitions of the files of these attempts.
 abbrev pub report_dirs : Script → List Who → List (List ℕ)
 report_dirs w attempts = conflicts.partitions (paths_of (files_of_all w attempts))
 
--- it tells these reports, where the actor begins this operation: only a driver's commit asks for partitions
+-- The report agrees with what the driver knows when the actor begins this operation. Only the job's commit needs the partitions.
 pub record IsReport (g : Setting) (a : Actor) (op : Op) (x : Reported) (r : Reports) : Type 0 where
-  -- the least task that is missing
+  -- The lowest task that is missing is the same.
   pub missing : least_missing g.script.tasks x.tasks ≡ r.missing
-  -- it has partitions where another job shares the destination
+  -- The report has partitions exactly if another job shares the destination.
   pub shared : is_some x.partitions ≡ g.shared
-  -- and these are those of the attempts that reported their commit
+  -- For the job's commit these are the partitions of the attempts that reported their commit.
   pub partitions : (ds : List (List ℕ)) → a ≡ Driver → op ≡ ops.Commit → x.partitions ≡ Some ds → ds ≡ report_dirs g.script r.attempts

@@ -1,20 +1,23 @@
-//! What an actor of a job is at: told the outcome of each of its sendings; one such sending, with its entry in a journal;
-//! and what its operations owe to a run in which they stand: that they do what the job's script says, and that whatever
-//! is due to them fits.
+//! The operation that an actor of a job is running. It asks one request after another and learns
+//! the outcome of each send. The crate has one such send with its entry in the journal, and what
+//! operations owe to a run: they do what the job's script says, and each outcome that is due fits
+//! them.
 //!
 //! # What is proved
 //!
-//! `post`: For everything that keeps the laws of what an actor is at and every store: the asked request is sent once. Its
-//! place in the journal is taken before, and the one entry appended has this actor and event, that request, and an
-//! outcome that is honest and foretold; then the actor is told it (`posted`). Where memory is wanting before the sending
-//! all is as before; where the actor finds none the entry stands, and it is over. The store's counts go with the entries
-//! (`counts`).
-//! trait `Works`: What begins is the operation as the script begins it by what is reported of the tasks (`IsReport`),
-//! whether or not another job shares the destination. In every run of a legal script the operations of its actors ask
-//! and go on as the script says, each outcome that is due fits them, no request of another actor raises what an attempt
-//! has left, an attempt's raises the driver's by no more than a number that the script gives, and the job's commit has
-//! picked what is seen (`WorkLaws`).
-//! `picks_go`: When a job's commit is what the driver is at, and that nothing is picked before it.
+//! - `post` sends the asked request once, for every operation that keeps the laws of `Acts` and for
+//!   every store. It takes the entry's place in the journal before it sends. The one entry that it
+//!   appends has this actor and event, the asked request, and an outcome that is honest and
+//!   foretold. Then it tells the operation the outcome (`posted`). If memory runs out before the
+//!   send, nothing has changed. If it runs out in the operation when that receives the outcome, the
+//!   entry stays and the operation has ended. The store's counts go with the entries (`counts`).
+//! - The trait `Works` has the laws of operations. An operation begins as the script begins it, by
+//!   the tasks that are reported (`IsReport`), whether or not another job shares the destination.
+//!   In every run of a legal script the operations of its actors ask and go on as the script says,
+//!   and each outcome that is due fits them. No request of another actor raises what an attempt has
+//!   left to send. An attempt's request raises what the driver has left by at most a number that
+//!   the script gives. The job's commit has picked what the journal shows (`WorkLaws`).
+//! - `picks_go`: when the driver is running the job's commit, and that nothing is picked before it.
 #![tactic(auto)]
 
 mod acts;

@@ -1,6 +1,7 @@
 use job_model::{JobPlan, TaskPlan};
 
-/// What an actor goes by while it is at nothing: the driver the job's plan, an attempt its own.
+/// What an idle actor keeps for its next operation: the driver the plan of the job, an attempt its
+/// own plan.
 #[derive(Drop)]
 pub enum Plan {
     Job(JobPlan),

@@ -7,19 +7,19 @@ use machine::write_down;
 use s3_types::{Actor, Journal, ObjectStore, Request, let_go};
 use std::alloc::Global;
 
-/// What became of a sending.
+/// What became of one send.
 #[derive(Clone, Copy, PartialEq, Eq)]
 pub enum Posted {
-    /// Memory was wanting before it: nothing was sent, and all is as before.
+    /// Memory ran out before the send: nothing was sent, and nothing has changed.
     Unsent,
-    /// It was sent, and its entry stands; memory was wanting when the actor was told, so that its operation is
-    /// over.
+    /// The request was sent and its entry is in the journal. Memory ran out when the operation
+    /// received the outcome, so the operation has ended.
     Broken,
-    /// It was sent, its entry stands, and the actor was told.
+    /// The request was sent, its entry is in the journal, and the operation received the outcome.
     Heard,
 }
 
-/// The request that is asked, which shares its bytes; or none where memory is wanting.
+/// A copy of the asked request, which shares its bytes, or None if memory runs out.
 fn asked<A: Acts>(alloc: Global, act: &A) -> Option<Request>
     requires { IsSome (A.wants act.now) }
     ensures { IfSome result (λ request. A.wants act.now ≡ Some request) }
@@ -30,8 +30,8 @@ fn asked<A: Acts>(alloc: Global, act: &A) -> Option<Request>
     }
 }
 
-/// Sends the request that an actor asks once, appends its entry, whose place is taken before the sending, and
-/// tells the actor of the outcome. Each outcome that the store may give fits.
+/// Sends the asked request once, appends its entry, and tells the operation the outcome. It takes
+/// the entry's place before it sends. The operation accepts each outcome that the store may give.
 pub fn post<A: Acts, S: ObjectStore>(
     alloc: Global,
     store: &mut S,

@@ -15,23 +15,24 @@ use job_model::{Op, PickList};
 use s3_types::Actor;
 use std::alloc::{AllocError, Global};
 
-/// The operations of a job's actors, each made from the plan that its actor goes by.
+/// The operations of a job's actors, each made from the plan of its actor.
 pub trait Works: Acts {
-    /// It goes by the plan of this actor of a job.
+    /// The operation follows the plan of this actor of a job.
     ghost is_of: { Setting → Actor → Self → Type 0 };
 
-    /// The operation with what its attempt knows; of the driver, of whose knowledge nothing is asked, that is as
-    /// given.
+    /// The operation with what its attempt knows. The driver's operations need no knowledge, so for
+    /// these it is the one given.
     ghost running: { Known → Self → Running };
 
-    /// By at most so many a request of an attempt raises what the driver's operation has left.
+    /// An upper bound on how much a request of an attempt raises what the driver's operation has
+    /// left.
     ghost rise: { Script → ℕ };
 
-    /// The attempts whose sets a job's commit has read, by task; no other operation has them.
+    /// The attempts whose sets a job's commit has read, by task; None for any other operation.
     ghost picks_of: { Self → Option (List Pick) };
 
-    /// Begins an operation of this actor, where this is reported. After want of memory the plan is lost, with the
-    /// actor.
+    /// Begins an operation of this actor, with this report of the tasks. Fails with AllocError if
+    /// memory runs out; then the plan is lost, and so is the actor.
     fn begin(
         alloc: Global,
         plan: Plan,
@@ -43,20 +44,22 @@ pub trait Works: Acts {
             → IsPlanOf g actor k plan → HasOp actor op
             → IfOk result (λ work. Starts is_of running picks_of g actor op r k work) };
 
-    /// Gives the plan back, with what its attempt knows as the operation leaves it. Takes no memory.
+    /// Gives the plan back, with what its attempt knows after the operation. Takes no memory.
     fn into_plan(self) -> Plan
         ensures { (g : Setting) (a : Actor) (k : Known) → is_of g a self → Self.wants self ≡ None
             → IsPlanOf g a (running k self).known result };
 
-    /// The attempts whose sets a job's commit has read; of any other operation None. Takes no memory.
+    /// The attempts whose sets a job's commit has read, by task; None for any other operation.
+    /// Takes no memory.
     fn picks(&self) -> Option<&PickList>
         ensures { option_copied result ≡ picks_of self.now };
 
-    /// Gives them. Takes no memory.
+    /// Moves out the attempts whose sets a job's commit has read, as `picks` shows them. Takes no
+    /// memory.
     fn into_picks(self) -> Option<PickList>
         ensures { result ≡ picks_of self };
 
-    /// What holds of them in every run of a legal script. Does nothing.
+    /// Proves what holds of the operations in every run of a legal script. Does nothing.
     fn laws()
         ensures { WorkLaws Self.wants Self.tells Self.fits Self.end_of Self.left is_of running rise picks_of };
 }

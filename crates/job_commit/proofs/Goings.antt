@@ -1,4 +1,4 @@
--- where outcomes lead
+-- A commit after an outcome.
 use Rattle.basics.proofs.Naturals.{below_so, not_below}
 use Rattle.commit_laws.proofs.CommitEnds.{read_more}
 use Rattle.commit_laws.specs.Fitting.{SpellsSet, missed_of}
@@ -75,7 +75,7 @@ pub picks_more_hold : (j : Job) (sets sets' : Sets) (picks picks' : List Pick) (
 picks_more_hold j sets sets' picks picks' s t a e f g reads held =
     picks_hold_more j sets sets' picks picks' s a e (g ∙ ap (λ v. picks ++ record { task = v; attempt = a } ∷ []) f) reads.more held
 
--- the same, where the places may have become known
+-- The same if the places may have become known.
 pub picks_of_more : (b : Basis) (sets : Sets) (b' : Basis) (picks picks' : List Pick) (s : PendingSet) (t a : ℕ) → sets ≡ b.sets ++ s ∷ []
     → b' ≡ record b { sets = sets; places = b'.places } → t ≡ length picks → picks' ≡ picks ++ record { task = t; attempt = a } ∷ []
     → Reads b.plan b.sets → PicksHold b.plan b.sets picks → PicksHold b'.plan b'.sets picks'
@@ -83,16 +83,16 @@ picks_of_more b sets b' picks picks' s t a e i f g reads held = let P : Basis
     → Type 0 = λ v. PicksHold v.plan v.sets picks' in subst P (sym i) (picks_more_hold b.plan b.sets sets picks picks' s t a e f g reads
     held)
 
--- one more sending got no answer
+-- The commit after one more send without an answer.
 abbrev pub missed_at : Job → Commit → Bool → Commit
 missed_at j c lost = commit_misses (read_script j (sets_in c)) c lost
 
 if_so : {b : Bool} (c d : Commit) → b ≡ true → c ≡ cond b c d
 if_so {b = b} c d e = let P : Bool → Type 0 = λ v. c ≡ cond v c d in subst P (sym e) refl
 
--- ---- what is sent again
+-- ---- requests that are sent again
 
--- the count of the step is the operation's
+-- The count of the step is that of the operation.
 pub missed_same : (j : Job) (sets : Sets) (places : List Place) (step : Step) → StepHolds j sets places step
     → missed_in step ≡ missed_of (operation_of sets step)
 missed_same j sets places (steps.Replacing d m) s = some_so (λ ps. m ≡ missed_of (replacing_at sets m d.sweep ps)) (λ p ps. refl) d.prefixes
@@ -152,13 +152,13 @@ counted_asks j sets places (steps.Reverting u m) absent s =
     some_so (λ u. asks j (reverting_from m (map all u)) ≡ asks j (reverting_from (m + 1) (map all u))) (λ x xs. refl) u (s.some u m refl)
 counted_asks j sets places _ absent s = refl
 
--- the count fits
+-- The count fits its type.
 pub count_fits : (j : Job) (sets : Sets) (places : List Place) (old step : Step) (n : ℕ) → step ≡ old → StepHolds j sets places old
     → missed_of (operation_of sets old) < j.retries → n ≡ j.retries → n ≤ 9 → missed_in step + 1 < 2 ^ 32
 count_fits j sets places old step n is s h e k = let f : missed_in step ≡ missed_of (operation_of sets old) = ap missed_in is ∙ missed_same
     j sets places old s in omega arith
 
--- any other request stays, and is counted
+-- Any other request stays, and is counted.
 pub again_counted : (j : Job) (sets : Sets) (places : List Place) (old step last : Step) (lost : Bool) (asked : Option Request) → step ≡ old
     → ((l : LaneTable) → step ≡ steps.Completing l → ⊥) → StepHolds j sets places old → missed_of (operation_of sets old) < j.retries
     → asked ≡ asks j (operation_of sets old) → last ≡ counted step
@@ -174,7 +174,7 @@ again_counted j sets places old step last lost asked is absent s h e f =
           counted_holds j sets places old absent' s;
     })
 
--- ---- a request of a deletion wore out
+-- ---- a request of a deletion exhausted its retries
 
 if_not : {b : Bool} (c d : Commit) → b ≡ false → d ≡ cond b c d
 if_not {b = b} c d e = let P : Bool → Type 0 = λ v. d ≡ cond v c d in subst P (sym e) refl

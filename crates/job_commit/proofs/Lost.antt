@@ -1,4 +1,4 @@
--- Whether a sending of the present completion was lost, by what the machine keeps.
+-- Whether a send of the current completion was lost, by the data that the machine keeps.
 use Rattle.commit_parts.specs.Undos.{undo_request}
 use Rattle.job_commit.specs.Holds.{attempts_of}
 use Rattle.job_commit.specs.Stages.{first_lost, lost_in, operation_of, replacing_at, reverting_from}

@@ -1,4 +1,4 @@
--- the first number that passes a test
+-- The first number that passes a test.
 use Rattle.job_protocol.specs.Outputs.{first_where}
 use Rattle.std.proofs.Common.{Bool, None, Some, ap, arith, cond, false, inl, inr, not, refl, suc, true, zero, ℕ, ◌+◌, ◌<◌, ◌∙◌, ◌≡◌, ◌≤◌}
 use Rattle.std.proofs.Common.{◌⊎◌}
@@ -20,7 +20,7 @@ none_from test b zero h = refl
 none_from test b (suc n) h = ap (λ v. cond v (Some b) (first_where test (b + 1) n)) (h b (omega arith) (omega arith)) ∙ none_from test
     (b + 1) n (λ k i j. h k (omega arith) (omega arith))
 
--- the first one that fails a test
+-- The first number that fails a test.
 pub first_that_fails : (test : ℕ → Bool) (n t : ℕ) → t < n → ((k : ℕ) → k < t → test k ≡ true) → test t ≡ false
     → first_where (λ k. not (test k)) 0 n ≡ Some t
 first_that_fails test n t high before at = found_from (λ k. not (test k)) 0 n t (omega arith) (omega arith) (λ k i j. ap not (before k j))

@@ -1,4 +1,4 @@
--- what is done next
+-- The next step of a commit.
 use Rattle.basics.proofs.Members.{some_is}
 use Rattle.basics.proofs.Naturals.{below_is, below_so}
 use Rattle.commit_laws.specs.Fitting.{FitsReply}
@@ -51,12 +51,12 @@ use Rattle.std.specs.Prelude.{⊤}
 use Rattle.job_model.specs.declared.ends.CommitEnd.TheVariants as ends
 use Rattle.job_commit.specs.declared.step.Step.TheVariants as steps
 
--- what holds of each list with a first item holds of one that is not empty
+-- A fact about each list with a first item holds for each list that is not empty.
 pub some_so : {X : Type 0} (P : List X → Type 0) → ((x : X) (xs : List X) → P (x ∷ xs)) → (xs : List X) → (xs ≡ [] → ⊥) → P xs
 some_so P h [] some = absurd (some refl)
 some_so P h (x ∷ xs) some = h x xs
 
--- ---- what each stage keeps
+-- ---- the facts that each stage keeps
 
 pub holds_fetching : (j : Job) (sets : Sets) (places : List Place) (m : ℕ) → Reads j sets → StepHolds j sets places (steps.Fetching m)
 holds_fetching j sets places m h = record {
@@ -123,7 +123,7 @@ holds_over j sets places end = record {
   some = λ u k e. absurd (cc);
 }
 
--- an operation that is the same
+-- The same operation in another form.
 pub next_same : {j : Job} {sets : Sets} {places : List Place} {next : Next} (c d : Commit) → c ≡ d → IsNext j sets places c next
     → IsNext j sets places d next
 next_same {j = j} {sets = sets} {places = places} {next = next} c d e h = let P : Commit
@@ -131,7 +131,7 @@ next_same {j = j} {sets = sets} {places = places} {next = next} c d e h = let P 
 
 -- ---- completing
 
--- the turn that is next is within
+-- The number of the turn that is next is that of an upload.
 pub first_within : (sets : Sets) (xs : List Turn) (done : List ℕ) (x : Turn) → LanesWithin sets (record { turns = xs; finished = done })
     → first_of xs ≡ Some x → x.number < length (all_commits sets)
 first_within sets [] done x w e = absurd (cc)
@@ -153,7 +153,7 @@ follow_within lanes total n true e y i = elim i [
 ]
 follow_within lanes total n false e y i = absurd i
 
--- after an answer
+-- The lanes after an answer.
 pub answered_lanes : (j : Job) (sets : Sets) (places : List Place) (xs : List Turn) (done : List ℕ) (x : Turn) (l : LaneTable)
     → first_of xs ≡ Some x → places ≡ places_from 0 sets
     → l ≡ record { turns = drop 1 xs ++ listed (next_turn j.lanes (length places) x.number); finished = x.number ∷ done }
@@ -205,9 +205,9 @@ again_within sets (y ∷ ys) done x lost l e is w =
       done = w.done;
     })
 
--- ---- taking back
+-- ---- the revert
 
--- where a completion wore out
+-- The commit after a completion exhausted its retries.
 pub worn_next : (j : Job) (sets : Sets) (places : List Place) (xs : List Turn) (done : List ℕ) (x : Turn) (l : LaneTable) (u : List Undo)
     (next : Next) → first_of xs ≡ Some x → places ≡ places_from 0 sets → l ≡ record { turns = drop 1 xs ++ listed None; finished = done }
     → IsRevert (length places) x.number l.turns l.finished u
@@ -225,13 +225,13 @@ worn_next j sets places (y ∷ ys) done x l u next e p is r h =
     (ap (reverting_from 0) same ∙ (elim (revert (all_commits sets) y.number ys done) as (λ rs. reverting_from 0 rs ≡ reverting rs)
     [ [] ↦ refl | r ∷ rs ↦ refl ])) h
 
--- ---- the stages, with what each call gave
+-- ---- the stages, with the result of each call
 
 pub next_as : {j : Job} {sets : Sets} {places : List Place} {c : Commit} (n m : Next) → m ≡ n → IsNext j sets places c n
     → IsNext j sets places c m
 next_as {j = j} {sets = sets} {places = places} {c = c} n m e h = let P : Next → Type 0 = λ x. IsNext j sets places c x in subst P (sym e) h
 
--- the upload of the lane in turn is there
+-- The number of the lane in turn is that of an upload.
 pub turn_within : (sets : Sets) (l : LaneTable) (x : Turn) (n : ℕ) → LanesWithin sets l → Some x ≡ first_of l.turns → n ≡ x.number
     → n < length (all_commits sets)
 turn_within sets l x n w f e = let b : x.number < length (all_commits sets) = first_within sets l.turns l.finished x w (sym f) in omega
@@ -244,7 +244,7 @@ best_of sets slice best o e f h =
     let B : Option Clash → Type 0 = λ v. IsBest (items_from 0 slice) v in
     subst S e (subst B f h)
 
--- the path that two tasks write
+-- The path that two tasks write.
 pub shared_is : (j : Job) (dest : Path) (sets slice : Sets) (best : Option Clash) (clash : Clash) (path : List ℕ) → AreRead j sets
     → length sets ≡ j.tasks → slice ≡ sets → best ≡ Some clash → IsBest (items_from 0 slice) best → dest ≡ j.dest
     → path ≡ relative_of dest clash.key
@@ -256,7 +256,7 @@ pub none_shared : (j : Job) (sets slice : Sets) (best : Option Clash) → AreRea
     → IsBest (items_from 0 slice) best → None ≡ same_path (read_script j sets) (picks_of sets)
 none_shared j sets slice best each all s b h = same_path_is j sets None each all (best_of sets slice best None s b h)
 
--- the lanes as they are dealt
+-- The numbers of the lanes as they are dealt are those of uploads.
 pub dealt_within : (j : Job) (sets : Sets) (places : List Place) (l : LaneTable) (lanes n : ℕ) → 1 ≤ lanes → lanes ≡ j.lanes
     → n ≡ length places → places ≡ places_from 0 sets → l ≡ record { turns = dealt lanes n; finished = [] } → LanesWithin sets l
 dealt_within j sets places l lanes n some a e p is =
@@ -284,7 +284,7 @@ fetching_yes j sets h = let P : Bool → Type 0 = λ v. Fetching sets 0 ≡ cond
     (decided (read_script j sets) sets (same_path (read_script j sets) (picks_of sets))) in subst P (sym (below_so (length sets) j.tasks h))
     refl
 
--- a set is read
+-- The commit reads a set.
 pub fetching_is : (j : Job) (sets : Sets) (places : List Place) (count t : ℕ) (r : Request) (next : Next) → AreRead j sets
     → count ≡ length sets → t ≡ j.tasks → count < t → r ≡ set_request j.committer (job_script j) count
     → next ≡ record { step = steps.Fetching 0; asked = Some r }
@@ -305,7 +305,7 @@ some_below : (bucket : List ℕ) (sweep : Sweep) (ps : List (List ℕ)) (r : Req
 some_below bucket sweep [] r e f = absurd (cc)
 some_below bucket sweep (p ∷ ps) r e f = absurd (cc)
 
--- it goes on
+-- The deletion goes on.
 pub deleting_next : (j : Job) (sets : Sets) (places : List Place) (d : Deletion) (bucket : List ℕ) (r : Request) (next : Next)
     → HasAll j sets places → d.spared ≡ spared j.dest → bucket ≡ j.dest.bucket → Some r ≡ deletion_asks bucket d
     → next ≡ record { step = steps.Replacing d 0; asked = Some r }
@@ -326,7 +326,7 @@ pub over_below : (j : Job) (sets : Sets) (sweep : Sweep) (bucket : List ℕ) (ps
 over_below j sets sweep bucket [] e = refl
 over_below j sets sweep bucket (p ∷ ps) e = absurd (cc)
 
--- how it begins
+-- The deletion begins.
 pub begins_deleting : (j : Job) (sets : Sets) (d : Deletion) → j.mode ≡ Replace
     → (let w = read_script j sets in d ≡ record {
       prefixes = deleted j.committer j.dest (partitions (wanted_paths w (picks_of sets)));
@@ -345,7 +345,7 @@ pub spared_is : (d : Deletion) (j : Job) (ps : List (List ℕ)) (sweep : Sweep)
     → d ≡ record { prefixes = ps; sweep = sweep; spared = spared j.dest } → d.spared ≡ spared j.dest
 spared_is d j ps sweep e = ap (λ (v : Deletion). v.spared) e
 
--- a mode that keeps all
+-- A mode that keeps all files.
 kept_prefixes : (c : Committer) (m : Mode) (w : Script) (picks : Picks) → (m ≡ Replace → ⊥) → [] ≡ replaced c m w picks
 kept_prefixes Magic m w picks h = refl
 kept_prefixes _ Replace w picks h = absurd (h refl)
@@ -360,7 +360,7 @@ kept_next r j sets places mode next a b h =
     let w = read_script j sets in
     on_ok_weaker r (next_same _ _ (ap (replacing w sets) (kept_prefixes j.committer j.mode w (picks_of sets) (λ e. b (a ∙ e))))) h
 
--- ---- a deletion that hears
+-- ---- a deletion after a reply
 
 still_spared : (d : Deletion) (ps : List (List ℕ)) (r : Reply) → (hears_below d ps r).spared ≡ d.spared
 still_spared d [] r = refl
@@ -370,7 +370,7 @@ still_spared d (p ∷ ps) r = elim (sweep_hears _ d.sweep r) as (λ o. (swept_on
 pub spared_still : (d e : Deletion) (r : Reply) (x : List ℕ) → e ≡ deletion_hears d r → d.spared ≡ x → e.spared ≡ x
 spared_still d e r x f s = ap (λ (v : Deletion). v.spared) f ∙ (still_spared d d.prefixes r ∙ s)
 
--- what fits the commit fits the deletion
+-- A reply that fits the commit fits the deletion.
 pub fits_deletion : (j : Job) (sets : Sets) (m : ℕ) (d : Deletion) (r : Reply) → FitsReply j (replacing_at sets m d.sweep d.prefixes) r
     → FitsDeletion d r
 fits_deletion j sets m d r h =
@@ -378,7 +378,7 @@ fits_deletion j sets m d r h =
     → FitsDeletion (record { prefixes = ps; sweep = d.sweep; spared = d.spared }) r)
     [ [] ↦ λ h. tt | p ∷ ps ↦ λ h. h ]) h
 
--- the commit goes where the deletion does
+-- The commit goes on as the deletion does.
 pub deletion_heard : (j : Job) (sets : Sets) (places : List Place) (m : ℕ) (d : Deletion) (r : Reply) → Deletes j sets places d
     → (let w = read_script j sets in commit_deleting w sets (deletion_hears d r) ≡ commit_hears w (replacing_at sets m d.sweep d.prefixes)
     r)
@@ -389,7 +389,7 @@ deletion_heard j sets places m d r h =
     r)
     (λ p ps. sym (deletions_tell.goes w sets p ps d.sweep m r)) d.prefixes h.some
 
--- what a deletion heard is what the commit heard
+-- A result for the deletion is a result for the commit.
 pub deletion_told : {E : Type 0} (x : Result ⊤ E) (j : Job) (sets : Sets) (places : List Place) (picks : List Pick) (step : Step)
     (d : Deletion) (m : ℕ) (r : Reply) (next : Next) → step ≡ steps.Replacing d m → StepHolds j sets places step
     → OnOk x (IsNext j sets places (commit_deleting (read_script j sets) sets (deletion_hears d r)) next)

@@ -1,4 +1,4 @@
--- lanes after an outcome, with what each call gave
+-- The lanes after an outcome, with the result of each call.
 use Rattle.commit_parts.proofs.Placing.{places_length}
 use Rattle.commit_parts.specs.Places.{places_from}
 use Rattle.commit_parts.specs.Tables.{LaneTable, first_of, listed, next_turn}
@@ -20,7 +20,7 @@ use Rattle.std.specs.Prelude.{⊤}
 
 -- ---- after an answer
 
--- the table, of what was taken out, put behind and marked as done
+-- The table after the turn was taken out, the lane's next turn added at the end, and the upload marked as completed.
 record Answered (j : Job) (sets : Sets) (places : List Place) (old new : LaneTable) : Type 0 where
   turn : Turn
   first : Some turn ≡ first_of old.turns
@@ -63,7 +63,7 @@ answered_next r j sets places l l1 l2 x o n m lanes count next f a b c d e g h p
     let t = answered_table j sets places l l1 l2 x o n m lanes count f a b c d e g h in
     on_ok_weaker r (next_same _ _ (answered_lanes j sets places l.turns l.finished t.turn l2 (sym t.first) p t.is)) k
 
--- ---- after none
+-- ---- after no answer
 
 again_table : (l l1 : LaneTable) (x y : Turn) (lost : Bool) → y ≡ again x lost
     → l1 ≡ record { turns = drop 1 l.turns ++ listed (Some y); finished = l.finished }
@@ -75,7 +75,7 @@ pub again_still : (sets : Sets) (l l1 : LaneTable) (x y : Turn) (lost : Bool) �
     → l1 ≡ record { turns = drop 1 l.turns ++ listed (Some y); finished = l.finished } → LanesWithin sets l → LanesWithin sets l1
 again_still sets l l1 x y lost f e h w = again_within sets l.turns l.finished x lost l1 (sym f) (again_table l l1 x y lost e h) w
 
--- ---- where a completion wore out
+-- ---- after a completion that exhausted its retries
 
 pub done_within : (sets : Sets) (places : List Place) (l l1 : LaneTable) (count : ℕ) → places ≡ places_from 0 sets → count ≡ length places
     → l1 ≡ record { turns = drop 1 l.turns ++ listed None; finished = l.finished } → LanesWithin sets l → (n : ℕ) → In n l1.finished

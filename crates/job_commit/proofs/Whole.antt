@@ -1,4 +1,4 @@
--- the machine as a whole
+-- The machine as a whole.
 use Rattle.commit_laws.specs.Fitting.{missed_of}
 use Rattle.commit_parts.specs.Undos.{undo_request}
 use Rattle.commit_parts.specs.declared.places.Place.{Place}

@@ -1,4 +1,4 @@
--- A commit after a sending that got no answer.
+-- A commit after a send that got no answer.
 use Rattle.job_protocol.specs.AtWork.{Committing, read_script, sets_in}
 use Rattle.job_protocol.specs.JobCommits.{commit_misses}
 use Rattle.std.specs.Prelude.{Bool}

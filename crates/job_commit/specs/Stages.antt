@@ -1,4 +1,4 @@
--- What a job's commit is doing, as the machine keeps it.
+-- The step of a job's commit, as the machine keeps it.
 use Rattle.commit_parts.specs.Tables.{first_missed}
 use Rattle.commit_parts.specs.Undos.{undo_request}
 use Rattle.job_commit.specs.declared.step.Next.{Next}
@@ -14,17 +14,17 @@ use Rattle.job_model.specs.declared.ends.CommitEnd.TheVariants as ends
 use Rattle.job_model.specs.declared.ends.Stage.TheVariants as stages
 use Rattle.job_commit.specs.declared.step.Step.TheVariants as steps
 
--- these requests are left of the revert; the first was sent so often without an answer
+-- The commit that has these requests of the revert left; `m` sends of the first got no answer.
 abbrev pub reverting_from : ℕ → List Request → Commit
 reverting_from m [] = CommitOver (ends.StoreFault stages.Complete)
 reverting_from m (r ∷ rs) = Reverting r rs m
 
--- a deletion that has come so far; below no prefix there is none
+-- The commit whose deletion has these prefixes left, or whose deletion is over.
 abbrev pub replacing_at : Sets → ℕ → Sweep → List (List ℕ) → Commit
 replacing_at sets m sweep [] = completing sets [] []
 replacing_at sets m sweep (p ∷ ps) = Replacing sets p ps sweep m
 
--- the operation, by the sets that were read and what the machine is doing
+-- The operation, by the sets that were read and the machine's step.
 abbrev pub operation_of : Sets → Step → Commit
 operation_of sets (steps.Fetching m) = Fetching sets m
 operation_of sets (steps.Replacing d m) = replacing_at sets m d.sweep d.prefixes
@@ -33,24 +33,24 @@ operation_of sets (steps.Marking m) = Marking sets m
 operation_of sets (steps.Reverting u m) = reverting_from m (map (undo_request (all_commits sets)) u)
 operation_of sets (steps.Over end) = CommitOver end
 
--- ---- where the turn that is next leads: with an answer, without one, and where it wore out
+-- ---- after the completion in turn: answered, not answered, out of retries
 
--- the commit once the completion in turn was answered
+-- The commit after the completion in turn was answered.
 abbrev pub answered : Job → Sets → List Turn → List ℕ → Commit
 answered j sets [] finished = completing sets [] finished
 answered j sets (x ∷ xs) finished = completing sets (xs ++ follow j.lanes (length (all_commits sets)) x.number) (x.number ∷ finished)
 
--- the commit once the completion in turn got no answer
+-- The commit after the completion in turn got no answer.
 abbrev pub unanswered : Sets → Bool → List Turn → List ℕ → Commit
 unanswered sets lost [] finished = completing sets [] finished
 unanswered sets lost (x ∷ xs) finished = completing sets (xs ++ again x lost ∷ []) finished
 
--- the commit once the completion in turn wore out
+-- The commit after the completion in turn exhausted its retries.
 abbrev pub worn_out : Sets → List Turn → List ℕ → Commit
 worn_out sets [] finished = completing sets [] finished
 worn_out sets (x ∷ xs) finished = worn_completion sets x xs finished
 
--- one more sending of a request that stays got no answer
+-- The step after one more send without an answer, of a request that stays. Lanes keep their own counts.
 abbrev pub counted : Step → Step
 counted (steps.Fetching m) = steps.Fetching (m + 1)
 counted (steps.Replacing d m) = steps.Replacing d (m + 1)
@@ -59,7 +59,7 @@ counted (steps.Marking m) = steps.Marking (m + 1)
 counted (steps.Reverting u m) = steps.Reverting u (m + 1)
 counted (steps.Over end) = steps.Over end
 
--- how many sendings of the present request got none
+-- How many sends of the current request got no answer.
 abbrev pub missed_in : Step → ℕ
 missed_in (steps.Fetching m) = m
 missed_in (steps.Replacing d m) = m
@@ -68,16 +68,16 @@ missed_in (steps.Marking m) = m
 missed_in (steps.Reverting u m) = m
 missed_in (steps.Over end) = 0
 
--- whether a sending of the turn's completion was lost
+-- Whether a send of the completion in turn was lost.
 abbrev pub first_lost : List Turn → Bool
 first_lost [] = false
 first_lost (x ∷ xs) = x.lost
 
--- a sending of the completion in turn was lost
+-- Whether a send of the current completion was lost.
 abbrev pub lost_in : Step → Bool
 lost_in (steps.Completing l) = first_lost l.turns
 lost_in _ = false
 
--- memory was wanting
+-- The step of a commit that ended because memory ran out.
 abbrev pub wanting : Next
 wanting = record { step = steps.Over ends.NoMemory; asked = None }

@@ -6,8 +6,8 @@ use pending_json::PendingSet;
 use s3_types::{Sequence, let_go};
 use std::alloc::Global;
 
-/// What a job's commit goes by: the job's plan, the sets of its tasks that were read, by task from 0 on, and,
-/// once all were read, the places of their uploads.
+/// The data of a job's commit: the job's plan, the sets that it has read, by task from 0 on, and,
+/// once all are read, the places of their uploads.
 #[derive(Drop)]
 pub struct Basis {
     pub alloc: Global,
@@ -17,7 +17,7 @@ pub struct Basis {
 }
 
 impl Basis {
-    /// Nothing is read.
+    /// Returns the data of a commit that has read no set.
     pub fn new(alloc: Global, plan: JobPlan) -> Basis
         ensures plan { result.plan ≡ plan }
         ensures sets { result.sets ≡ [] }
@@ -30,7 +30,7 @@ impl Basis {
         }
     }
 
-    /// Gives up the plan.
+    /// Returns the plan.
     pub fn into_plan(self) -> JobPlan
         ensures { result ≡ self.plan }
     {

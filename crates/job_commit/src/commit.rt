@@ -15,12 +15,17 @@ use s3_types::{Outcome, Reply, Request, Sequence, let_go};
 use std::alloc::{AllocError, Global};
 use std::marker::Model;
 
-/// The commit of a job, which is told the outcome of each sending and counts the sendings of its requests
-/// itself. It reads the set of each task, once, from task 0 on; then, for a staging committer with the mode
-/// `replace`, it deletes what the mode does not keep; then it completes all uploads, in lanes, and puts the
-/// marker. Where two tasks write one path it ends before any deletion or completion. Where a
-/// completion wears out it aborts and deletes what was or may be completed and aborts the other uploads;
-/// a request of that which wears out is passed over. (Hadoop, S3A committer architecture: job commit.)
+/// The driver's commit of a job. It receives the outcome of each send and counts the sends of its
+/// requests itself. (Hadoop, S3A committer architecture: job commit.) It does, in this order:
+///
+/// - reads the set of each task, once, from task 0 on, and ends if two tasks write the same path;
+/// - deletes what the mode does not keep, for a staging committer in mode `replace`;
+/// - completes all uploads, in lanes;
+/// - puts the marker.
+///
+/// If a completion exhausts its retries, it reverts: it deletes the key of each upload that was or
+/// may be completed, and aborts each upload whose completion was not answered. A request of this
+/// revert that exhausts its retries is skipped.
 #[derive(Drop)]
 pub struct CommitJob {
     basis: Basis,
@@ -45,7 +50,7 @@ impl Model for CommitJob {
     ghost invariant = { λ c. Holds c.basis.plan c.basis.sets c.basis.places c.picks c.next.step c.next.asked };
 }
 
-/// The least task that is not reported.
+/// Returns the lowest task that did not report its commit, if there is one.
 fn missing(tasks: u32, reported: &TaskSet) -> Option<u32>
     ensures { result ≡ least_missing tasks reported.now }
 {
@@ -57,7 +62,7 @@ fn missing(tasks: u32, reported: &TaskSet) -> Option<u32>
     None
 }
 
-/// What is done first.
+/// Takes the first step of a commit.
 fn begun(basis: &mut Basis, reported: &TaskSet, next: &mut Next) -> Result<(), AllocError>
     requires { basis.old.sets ≡ [] }
     ensures ok { OnOk result (GoesTo basis.new
@@ -74,9 +79,10 @@ fn begun(basis: &mut Basis, reported: &TaskSet, next: &mut Next) -> Result<(), A
 }
 
 impl CommitJob {
-    /// The commit of a job of which these tasks reported that they committed, numbered from 0 on. Where
-    /// some task did not, it is over, Missing with the least one, and nothing is sent. AllocError comes where
-    /// memory ran out alone.
+    /// Starts the job commit. `reported` holds the tasks, numbered from 0, that reported a
+    /// successful commit. If a task below `plan.tasks` is missing from it, the commit has already
+    /// ended with Missing of the lowest such task, and sends nothing. Fails with AllocError only if
+    /// memory runs out.
     pub fn new(alloc: Global, plan: JobPlan, reported: &TaskSet) -> Result<CommitJob, AllocError>
         ensures { IfOk result (λ m. m ≡ record {
           plan = plan;
@@ -99,16 +105,22 @@ impl CommitJob {
         }
     }
 
-    /// The present request, or None where nothing more is asked. It stays the same until `take`. Takes no
-    /// memory.
+    /// Returns the current request, or None if the commit sends no more. The request stays the same
+    /// until `take`. Takes no memory.
     pub fn request(&self) -> Option<&Request>
         ensures { option_copied result ≡ commit_wants self.now }
     {
         self.next.asked.as_ref()
     }
 
-    /// How it ended, or None while a request is asked: Missing; else StoreFault of the stage of the first
-    /// request that wore out; else SamePath; else Committed; or NoMemory. Takes no memory.
+    /// Returns how the commit ended, or None while it has a request to send. Takes no memory. The
+    /// end is the first of these that applies:
+    ///
+    /// - NoMemory if memory ran out;
+    /// - Missing;
+    /// - StoreFault of the stage of the first request that exhausted its retries;
+    /// - SamePath;
+    /// - Committed.
     pub fn end(&self) -> Option<&CommitEnd>
         ensures { option_copied result ≡ commit_over self.now.operation }
     {
@@ -118,21 +130,21 @@ impl CommitJob {
         }
     }
 
-    /// The attempts of the sets that were read, by task from 0 on. Takes no memory.
+    /// Returns the attempts of the sets that were read, by task from 0 on. Takes no memory.
     pub fn picks(&self) -> &PickList
         ensures { result.now ≡ picks_from 0 self.now.picked }
     {
         &self.picks
     }
 
-    /// What it knows of the job. Takes no memory.
+    /// Returns the plan of the job. Takes no memory.
     pub fn plan(&self) -> &JobPlan
         ensures { result.now ≡ self.now.plan }
     {
         &self.basis.plan
     }
 
-    /// Gives up what it knows of the job. Takes no memory.
+    /// Consumes the commit and returns the plan of the job. Takes no memory.
     pub fn into_plan(self) -> JobPlan
         ensures { result ≡ self.plan }
     {
@@ -142,7 +154,8 @@ impl CommitJob {
         basis.into_plan()
     }
 
-    /// Gives up the attempts of the sets that were read, by task from 0 on. Takes no memory.
+    /// Consumes the commit and returns the attempts of the sets that were read, by task from 0 on.
+    /// Takes no memory.
     pub fn into_picks(self) -> PickList
         ensures { result ≡ picks_from 0 self.picked }
     {
@@ -152,8 +165,8 @@ impl CommitJob {
         picks
     }
 
-    /// Whether the present request completes an upload and a sending of it was lost, and not merely slow: only then
-    /// may it be answered that there is no such upload. Takes no memory.
+    /// Returns whether the current request completes an upload and an earlier send of it was lost,
+    /// not merely slow. Only then may S3 reply that the upload does not exist. Takes no memory.
     pub fn was_lost(&self) -> bool
         ensures { result ≡ lost_of self.now.operation }
     {
@@ -171,7 +184,7 @@ impl CommitJob {
             .heard(&mut self.picks, step, &mut self.next, reply)
     }
 
-    /// Counts a sending that got no answer, of a request that is sent again.
+    /// Counts a send without an answer, of a request that will be sent again.
     fn again(&mut self, lost: bool) -> Result<(), AllocError>
         requires { missed_of self.old.operation < self.old.plan.retries }
         ensures ok { OnOk result (self.new ≡ missed self.old lost) }
@@ -180,7 +193,7 @@ impl CommitJob {
         self.basis.again(&mut self.next, lost)
     }
 
-    /// Counts the last sending of a request that got no answer.
+    /// Counts the last send of a request, which got no answer.
     fn wear_out(&mut self, lost: bool) -> Result<(), AllocError>
         requires { self.old.plan.retries ≤ missed_of self.old.operation }
         ensures ok { OnOk result (self.new ≡ missed self.old lost) }
@@ -190,14 +203,14 @@ impl CommitJob {
         self.basis.worn(step, &mut self.next, lost)
     }
 
-    /// How many sendings of the present request got no answer.
+    /// Returns how many sends of the current request got no answer.
     fn missed(&self) -> u32
         ensures { result ≡ missed_of self.now.operation }
     {
         self.next.step.missed()
     }
 
-    /// Counts a sending that got no answer; `lost` is whether it was lost, and not merely slow.
+    /// Counts a send without an answer; `lost` says whether it was lost, not merely slow.
     fn miss(&mut self, lost: bool) -> Result<Turn, AllocError>
         ensures ok { OnOk result (self.new ≡ missed self.old lost) }
         ensures turn { IfOk result (λ turn. turn ≡ turn_unanswered self.old) }
@@ -212,10 +225,14 @@ impl CommitJob {
         }
     }
 
-    /// Takes the outcome of a sending of the present request, and tells whether it was answered (Moved), the
-    /// request or its lane's turn is to be sent again (Again), or it was the last of `retries + 1` sendings
-    /// (WornOut). AllocError comes where memory ran out alone: after it nothing more is asked, its end is
-    /// NoMemory, and its picks are as before.
+    /// Takes the outcome of a send of the current request, and returns what follows:
+    ///
+    /// - Moved: the request was answered;
+    /// - Again: the request, or its lane's turn, is to be sent again;
+    /// - WornOut: this was the last of `retries + 1` sends.
+    ///
+    /// Fails with AllocError only if memory runs out. The commit then sends nothing more, its end
+    /// is NoMemory, and its chosen attempts are unchanged.
     pub fn take(&mut self, outcome: &Outcome) -> Result<Turn, AllocError>
         requires asked { IsSome (commit_wants self.old) }
         requires fits { FitsCommit self.old outcome.now }

@@ -20,7 +20,7 @@ use s3_types::{Bytes, Reply, let_go, put};
 use std::alloc::{AllocError, Global};
 use std::mem;
 
-/// The bytes that an answer brings.
+/// Returns the bytes in an answer, if it has any.
 fn bytes_in(reply: &Reply) -> Option<&Bytes>
     ensures { option_copied result ≡ bytes_in reply.now }
 {
@@ -31,7 +31,7 @@ fn bytes_in(reply: &Reply) -> Option<&Bytes>
     }
 }
 
-/// The want of memory that a fault is.
+/// Returns the AllocError that a fault stands for.
 fn no_memory(fault: RecordFault) -> AllocError
     requires { is_want fault ≡ true }
 {
@@ -39,7 +39,7 @@ fn no_memory(fault: RecordFault) -> AllocError
     AllocError
 }
 
-/// The set that an answer spells.
+/// Returns the set in an answer.
 fn read_set(alloc: Global, reply: &Reply) -> Result<PendingSet, AllocError>
     requires { IsSome (set_read reply.now) }
     ensures { IfOk result (λ set. set_read reply.now ≡ Some set) }
@@ -53,7 +53,7 @@ fn read_set(alloc: Global, reply: &Reply) -> Result<PendingSet, AllocError>
     }
 }
 
-/// The task behind those of the picks.
+/// Returns the task after those of the chosen attempts.
 fn task_at(plan: &JobPlan, picks: &PickList) -> u32
     requires { length picks.now < plan.now.tasks }
     ensures { result ≡ length picks.now }
@@ -63,7 +63,7 @@ fn task_at(plan: &JobPlan, picks: &PickList) -> u32
 }
 
 impl Basis {
-    /// One more set was read: it is kept, and its attempt picked.
+    /// Keeps one more set that was read, and chooses its attempt.
     fn hear_set(
         &mut self,
         picks: &mut PickList,
@@ -95,7 +95,7 @@ impl Basis {
         }
     }
 
-    /// A request of a deletion was answered.
+    /// Takes the answer to a request of the deletion.
     fn hear_deletion(
         &self,
         deletion: DeleteKept,
@@ -119,7 +119,7 @@ impl Basis {
         }
     }
 
-    /// A completion was answered: its lane goes on with its next upload, if it has one.
+    /// Takes the answer to a completion. Its lane goes on with its next upload, if it has one.
     fn hear_completion(&self, lanes: Lanes, next: &mut Next) -> Result<(), AllocError>
         requires all { HasRead self.now }
         requires within { LanesWithin self.now.sets lanes }
@@ -139,7 +139,7 @@ impl Basis {
         }
     }
 
-    /// A completion got no answer, and is sent again at its lane's next turn.
+    /// Takes a completion without an answer, which is sent again at its lane's next turn.
     fn miss_completion(&self, lanes: Lanes, lost: bool, next: &mut Next) -> Result<(), AllocError>
         requires all { HasRead self.now }
         requires within { LanesWithin self.now.sets lanes }
@@ -158,7 +158,7 @@ impl Basis {
         }
     }
 
-    /// A completion wore out: all is taken back.
+    /// Takes a completion that exhausted its retries, and starts the revert.
     fn wear_completion(&self, lanes: Lanes, next: &mut Next) -> Result<(), AllocError>
         requires all { HasRead self.now }
         requires within { LanesWithin self.now.sets lanes }
@@ -176,7 +176,8 @@ impl Basis {
         }
     }
 
-    /// The first request that takes something back was answered, or wore out: the next one is asked.
+    /// Goes on to the next request of the revert after the first was answered or exhausted its
+    /// retries.
     fn undo_on(&self, undo: UndoList, next: &mut Next) -> Result<(), AllocError>
         requires places { IsPlaced self.now }
         requires within { UndoWithin self.now.sets undo }
@@ -189,7 +190,7 @@ impl Basis {
         self.reverting(undo, next)
     }
 
-    /// Where an answer leads.
+    /// Takes an answer and goes on from there.
     pub fn heard(
         &mut self,
         picks: &mut PickList,
@@ -223,7 +224,7 @@ impl Basis {
         }
     }
 
-    /// Where a request leads that got no answer and is sent again.
+    /// Takes a send without an answer, of a request that will be sent again.
     pub fn again(&self, next: &mut Next, lost: bool) -> Result<(), AllocError>
         requires step { IsAt self.now next.old.step }
         requires asked { next.old.asked ≡ asks self.now.plan (operation_of self.now.sets next.old.step) }
@@ -245,7 +246,7 @@ impl Basis {
         }
     }
 
-    /// Where a request leads that wore out.
+    /// Takes a request that exhausted its retries.
     pub fn worn(&self, step: Step, next: &mut Next, lost: bool) -> Result<(), AllocError>
         requires step { IsAt self.now step }
         requires missed { self.now.plan.retries ≤ missed_of (operation_of self.now.sets step) }

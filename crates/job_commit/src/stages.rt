@@ -24,7 +24,7 @@ use s3_types::{Mode, Request, let_go};
 use std::alloc::AllocError;
 
 impl Basis {
-    /// The upload with this number.
+    /// Returns the upload with this number.
     fn upload_at(&self, number: usize) -> &PendingUpload
         requires places { IsPlaced self.now }
         requires within { number < length (all_commits self.now.sets) }
@@ -33,7 +33,7 @@ impl Basis {
         upload(self.sets.as_slice(), self.places.as_slice(), number)
     }
 
-    /// The put of the marker of a committed job.
+    /// Returns the put of a committed job's marker.
     fn marking(&self) -> Result<Request, AllocError>
         requires { HasRead self.now }
         ensures { IfOk result (λ request. Some request ≡ commit_asks (script_of self.now) (Marking self.now.sets 0)) }
@@ -46,7 +46,7 @@ impl Basis {
         )
     }
 
-    /// The next completion, or the marker where no lane has one.
+    /// Goes to the next completion, or to the marker if no lane has one.
     pub fn completing(&self, lanes: Lanes, next: &mut Next) -> Result<(), AllocError>
         requires all { HasRead self.now }
         requires within { LanesWithin self.now.sets lanes }
@@ -67,7 +67,8 @@ impl Basis {
         }
     }
 
-    /// The end that a path gives which two tasks write, with the two least tasks that do: the least such path.
+    /// Returns the end SamePath of the least path that two tasks write, with the two lowest such
+    /// tasks, or None if there is no such path.
     fn shared_path(&self) -> Result<Option<CommitEnd>, AllocError>
         requires each { AreRead self.now.plan self.now.sets }
         requires all { length self.now.sets ≡ self.now.plan.tasks }
@@ -88,7 +89,7 @@ impl Basis {
         }
     }
 
-    /// The completions begin, in lanes.
+    /// Starts the completions, in lanes.
     fn dealing(&self, next: &mut Next) -> Result<(), AllocError>
         requires { HasRead self.now }
         ensures ok { OnOk result (GoesTo self.now
@@ -100,7 +101,8 @@ impl Basis {
         self.completing(lanes, next)
     }
 
-    /// A deletion that asks this goes on, or where it asks nothing more the completions begin.
+    /// Goes on with a deletion whose next request is `asked`, or starts the completions if that is
+    /// None.
     fn delete_on(
         &self,
         deletion: DeleteKept,
@@ -126,7 +128,7 @@ impl Basis {
         }
     }
 
-    /// A deletion goes on, or where all is deleted the completions begin.
+    /// Goes on with a deletion, or starts the completions if all is deleted.
     pub fn deleting(&self, deletion: DeleteKept, next: &mut Next) -> Result<(), AllocError>
         requires all { HasRead self.now }
         requires spared { deletion.spared ≡ spared self.now.plan.dest }
@@ -143,7 +145,7 @@ impl Basis {
         }
     }
 
-    /// The deletion for the replace mode of the job's committer.
+    /// Returns the deletion for the replace mode of the job's committer.
     fn replacement(&self) -> Result<DeleteKept, AllocError>
         requires { HasRead self.now }
         ensures { let w = script_of self.now in IfOk result (λ d. d ≡
@@ -161,7 +163,8 @@ impl Basis {
         DeleteKept::new(self.alloc, &plan.dest, plan.committer, dirs.as_slice())
     }
 
-    /// What the job's mode does not keep is deleted; where it keeps all, the completions begin.
+    /// Starts the deletion of what the job's mode does not keep, or the completions if it keeps
+    /// all.
     fn replacing(&self, next: &mut Next) -> Result<(), AllocError>
         requires { HasRead self.now }
         ensures ok { let w = script_of self.now in OnOk result
@@ -180,7 +183,8 @@ impl Basis {
         }
     }
 
-    /// After the last read: a path that two tasks write ends it, else what is not kept is deleted.
+    /// Goes on after the last read: ends if two tasks write the same path, else starts the
+    /// deletion.
     fn decided(&mut self, next: &mut Next) -> Result<(), AllocError>
         requires each { AreRead self.old.plan self.old.sets }
         requires all { length self.old.sets ≡ self.old.plan.tasks }
@@ -202,7 +206,7 @@ impl Basis {
         }
     }
 
-    /// The read of the next task's set, or what follows on the last one.
+    /// Goes to the read of the next task's set, or on from the last one.
     pub fn fetching(&mut self, next: &mut Next) -> Result<(), AllocError>
         requires each { AreRead self.old.plan self.old.sets }
         requires few { length self.old.sets ≤ self.old.plan.tasks }
@@ -221,7 +225,7 @@ impl Basis {
         }
     }
 
-    /// The request that takes something back.
+    /// Returns the request for a step of the revert.
     fn undo_request(&self, undo: Undo) -> Result<Request, AllocError>
         requires places { IsPlaced self.now }
         requires within { number_in undo < length (all_commits self.now.sets) }
@@ -233,7 +237,7 @@ impl Basis {
         }
     }
 
-    /// The next request that takes something back, or the end where none is left.
+    /// Goes to the next request of the revert, or ends the commit if none is left.
     pub fn reverting(&self, undo: UndoList, next: &mut Next) -> Result<(), AllocError>
         requires places { IsPlaced self.now }
         requires within { UndoWithin self.now.sets undo }

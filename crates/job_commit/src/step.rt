@@ -7,8 +7,8 @@ use job_model::CommitEnd;
 use s3_types::{Request, put};
 use std::mem;
 
-/// What a job's commit is doing. The numbers count the sendings of the present request that got no
-/// answer.
+/// The current step of a job's commit. Each number counts the sends of the current request that got
+/// no answer.
 #[derive(Drop)]
 pub enum Step {
     /// Reads the next task's set.
@@ -19,12 +19,12 @@ pub enum Step {
     Completing(Lanes),
     /// Puts the marker.
     Marking(u32),
-    /// Takes back, since a completion wore out.
+    /// Reverts, because a completion exhausted its retries.
     Reverting(UndoList, u32),
     Over(CommitEnd),
 }
 
-/// What is done next, and the request that it asks.
+/// The next step of a commit, and the request that it sends.
 #[derive(Drop)]
 pub struct Next {
     pub step: Step,
@@ -32,7 +32,7 @@ pub struct Next {
 }
 
 impl Next {
-    /// Memory was wanting, and nothing more is asked.
+    /// Returns the step of a commit that ended because memory ran out.
     pub fn wanting() -> Next
         ensures { result ≡ wanting }
     {
@@ -42,7 +42,7 @@ impl Next {
         }
     }
 
-    /// Goes on so.
+    /// Goes on with this step and this request.
     pub fn go_on(&mut self, step: Step, asked: Request)
         ensures { self.new ≡ record { step = step; asked = Some asked } }
     {
@@ -50,7 +50,7 @@ impl Next {
         put(&mut self.asked, Some(asked));
     }
 
-    /// Ends so.
+    /// Ends the commit with `end`.
     pub fn end(&mut self, end: CommitEnd)
         ensures { self.new ≡ record { step = Step.Over end; asked = None } }
     {
@@ -58,7 +58,7 @@ impl Next {
         put(&mut self.asked, None);
     }
 
-    /// Takes the step out, and leaves the want of memory in its place.
+    /// Returns the step, and leaves in its place the end NoMemory.
     pub fn taken(&mut self) -> Step
         ensures result { result ≡ self.old.step }
         ensures rest { self.new ≡ wanting }
@@ -69,7 +69,7 @@ impl Next {
 }
 
 impl Step {
-    /// How many sendings of the present request got no answer. Takes no memory.
+    /// Returns how many sends of the current request got no answer. Takes no memory.
     pub fn missed(&self) -> u32
         ensures { result ≡ missed_in self.now }
     {
@@ -86,7 +86,7 @@ impl Step {
         }
     }
 
-    /// Whether a sending of the completion that is asked was lost. Takes no memory.
+    /// Returns whether a send of the current completion was lost. Takes no memory.
     pub fn lost(&self) -> bool
         ensures { result ≡ lost_in self.now }
     {
@@ -99,7 +99,7 @@ impl Step {
         }
     }
 
-    /// One more sending of the present request, which stays, got no answer; lanes count for themselves.
+    /// Counts one more send of the current request that got no answer. Lanes keep their own counts.
     /// Takes no memory.
     pub fn counted(self) -> Step
         requires { missed_in self + 1 < 2 ^ 32 }

@@ -1,4 +1,4 @@
--- A store of one bucket as lists: what it answers to requests, and what these leave of it, computed.
+-- A store of one bucket as lists: its replies to requests, and its state after them, computed.
 use Rattle.basics.proofs.Members.{text_exact, text_is}
 use Rattle.basics.specs.Order.{text_cmp, text_eq, text_ties, text_total}
 use Rattle.job_examples.proofs.MapLists.{find_map, found_is, get_put, map_of, mapped, others, put_is, put_twice, removed_is, sorted_is}
@@ -45,12 +45,12 @@ use Rattle.s3_types.specs.Multipart as uploads
 
 -- ---- a store as lists
 
--- a live upload: its key and its parts by their numbers
+-- A live upload: its key, and its parts by their numbers.
 pub record Draft : Type 0 where
   pub key : List ℕ
   pub parts : List (ℕ × List ℕ)
 
--- the objects and the live uploads of the bucket, the next upload's id, and the cluster's files
+-- The objects and the live uploads of the bucket, the next upload's id, and the cluster's files.
 pub record Book : Type 0 where
   pub objects : List (List ℕ × Object)
   pub uploads : List (ℕ × Draft)
@@ -60,7 +60,7 @@ pub record Book : Type 0 where
 abbrev pub upload_of : Draft → Upload
 upload_of d = record { key = d.key; parts = from_entries d.parts }
 
--- the live uploads as the store has them
+-- The live uploads as the store has them.
 abbrev pub held : List (ℕ × Draft) → List (ℕ × Upload)
 held es = map (λ e. (e.0, upload_of e.1)) es
 
@@ -123,16 +123,16 @@ held_where p (e ∷ es) = elim (p e.0) as (λ b. cond b ((e.0, upload_of e.1) �
 uploads_removed : (es : List (ℕ × Draft)) (id : ℕ) → remove {R = nat_cmp} (map_of (held es)) id ≡ map_of (held (others nat_cmp id es))
 uploads_removed es id = removed_is nat_cmp_total nat_cmp-IsAntisymmetric (held es) id ∙ ap map_of (held_where _ es)
 
--- ---- what a request leaves
+-- ---- the store after a request
 
--- the upload with an id, where it is of this key
+-- The upload with this id and this key, or none.
 abbrev pub draft_at : List (ℕ × Draft) → List ℕ → ℕ → Option Draft
 draft_at es k id = elim (find nat_cmp id es) [ None ↦ None | Some d ↦ cond (text_eq d.key k) (Some d) None ]
 
 live_is : (es : List (ℕ × Draft)) (k : List ℕ) (id : ℕ) → live (map_of (held es)) k id ≡ option_map upload_of (draft_at es k id)
 live_is es k id = grind (arith, upload_found, mapped)
 
--- a part is there and has this tag
+-- True if the part exists and has this tag.
 abbrev pub is_tagged : Spelled → Option (List ℕ) → Bool
 is_tagged t None = false
 is_tagged t (Some bytes) = tag_eq (told_tag bytes) t
@@ -141,7 +141,7 @@ tagged_is : (t : Spelled) (o : Option (List ℕ)) → has_tag t o ≡ is_tagged 
 tagged_is t None = refl
 tagged_is t (Some bytes) = ap (λ x. tag_eq x t) (told_is bytes)
 
--- the parts of an upload joined, where tags are tested so
+-- The joined parts of an upload, where `has` tests the tags.
 abbrev pub joined_by : (Spelled → Option (List ℕ) → Bool) → (ℕ → Option (List ℕ)) → List NamedPart → ℕ → Result (List ℕ) Refusal
 joined_by has g ns minimum =
     cond (is_none_named ns) (Err MalformedList)
@@ -181,7 +181,7 @@ part_is es id (Some d) n bytes =
       | false ↦ refl
     ]
 
--- what a request leaves of the objects, of the uploads and of the cluster's files
+-- The objects after a request.
 abbrev pub objects_after : Book → Request → List (List ℕ × Object)
 objects_after b (PutObject n k bytes header) = put text_cmp k (record { bytes = bytes; header = header }) b.objects
 objects_after b (DeleteObject n k) = others text_cmp k b.objects
@@ -205,7 +205,7 @@ files_after es (ClusterRename source target) = elim (find text_cmp source es)
 files_after es (ClusterDelete path) = others text_cmp path es
 files_after es _ = es
 
--- what a request leaves
+-- The store after a request.
 abbrev pub after : Book → Request → Book
 after b r = record {
   objects = objects_after b r;
@@ -215,7 +215,7 @@ after b r = record {
       files_after b.files r;
 }
 
--- a request that names the bucket or the cluster, and neither makes a bucket nor copies
+-- True if the request names the bucket or the cluster, and neither makes a bucket nor copies.
 abbrev pub is_ours : Request → Bool
 is_ours (MakeBucket n) = false
 is_ours (CopyObject n source target) = false
@@ -227,7 +227,7 @@ is_ours (ClusterDelete path) = true
 is_ours (ClusterList p) = true
 is_ours r = text_eq (bucket_of r) lake
 
--- what it leaves of the bucket
+-- The bucket after a request.
 bucket_after : (b : Book) (r : Request) → is_ours r ≡ true → apply_in (bucket_in b) b.next 5242880 r ≡ bucket_in (after b r)
 bucket_after b (PutObject n k bytes header) h = λ i. record {
   objects = text_put b.objects k (record { bytes = bytes; header = header }) i;
@@ -311,9 +311,9 @@ applies b (ClusterDelete path) h = λ i. record { content = content_of b; files 
 applies b (ClusterList p) h = refl
 applies b r h = λ i. record { content = stored b r (text_is _ lake h) h i; files = map_of b.files }
 
--- ---- what a request is answered
+-- ---- the reply to a request
 
--- lists rise, as they are listed
+-- The id of a live upload with its key, as in a listing.
 abbrev pub ref_in : ℕ × Draft → UploadRef × Unit {0}
 ref_in e = (record { key = e.1.key; upload = e.0 }, tt)
 
@@ -328,7 +328,7 @@ listed_in p delimited x es = pages.folded_from None (filter (λ y. is_lt (text_c
 abbrev pub uploads_in : List ℕ → Option UploadRef → List (ℕ × Draft) → List UploadRef
 uploads_in p x es = filter (λ r. begins p r.key) (filter (uploads.is_behind x) (map (λ e. e.0) (map ref_in es)))
 
--- a part's answer, with this tag
+-- The reply to a part with this tag.
 abbrev pub part_reply : Option Draft → ℕ → Spelled → Reply
 part_reply None n tag = Refused NoSuchUpload
 part_reply (Some d) n tag = cond (is_part_number n) (Part tag) (Refused BadPartNumber)

@@ -1,4 +1,4 @@
--- What a store as lists shows, and what a journal makes of it.
+-- The files that readers see of a store as lists, and the store after a journal.
 use Rattle.basics.proofs.Members.{none_some, some_is, text_exact, text_is, true_or_false}
 use Rattle.basics.proofs.Tree.{tied}
 use Rattle.basics.specs.Order.{text_cmp, text_eq}
@@ -30,7 +30,7 @@ implied a b h g = grind arith
 abbrev pub dest : Path
 dest = record { bucket = lake; key = codes "out" }
 
--- ---- what is shown
+-- ---- the files that readers see
 
 abbrev pub shown_by : Option (List ℕ) → List ℕ → List (List ℕ × List ℕ) → List (List ℕ × List ℕ)
 shown_by None bytes rest = rest
@@ -52,7 +52,7 @@ files_are (x ∷ xs) (y ∷ ys) h =
     λ i. (text_is x.0 y.0 p.0 i, text_is x.1 y.1 q.0 i) ∷ files_are xs ys q.1 i
 files_are _ _ h = absurd (false≢true h)
 
--- the files that are shown, by their paths below the destination
+-- The files that readers see, by their paths below the destination.
 abbrev pub visible : List (List ℕ × Object) → Listed
 visible [] = []
 visible (e ∷ es) = shown_by (relative_in (codes "out") e.0) e.1.bytes (visible es)
@@ -72,7 +72,7 @@ merged f g e bytes x rest h p = grind arith
 same_path : (p q : List ℕ) → eq_by_cmp text_cmp p q ≡ true → p ≡ q
 same_path p q h = text_exact p q (tied _ h)
 
--- a key is not below the destination, or is that of a path
+-- The key is not below the destination, or it is that of a path.
 data Placed (k : List ℕ) : Type 0 where
   nowhere : relative_in (codes "out") k ≡ None → ((p : List ℕ) → eq_by_cmp text_cmp (below (codes "out") p) k ≡ false) → Placed k
   placed : (q : List ℕ) → relative_in (codes "out") k ≡ Some q → k ≡ below (codes "out") q → Placed k
@@ -115,7 +115,7 @@ views b p = grind (arith, at_bucket, text_found, shown_all)
 pub objects_at : (b : Book) (k : List ℕ) → object_at (content_of b) lake k ≡ find text_cmp k b.objects
 objects_at b k = ap (λ x. object_in x k) (at_bucket b) ∙ text_found b.objects k
 
--- ---- the moments of a journal
+-- ---- the store after each entry of a journal
 
 abbrev pub effect_on : Book → Request → Outcome → Book
 effect_on b r Slow = b

@@ -55,7 +55,7 @@ four_files =
       four_kept,
     )
 
--- all that comes before the commit goes as it should
+-- The operations before the commit send their requests and end as they must.
 prepared : (retries lanes : ℕ) (fates : FateMap) (events : List Event)
     → files.Prepared (files.script retries lanes fates events) attempt_entries
 unfolding digits block_of parts_of

@@ -1,4 +1,4 @@
--- What each entry of a run over a store as lists may change, and what it was answered, as tests that compute.
+-- The changes and replies of each entry of a run over a store as lists, as tests that compute.
 use Rattle.basics.proofs.Bools.{not_so}
 use Rattle.basics.proofs.Members.{none_some, some_is, text_exact}
 use Rattle.basics.specs.Order.{text_cmp, text_eq}
@@ -33,7 +33,7 @@ use Rattle.std.specs.Option.{option_map}
 use Rattle.std.specs.Ordering.{eq_by_cmp, nat_cmp}
 use Rattle.std.specs.declared.cmp.Ordering.{Ordering}
 
--- ---- what is outside the destination
+-- ---- outside the destination
 
 abbrev prefix : List ℕ
 prefix = codes "out/"
@@ -41,7 +41,7 @@ prefix = codes "out/"
 abbrev is_outside : List ℕ → Bool
 is_outside k = not (begins prefix k)
 
--- no object and no live upload is outside it
+-- Holds if there is no object and no live upload outside the destination.
 record Inside (b : Book) : Type 0 where
   objects : where_key text_cmp is_outside b.objects ≡ []
   uploads : list_all (λ e. begins prefix e.1.key) b.uploads ≡ true
@@ -104,7 +104,7 @@ is_showing e = is_driver e.actor && (may_show e.request && is_effective e.outcom
 abbrev shows_same : Book → Entry → Bool
 shows_same b e = same_files (visible (effect_on b e.request e.outcome).objects) (visible b.objects)
 
--- one entry, over the store before it; a stranger's may show anything
+-- True if the entry may follow the store before it. An entry of another job may change what readers see.
 abbrev is_sound : Book → Entry → Bool
 is_sound b e =
     is_ours e.request
@@ -118,7 +118,7 @@ abbrev pub all_sound : Book → List Entry → Bool
 all_sound b [] = is_inside b
 all_sound b (e ∷ es) = is_sound b e && all_sound (effect_on b e.request e.outcome) es
 
--- the outcomes, each with the answer that is due
+-- The outcome with the reply that S3 must give.
 abbrev due_outcome : Outcome → Reply → Outcome
 due_outcome (Answered a) due = Answered due
 due_outcome Slow due = Slow
@@ -132,7 +132,7 @@ due_outcomes b (e ∷ es) = due_outcome e.outcome (reply b e.request) ∷ due_ou
 abbrev pub outcomes : List Entry → List Outcome
 outcomes es = map (λ e. e.outcome) es
 
--- ---- what a sound entry is of
+-- ---- consequences of a sound entry
 
 abbrev Shows : Book → Entry → Type 0
 Shows b e = (visible (effect_on b e.request e.outcome).objects ≡ visible b.objects)
@@ -171,7 +171,7 @@ sound_is b e h =
       shows = λ o. elim (or_cases _ _ (implied _ _ t.1 o)) [ inl f ↦ inl (files_are _ _ f) | inr g ↦ inr (showing_is e g) ];
     }
 
--- ---- of a journal
+-- ---- a whole journal
 
 pub ours_all : (b : Book) (es : List Entry) → all_sound b es ≡ true → are_ours es ≡ true
 ours_all b [] h = refl

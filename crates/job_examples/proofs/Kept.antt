@@ -1,4 +1,4 @@
--- What whole runs over a store as lists keep and show, by tests that compute.
+-- What whole runs over a store as lists keep and what readers see, by tests that compute.
 use Rattle.basics.proofs.Members.{text_is, true_or_false}
 use Rattle.basics.specs.Order.{text_cmp, text_eq, text_ties}
 use Rattle.job_examples.proofs.Books.{Book, at_bucket, scene_of, upload_found, upload_of}
@@ -35,13 +35,13 @@ use Rattle.std.specs.Ordering.{eq_by_cmp, nat_cmp}
 
 -- ---- a journal as a walk
 
--- the store after so many entries
+-- The store after the first m entries.
 abbrev pub book_at : Start → List Entry → ℕ → Book
 book_at s es m = book_after (without_files s.book) (take m es)
 
 -- ---- fates
 
--- the fates that are named for as many entries, from the n-th sending on
+-- The fates of these entries, the first of which is send n.
 abbrev pub due_fates : List (ℕ × Fate) → ℕ → List Entry → List Fate
 due_fates fs n [] = []
 due_fates fs n (e ∷ es) = fate_or (find nat_cmp n fs) ∷ due_fates fs (n + 1) es
@@ -53,21 +53,21 @@ fated fs n (e ∷ es) h =
     let here : fate_of e.outcome ≡ fate_or (find nat_cmp n fs) = cc in
     (here ∙ ap fate_or (sym (get-from_entries nat_cmp_total fs n)), fated fs (n + 1) es cc)
 
--- ---- what is kept
+-- ---- what a run keeps
 
--- each answer is the one that was due, nothing is copied, and what is outside stays
+-- Each reply is the one that S3 must give, nothing is copied, and all outside the destination stays.
 pub record Honours (w : Script) (content : Content) (es : List Entry) : Type 0 where
   pub honest : IsHonest content es
   pub zero_rename : ZeroRename w content es
   pub outside : OutsideStays w content es
 
 module _ (s : Start) (es : List Entry) (w : Script) (to : w.dest ≡ dest) where
-  -- where each entry is one that may be sent, and was answered as was due
+  -- If each entry may be sent, and has the reply that S3 must give, a run keeps this.
   pub honours : all_sound (without_files s.book) es ≡ true → due_outcomes (without_files s.book) es ≡ outcomes es → Honours w s.content es
   honours p q = subst (λ c. Honours w c es) s.starts (record
       { honest = honest s.book es p q; zero_rename = zero_rename w to s.book es p; outside = outside_stays w to s.book es p })
 
-  -- where at each moment a reader is shown what he may rely on
+  -- If the tests hold, readers see after each entry what they may rely on.
   pub always_kept : (k : Times) → all_good w k (visible s.book.objects) (opens (without_files s.book)) es ≡ true → Always w k s.content es
   always_kept k g = subst (λ c. Always w k c es) s.starts (always w to k s.book es g)
 
@@ -87,9 +87,9 @@ module _ (s : Start) (es : List Entry) (w : Script) (to : w.dest ≡ dest) where
         outside = h.outside;
       }
 
--- ---- what is there at each moment
+-- ---- the contents after each entry
 
--- these files are shown, and no others, from here on
+-- True if readers see exactly these files from here on.
 abbrev pub all_show : Listed → Book → List Entry → Bool
 all_show vs b [] = same_files (visible b.objects) vs
 all_show vs b (e ∷ es) = same_files (visible b.objects) vs && all_show vs (effect_on b e.request e.outcome) es
@@ -114,7 +114,7 @@ module _ (s : Start) (es : List Entry) (ours : are_ours es ≡ true) where
   at_moment : (m : ℕ) → moment s.content es m ≡ scene_of (book_at s es m)
   at_moment m = ap (λ c. moment c es m) (sym s.starts) ∙ moment_is s.book es m (ours_some es m ours)
 
-  -- the file at a path
+  -- The file at a path.
   pub file_then : (m : ℕ) (p : List ℕ) → view dest (moment s.content es m).content p ≡ find text_cmp p (visible (book_at s es m).objects)
   file_then m p = ap (λ x. view dest x.content p) (at_moment m) ∙ views (book_at s es m) p
 
@@ -126,18 +126,18 @@ module _ (s : Start) (es : List Entry) (ours : are_ours es ≡ true) where
       → view dest (moment s.content es m).content p ≡ lookup (text_eq p) vs
   shows_as vs h m p = files_then m p ∙ ap (lookup (text_eq p)) (show_at vs (without_files s.book) es h m)
 
-  -- the object at a key
+  -- The object at a key.
   pub object_then : (m : ℕ) (k : List ℕ) → object_at (moment s.content es m).content lake k ≡ lookup (text_eq k) (book_at s es m).objects
   object_then m k = ap (λ x. object_at x.content lake k) (at_moment m) ∙ objects_at (book_at s es m) k ∙ lookup_is (book_at s es m).objects
       k
 
-  -- the live upload of an id
+  -- The live upload of an id.
   pub upload_then : (m id : ℕ) → upload_at (moment s.content es m).content lake id ≡ option_map upload_of
       (find nat_cmp id (book_at s es m).uploads)
   upload_then m id = ap (λ x. upload_at x.content lake id) (at_moment m) ∙ ap (λ o. upload_in o id) (at_bucket (book_at s es m)) ∙
       upload_found (book_at s es m).uploads id
 
--- a test that holds of each key holds of one that is found
+-- A test that holds for each key holds for one that is found.
 pub key_found : (test : List ℕ → Bool) (es : List (List ℕ × Object)) → list_all (λ e. test e.0) es ≡ true → (k : List ℕ) (o : Object)
     → lookup (text_eq k) es ≡ Some o → test k ≡ true
 key_found test [] h k o e = absurd (cc)

@@ -12,11 +12,11 @@ use Rattle.std.specs.declared.cmp.Ordering.{Ordering}
 turned : {X : Type 0} (b : Bool) (x : Option X) → cond (not b) x None ≡ cond b None x
 turned b x = grind arith
 
--- the map of these entries
+-- The map of these entries.
 unfoldable pub map_of : {K X : Type 0} {R : K → K → Ordering} → List (K × X) → FinMap R X
 map_of es = from_entries es
 
--- the entries at other keys
+-- The entries at other keys.
 abbrev pub others : {K X : Type 0} (R : K → K → Ordering) → K → List (K × X) → List (K × X)
 others R k es = where_key R (λ x. not (eq_by_cmp R k x)) es
 
@@ -50,7 +50,7 @@ module _ {K X : Type 0} {R : K → K → Ordering} (o : IsTotalOrder R) (exact :
       (get-insert o m k v q) ∙ elim (eq_by_cmp R q k) as (λ b. cond b (Some u) (cond b (Some v) (get m q)) ≡ cond b (Some u) (get m q))
       [ true ↦ refl | false ↦ refl ] ∙ sym (get-insert o m k u q))
 
--- of what is found or not
+-- A function of a value that is found or not.
 pub mapped : {X Y : Type 0} (f : X → Y) (b : Bool) (x : X) (o : Option X)
     → option_map f (cond b (Some x) o) ≡ cond b (Some (f x)) (option_map f o)
 mapped f b x o = grind arith

@@ -1,4 +1,4 @@
--- The operations of the run of one attempt with one file end as is due, and the run is finished.
+-- The operations of the run of one attempt with one file have the resulting ends, and the run is finished.
 use Rattle.basics.proofs.Members.{none_some, some_is}
 use Rattle.job_examples.proofs.Books.{at_bucket}
 use Rattle.job_examples.proofs.Checks.{objects_at}
@@ -48,7 +48,7 @@ use Rattle.job_model.specs.declared.ends.CommitEnd.TheVariants as commits
 use Rattle.job_model.specs.declared.ends.Stage.TheVariants as stages
 use Rattle.job_model.specs.declared.ends.OpEnd.TheVariants as ends
 
--- ---- which operations ended
+-- ---- the operations that ended
 
 told_one : (x : ActorEnd) (i : ℕ) (y : ActorEnd) → slice_get (x ∷ []) i ≡ Some y → x ≡ y
 told_one x i y h = grind arith
@@ -56,7 +56,7 @@ told_one x i y h = grind arith
 worn_none : (es : List Entry) → first_worn 3 es ≡ None → WornFirst 3 es None
 worn_none es h = subst (λ o. WornFirst 3 es o) h (computed 3 [] es (none_sent 3))
 
--- what is due of an operation that ended so in event j
+-- What must hold of an operation that ended in event j with this end.
 abbrev Due : ℕ → Actor → Doing → OpEnd → List Entry → Type 0
 Due j a d (ends.Setup e) es = (e ≡ setups.NoMemory)
     ⊎ ((worn : Option Request) × WornFirst 3 es worn
@@ -71,7 +71,7 @@ Due j a d (ends.Commit e) es = CommitEnds script opening journal the_ends j d e 
 Due j a d (ends.Clean e) es = ⊥
 Due j a d _ es = Unit {0}
 
--- where it is due of the operation that the script's event j does
+-- It holds if it holds for the operation of the script's event j.
 due_at : (j : ℕ) (a : Actor) (op : Op) (end : OpEnd) (c : Doing) → slice_get script.events j ≡ Some (Do a op)
     → slice_get the_ends j ≡ Some (Ended end) → (after_event script (past script (take j the_ends)) (Do a op) (Ended end)).doing a ≡ Some c
     → Due j a c end (since c.since (by_actor a (until (j + 1) journal)))
@@ -120,7 +120,7 @@ is_marked_last = subst (λ c. is_marked script (seen script (commits_at 4) c jou
     ∙ ap (λ o. true && is_some o) (objects_at (saw_all script (commits_at 4) (opens empty_book) journal).book (codes "out/_SUCCESS"))
     )
 
--- what the commit was answered: its read gave the set, and its completion was not refused
+-- A property of all entries holds for each one.
 each_at : (P : Entry → Type 0) (es : List Entry) → AllByRecursion P es → (before : List Entry) (e : Entry) (later : List Entry)
     → es ≡ before ++ e ∷ later → P e
 each_at P (y ∷ ys) h [] e later q = let is : y ≡ e = cc in subst P is h.0

@@ -1,4 +1,4 @@
--- The run of one attempt with one file plays as its script says.
+-- The run of one attempt with one file follows its script.
 use Rattle.basics.proofs.Members.{false_true, none_some, some_is}
 use Rattle.job_examples.proofs.OneSet.{set_is_read}
 use Rattle.job_examples.specs.Jobs.{doing, worker}
@@ -67,19 +67,19 @@ one_over g after_it a end d es h o zero x e =
     × ((is_wanting z.actor c.op z.end ≡ true) ⊎ (op_over g z.actor c (by_actor z.actor es) ≡ Some z.end))) k (d, h, inr o)
 one_over g after_it a end d es h o (suc i) x e = absurd (cc)
 
--- what the driver and the attempt do, and nobody else
+-- The operations of the driver and the attempt; no other actor has one.
 abbrev of_two : Option Doing → Option Doing → Actor → Option Doing
 of_two d v Driver = d
 of_two d v Shell = None
 of_two d v (Attempt t a) = cond (nat_eq t 0 && nat_eq a 0) v None
 
--- they do so behind event k, where nobody is busy
+-- Holds if these are the operations after event k, and no actor is busy.
 abbrev Behind : ℕ → Actor → Op → OpEnd → Option Doing → Option Doing → Actor → Type 0
 Behind k a op end d v x =
     let p = after_event script (past script (take k the_ends)) (Do a op) (Ended end) in
     (p.doing x ≡ of_two d v x) × (is_busy (p.state x).life ≡ false)
 
--- what an actor does follows, where it does anything
+-- Holds if the actor's entries are the requests of its operation, if it has one.
 abbrev Followed : List Entry → Actor → Option Doing → Type 0
 Followed es x None = Unit {0}
 Followed es x (Some d) = OpFollows setting x d (by_actor x es)
@@ -96,7 +96,7 @@ follows es d v g h = by_actors (λ x. (c : Doing) → of_two d v x ≡ Some c �
     (λ t a k c e. absurd (none_some (ap (λ b. cond b v None) k) e))
     (λ c e. absurd (none_some refl e))
 
--- an event that does a whole operation, whose end comes with it, after which nobody is busy
+-- An event that does a whole operation, after which no actor is busy.
 does : (k : ℕ) (a : Actor) (op : Op) (end : OpEnd) (d v : Option Doing) (began : Doing)
     → refusal (past script (take k the_ends)).state (Do a op) ≡ None
     → AllBy a (of_event (length (take k the_ends) + 1) (until (k + 1) journal))

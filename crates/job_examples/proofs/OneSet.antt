@@ -30,7 +30,7 @@ all_small (b ∷ bs) h = let p = and_parts (nat_lt b 128) _ h in IsAscii-cons b 
 small_utf8 : (bs : List ℕ) → is_small bs ≡ true → is_utf8 bs ≡ true
 small_utf8 bs h = is_utf8-from_IsUtf8 bs (IsUtf8-from_ascii bs (all_small bs h))
 
--- what a record and a set may hold, of texts of ASCII
+-- True if the record keeps its bounds, and its texts are ASCII.
 abbrev pub is_fit : Pending → Bool
 is_fit p =
     (nat_lt p.task (2 ^ 32) && nat_lt p.attempt (2 ^ 32)) && ((nat_lt p.upload (2 ^ 64) && nat_lt p.length (2 ^ 64))
@@ -44,7 +44,7 @@ all_fit : (ps : List Pending) → list_all is_fit ps ≡ true → AllByRecursion
 all_fit [] h = tt
 all_fit (p ∷ ps) h = let a = and_parts (is_fit p) _ h in (fits p a.0, all_fit ps a.1)
 
--- a record and a set are read as they were put
+-- Reading a record that was put gives the record.
 pub record_by : (p : Pending) → is_fit p ≡ true → pending_of (compact_text (pending_tree p)) ≡ Ok p
 record_by p h = pending_text p (fits p h)
 
@@ -58,7 +58,7 @@ pub set_is_read : read (compact_text (set_tree the_set)) ≡ Ok the_set
 unfolding parts_from
 set_is_read = set_by the_set refl
 
--- the set of a staging attempt, whose record is of version 1
+-- The set of a staging attempt, whose record has version 1.
 pub staged_is_read : read staged_text ≡ Ok staged_set
 unfolding digits escape_byte parts_from
 staged_is_read = set_by staged_set refl

@@ -1,4 +1,4 @@
--- What is owed at each moment of a run over a store as lists, as tests that compute.
+-- What must hold after each entry of a run over a store as lists, as tests that compute.
 use Rattle.basics.proofs.Bools.{not_so}
 use Rattle.basics.proofs.Members.{some_is, text_exact, text_is, true_or_false}
 use Rattle.basics.proofs.Tree.{tied}
@@ -45,7 +45,7 @@ found_in test (f ∷ fs) h p b e =
       | inr k ↦ found_in test fs a.1 p b (sym (ap (λ c. cond c (Some f.1) (find text_cmp p fs)) k) ∙ e)
     ]
 
--- entries put one after the other
+-- The entries, put one after another.
 abbrev pub sorted : Listed → Listed
 sorted [] = []
 sorted (e ∷ es) = put text_cmp e.0 e.1 (sorted es)
@@ -61,7 +61,7 @@ find_behind (x ∷ xs) ys p = ap (λ c. or_else (cond c (Some x.1) (lookup (text
     ∙ elim (eq_by_cmp text_cmp p x.0) as (λ c. or_else (cond c (Some x.1) (lookup (text_eq p) xs)) (find text_cmp p ys) ≡ cond c (Some x.1)
     (find text_cmp p (xs ++ ys))) [ true ↦ refl | false ↦ find_behind xs ys p ]
 
--- ---- what is owed at a moment, over the files of the opening
+-- ---- what must hold after an entry, over the files of the opening
 
 abbrev pub is_allowed : Script → Picks → Listed → List ℕ × List ℕ → Bool
 is_allowed w picks os f = is_at (find text_cmp f.0 os) f.1 || is_at (wanted_at w picks f.0) f.1
@@ -69,7 +69,7 @@ is_allowed w picks os f = is_at (find text_cmp f.0 os) f.1 || is_at (wanted_at w
 abbrev pub is_kept : Script → Picks → Listed → List ℕ × List ℕ → Bool
 is_kept w picks vs f = not (keeps_of w picks f.0) || (is_some (wanted_at w picks f.0) || is_at (find text_cmp f.0 vs) f.1)
 
--- by whether the commit has begun and the picks are decided
+-- The test of what readers see, by whether the commit has begun and its attempts are chosen.
 abbrev pub is_viewed : Bool → Script → Listed → Picks → Listed → Bool
 is_viewed false w os picks vs = same_files vs os
 is_viewed true w os picks vs = list_all (is_allowed w picks os) vs && list_all (is_kept w picks vs) os
@@ -84,7 +84,7 @@ says w picks (Some o) = text_eq o.bytes (mark_text w picks)
 abbrev pub marker_in : Saw → Option Object
 marker_in x = find text_cmp (success_key (codes "out")) x.book.objects
 
--- by whether the marker stands
+-- True if the job is complete. The test applies only if `_SUCCESS` exists.
 abbrev pub is_whole : Bool → Script → Listed → Saw → Bool
 is_whole false w os x = true
 is_whole true w os x = is_picked w x.picks && (not (is_clash w x.picks) && (same_files (visible x.book.objects) (done_list w x.picks os) &&
@@ -165,7 +165,7 @@ module _ (w : Script) (to : w.dest ≡ dest) (b : Book) where
             };
       }
 
--- ---- at all moments
+-- ---- after all entries
 
 abbrev pub all_good : Script → Times → Listed → Saw → List Entry → Bool
 all_good w k os x [] = is_good w os x

@@ -1,4 +1,4 @@
--- Journals that show what they should not.
+-- Journals after which readers see the wrong files.
 use Rattle.basics.proofs.Members.{none_some}
 use Rattle.job_examples.proofs.Books.{Book, content_of}
 use Rattle.job_examples.proofs.Checks.{are_ours, objects_at, views, without_files}
@@ -31,7 +31,7 @@ old_is = refl
 abbrev old : Start
 old = record { book = old_book; content = old_opening; starts = old_is }
 
--- what is kept at the end of a journal
+-- What a kept promise means at the end of a journal.
 pub at_end : (s : Start) (w : Script) (k : Times) (es : List Entry) → are_ours es ≡ true → Always w k s.content es
     → Kept w (content_of (without_files s.book)) (seen_of (saw_all w k (opens (without_files s.book)) es))
 at_end s w k es h a =

@@ -1,4 +1,4 @@
--- Ends that are not due.
+-- Wrong ends of operations.
 use Rattle.basics.proofs.Members.{none_some, some_is}
 use Rattle.basics.specs.Order.{text_eq}
 use Rattle.job_examples.proofs.Checks.{objects_at, views}
@@ -54,7 +54,7 @@ both_in a =
 abbrev anew_doing : Doing
 anew_doing = doing ops.Commit 6 None
 
--- what ended in an event that does a whole operation
+-- The operation that ended in an event that does a whole operation.
 ended : (w : Script) (xs : List EventEnd) (journal : List Entry) (j : ℕ) (a : Actor) (op : Op) (end : OpEnd) (d : Doing)
     → slice_get w.events j ≡ Some (Do a op) → slice_get xs j ≡ Some (Ended end)
     → (after_event w (past w (take j xs)) (Do a op) (Ended end)).doing a ≡ Some d
@@ -101,7 +101,7 @@ left_in h =
     ((h 3 revert_doing (commits.StoreFault stages.Complete) revert_entries this).reverted refl none_worn (owns_all half_reverted refl)
     (codes "a") (codes "hello") (files_then nothing half_reverted refl 8 (codes "a")))
 
--- ---- whose want of memory it is
+-- ---- an operation that runs out of memory
 
 abbrev memory : OpEnd
 memory = ends.Clean cleans.NoMemory

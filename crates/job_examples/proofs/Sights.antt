@@ -1,4 +1,4 @@
--- What is seen of a job, over a store as lists.
+-- What a journal shows of a job, over a store as lists.
 use Rattle.job_examples.proofs.Books.{Book, content_of, is_ours, scene_of}
 use Rattle.job_examples.proofs.Checks.{are_ours, effect_is, effect_on, without_files}
 use Rattle.job_examples.proofs.MapLists.{map_of}
@@ -16,7 +16,7 @@ use Rattle.s3_types.specs.declared.request.Request.{Request}
 use Rattle.std.proofs.Common.{Bool, List, None, Option, ap, arith, false, refl, true, ℕ, [], ◌∙◌, ◌∷◌, ◌≡◌}
 use Rattle.std.proofs.lemmas.Bool.{and_parts}
 
--- ---- what is seen
+-- ---- what the journal shows
 
 pub record Saw : Type 0 where
   pub book : Book
@@ -28,7 +28,7 @@ pub record Saw : Type 0 where
 abbrev pub seen_of : Saw → Seen
 seen_of x = record { scene = scene_of x.book; begun = x.begun; last = x.last; picks = x.picks; put_mark = x.put_mark }
 
--- after one more entry, by what is seen in the scene of the book
+-- What it shows after one more entry, by the store as lists.
 abbrev pub saw : Script → Times → Saw → Entry → Saw
 saw w k x e = let s = see w k (seen_of x) e in record {
   book = effect_on x.book e.request e.outcome;
@@ -57,7 +57,7 @@ sees w k x (e ∷ es) h =
     let p = and_parts (is_ours e.request) _ h in
     ap (λ s. see_all w k s es) (sees_by w k x e p.0) ∙ sees w k (saw w k x e) es p.1
 
--- nothing is seen of a store at its opening
+-- What it shows before the first entry.
 abbrev pub opens : Book → Saw
 opens b = record { book = b; begun = false; last = λ t. None; picks = λ t. None; put_mark = false }
 
@@ -65,14 +65,14 @@ pub opens_is : (b : Book) → nothing_seen (content_of (without_files b)) ≡ se
 unfolding map_of content_of
 opens_is b = refl
 
--- ---- what a store holds at the start of a run
+-- ---- a store at the start of a run
 
 pub record Start : Type 0 where
   pub book : Book
   pub content : Content
   pub starts : content_of (without_files book) ≡ content
 
--- the one bucket, with nothing in it, and with one object
+-- The bucket without objects.
 abbrev pub empty_book : Book
 empty_book = record { objects = []; uploads = []; next = 1; files = [] }
 

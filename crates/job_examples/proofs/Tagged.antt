@@ -10,7 +10,7 @@ use Rattle.s3_types.specs.Tags.{Spelled, plain_tag}
 use Rattle.std.proofs.Common.{Bool, List, ap, codes, cond, drop, false, refl, suc, take, true, zero, ℕ, ◌∙◌, ◌≡◌}
 use Rattle.std.specs.Prelude.{slice_index}
 
--- ---- a digest, step by step: as `md5` says it, but that each step is worked out once
+-- ---- a digest, step by step: as in `md5`, but each step is computed once
 
 abbrev turn : List ℕ → ℕ → List ℕ → List ℕ
 turn w t v = round v (step_fn t (slice_index v 1) (slice_index v 2) (slice_index v 3)) (slice_index step_constants t)
@@ -25,7 +25,7 @@ unfolding rounds
 rounds_are v w zero = refl
 rounds_are v w (suc t) = ap (turn w t) (rounds_are v w t)
 
--- the tag of a content of one block, by its digest's words
+-- The tag of a content of one block, by the words of its digest.
 abbrev tagged : List ℕ → Spelled
 tagged v = record { digits = encode_lower (digest_bytes (add_state initial_hash v) 4); parts = 0 }
 
@@ -42,7 +42,7 @@ world_is : plain_tag (codes "world") ≡ world.tag
 unfolding plain_tag md5 hash_after compress digest_bytes block_words encode_with
 world_is = ap tagged (rounds_are initial_hash (words (codes "world")) 64)
 
--- the tag of a content: told where it is one of these two
+-- The tag of a content, known for these two texts.
 abbrev pub told_tag : List ℕ → Spelled
 told_tag bytes = cond (text_eq bytes (codes "hello")) hello_tag (cond (text_eq bytes (codes "world")) world.tag (plain_tag bytes))
 

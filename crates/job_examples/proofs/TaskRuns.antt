@@ -1,4 +1,5 @@
--- Runs of which a last put or a set's put wears out, of tasks that share a path, of a taken partition, and of two attempts of one task.
+-- Runs in which the last put or a set's put runs out of retries, and runs in which two tasks share a path, a partition has a file, or a
+-- task has two attempts.
 use Rattle.basics.proofs.Bools.{not_so}
 use Rattle.basics.proofs.Members.{none_some}
 use Rattle.basics.specs.Parts.{parts_from}
@@ -49,7 +50,7 @@ lost_set =
     let set = object_then nothing lost.journal refl 11 set_key in
     search (set_kept, shows_as nothing lost.journal refl [] refl, set, upload_then nothing lost.journal refl 11 1)
 
--- ---- two tasks that write one path
+-- ---- two tasks that write the same path
 
 shared_kept : Keeps shared.script (commits_at 6) opening shared.journal
 unfolding digits escape_byte
@@ -68,7 +69,7 @@ shared_path =
       live 2,
     )
 
--- ---- a partition that has a file already
+-- ---- a partition that already has a file
 
 opening_is : content_of (book_with (codes "out/d=1/a") taken.old_file) ≡ taken.opening
 unfolding content_of map_of
@@ -98,7 +99,7 @@ attempt_is_read : set_of (compact_text (set_tree two.second_set)) ≡ Ok two.sec
 unfolding parts_from
 attempt_is_read = set_by two.second_set refl
 
--- whatever the events are
+-- The run with any events.
 module _ (events : List Event) (write task commit clean : ℕ) where
   abbrev run : List Entry
   run = two.journal_of write task commit clean
@@ -128,7 +129,7 @@ pub two_attempts : two.TwoAttempts
 unfolding digits escape_byte block_of parts_of
 two_attempts = search (replaces, attempt_is_read)
 
--- ---- the same where the driver is restarted between them
+-- ---- two attempts, where the driver is restarted between them
 
 anew_kept : Keeps anew.script (commits_at 8) opening anew.journal
 unfolding digits escape_byte

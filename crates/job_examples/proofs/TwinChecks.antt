@@ -1,4 +1,4 @@
--- What the definitions of two jobs say of a journal, by tests that compute.
+-- What the definitions for two jobs say about a journal, by tests that compute.
 use Rattle.basics.proofs.Bools.{not_so}
 use Rattle.basics.proofs.Members.{none_some, text_is}
 use Rattle.basics.specs.Members.{IsIn}
@@ -34,7 +34,7 @@ use Rattle.twin_facts.specs.Names.{Ids, IsStranger, named_keys, named_paths, nam
 use Rattle.twin_facts.specs.Sides.{First, Second, Side, TwinEntry, eyes, in_eyes}
 use Rattle.twin_facts.specs.TwinLaws.{Gives, Marked, counted, is_marked_by}
 
--- ---- strangers
+-- ---- requests that name nothing of the other job
 
 abbrev all_free : List ℕ → List (List ℕ) → Bool
 all_free p ks = list_all (λ k. not (begins p k)) ks
@@ -82,7 +82,7 @@ all_strange_so w v mine others (t ∷ ts) h =
     → StrangeBy w v mine others side t.entry.request) [ First ↦ strange_so v others _ | Second ↦ strange_so w mine _ ] in
     (one a.0, all_strange_so w v mine others ts a.1)
 
--- ---- the scene at a moment
+-- ---- the scene after an entry
 
 module _ (w : Script) (k : Times) (side : Side) (mine : ℕ → Bool) where
   twin_scene : (s : Seen) (t : TwinEntry) → (see w k s (in_eyes side t)).scene ≡ effect s.scene t.entry.request t.entry.outcome
@@ -105,16 +105,16 @@ module _ (w : Script) (k : Times) (side : Side) (mine : ℕ → Bool) where
   seen_scene content es m = ap (λ l. (see_all w k (nothing_seen content) (eyes side l)).scene) (take_sided m es) ∙ all_scene (take m es)
       (nothing_seen content)
 
--- ---- at a moment of a run over a bucket with nothing in it
+-- ---- after an entry of a run over an empty bucket
 
--- a side's commit has begun, and the file is its
+-- True if a side's commit has begun and publishes this file.
 abbrev pub gives : Script → Seen → File → Bool
 gives w s f = s.begun && is_at (counted w s.picks f.0) f.1
 
 gives_so : (w : Script) (s : Seen) (p b : List ℕ) → gives w s (p, b) ≡ true → Gives w s p b
 gives_so w s p b h = let a = and_parts s.begun _ h in (a.0, at_is _ b a.1)
 
--- the marker is there, and says so
+-- True if `_SUCCESS` exists with the text for these attempts.
 abbrev pub says_so : Script → Picks → Option Object → Bool
 says_so w picks None = false
 says_so w picks (Some o) = text_eq o.bytes (mark_text w picks)
@@ -124,7 +124,7 @@ said : (w : Script) (picks : Picks) (o : Option Object) → says_so w picks o �
 said w picks None h = absurd (false≢true h)
 said w picks (Some o) h = (o, refl, text_is _ _ h)
 
--- of a side whose marker is the last
+-- The test for the side that put `_SUCCESS` last.
 abbrev pub is_marked_so : Script → Picks → List (List ℕ × Object) → Bool
 is_marked_so w picks os =
     is_picked w picks && (not (is_clash w picks)

@@ -1,4 +1,4 @@
--- Runs of two jobs: of the magic committer, as each of them sees it and by events, and of one whose check finds the other's file.
+-- Runs of two jobs of the magic committer, as each of them sees it and by events, and a run whose check finds the other job's file.
 use Rattle.basics.proofs.Members.{false_true, none_some}
 use Rattle.basics.specs.Parts.{parts_from}
 use Rattle.job_examples.proofs.Kept.{files_then, honours, object_then}
@@ -35,7 +35,7 @@ use Rattle.job_model.specs.declared.ends.CommitEnd.TheVariants as commits
 use Rattle.job_model.specs.declared.ends.OpEnd.TheVariants as ends
 use Rattle.job_examples.specs.Conflict as conflict
 
--- ---- in the eyes of ja
+-- ---- as ja reads it
 
 other_clean : OpFollows (setting ja) Driver (doing ops.Clean 5 None) (by_actor Driver eyes) → ⊥
 unfolding digits
@@ -75,7 +75,7 @@ the_other = search (set_by (set_of (codes "jb") (codes "y") 2) refl, honours not
 
 -- ---- by events
 
--- a marker before its file is told by nobody
+-- The promise refuses `_SUCCESS` before its file.
 wrong_mark : AtMoment ja jb first_times (commits_at 7) opening hasty 22 → ⊥
 unfolding digits escape_byte block_of parts_of
 wrong_mark h =
@@ -105,7 +105,7 @@ two_magic =
       wrong_mark,
     )
 
--- ---- where the check finds the other's file
+-- ---- a check that finds the other job's file
 
 pub found_conflict : conflict.FoundConflict
 unfolding digits escape_byte block_of parts_of

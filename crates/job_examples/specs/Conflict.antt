@@ -1,5 +1,4 @@
--- Two jobs at one destination, of which the first is of the directory committer with the mode fail: the other's file is there before its
--- commit.
+-- Two jobs at one destination. The first has the directory committer and the mode fail. The other job's file exists before its commit.
 use Rattle.job_examples.specs.FourFileLanes.{completes, out}
 use Rattle.job_examples.specs.Jobs.{attempt, commits_at, hello_tag, job, lake, said, setting, worker}
 use Rattle.job_examples.specs.OneFile.{opening}
@@ -34,21 +33,24 @@ use Rattle.twin_facts.specs.TwinLaws.{is_marked_by}
 use Rattle.job_model.specs.declared.events.Op.TheVariants as ops
 use Rattle.job_model.specs.declared.ends.OpEnd.TheVariants as ends
 
+-- The first job, with the file `x`.
 abbrev pub ja : Script
 ja = record (job Directory Fail 1 3 1 (attempt 0 0 ((codes "x", codes "hello") ∷ []) ∷ [])
     (Do Driver ops.Setup ∷ Do worker ops.Write ∷ Do worker ops.Commit ∷ Do Driver ops.Commit ∷ [])) { job = codes "ja" }
 
--- its set tells no sizes
+-- The set of `ja`, which has no sizes.
 abbrev pub the_set : PendingSet
 the_set = record (set_of 0 0 (record (upload hello 0 0 (codes "x") 1) { sizes = None } ∷ [])) { job = codes "ja" }
 
+-- The text of the set.
 abbrev pub bytes : List ℕ
 bytes = compact_text (set_tree the_set)
 
+-- The cluster path of the attempt's temporary file.
 abbrev pub temporary : List ℕ
 temporary = codes "jobs/ja/tmp/0_0.pendingset"
 
--- what is below the destination behind jb's commit
+-- The listing below the destination after jb's commit.
 abbrev pub page : Reply
 page = Page (
     Listed (codes "out/_SUCCESS") (length (mark_bytes (codes "jb") (codes "y")))
@@ -58,7 +60,7 @@ page = Page (
     ∷ Listed (out (codes "y")) 5
     ∷ []) false
 
--- three events of ja, four of jb, and one of ja
+-- The journal: three events of ja, four of jb, and one of ja.
 abbrev pub journal : List Entry
 journal =
     said 1 Driver (HeadObject lake (codes "out")) (Refused NoSuchKey)
@@ -71,31 +73,35 @@ journal =
     ∷ (prepares (codes "jb") (codes "y") 2 4 ++ reads (codes "jb") (codes "y") 2 7 ∷ completes 7 (codes "y") 2 ∷ marks (codes "jb")
     (codes "y") 7 ∷ said 8 Driver (ListPage lake (codes "out/") false [] 1000) page ∷ [])
 
+-- The journal, with the side of each entry.
 abbrev pub entries : List TwinEntry
 entries = sided mine journal
 
+-- Holds if readers see what two jobs promise after the first m entries.
 abbrev pub Stands : ℕ → Type 0
 Stands m = AtMoment ja jb (commits_at 8) (commits_at 7) opening entries m
 
--- ja, whose destination jb shares
+-- What stays the same in the run of ja, whose destination jb shares.
 abbrev pub shared : Setting
 shared = record (setting ja) { shared = true }
 
--- its commit as it begins, with the report of its attempt, and after an answer
+-- The commit of ja as it begins, with the report of its attempt.
 abbrev pub begun : Operation
 begun = commit_of shared (record { missing = None; attempts = who worker ∷ [] })
 
+-- How the commit ends if its first request gets this reply, or none if it goes on.
 abbrev pub told : Reply → Option OpEnd
 told reply = over (tells shared (who Driver) begun (Answered reply))
 
+-- The commit of ja ends with the conflict, and readers see what two jobs promise.
 pub record FoundConflict : Type 0 where
   pub sent : length journal ≡ 21
   pub honest : IsHonest opening journal
   pub apart : AllStrange ja jb drew_first drew_second entries
-  -- it looks at the destination first, and finds jb's file
+  -- The commit checks the destination first, and finds jb's file.
   pub looks : asks shared (who Driver) nothing_learnt begun ≡ Some (ListPage lake (codes "out/") false [] 1000)
   pub found : told page ≡ Some (ends.Check (Conflict (codes "y")))
-  -- none is found where nothing was listed
+  -- It finds none if nothing is listed.
   pub free : (p : List ℕ) → told (Page [] false) ≡ Some (ends.Check (Conflict p)) → ⊥
   pub none : Stands 18
   pub one : Stands 19

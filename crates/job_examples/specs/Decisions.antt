@@ -1,4 +1,4 @@
--- The verdict on runs, and what a restart changes.
+-- The statuses of runs, and what a restart changes.
 use Rattle.job_examples.specs.Jobs.{attempt, done_setup, done_task, job, worker}
 use Rattle.job_model.specs.JobScript.{Script}
 use Rattle.job_model.specs.declared.ends.EventEnd.{EventEnd}
@@ -17,79 +17,79 @@ use Rattle.job_model.specs.declared.ends.OpEnd.TheVariants as ends
 use Rattle.job_model.specs.declared.ends.EventFault.TheVariants as faults
 use Rattle.job_model.specs.declared.states.ActorStage.TheVariants as stage
 
--- one attempt with one file, and these events
+-- A job of one attempt with one file, and these events.
 abbrev pub script : List Event → Script
 script events = job Magic Append 1 3 1 (attempt 0 0 ((codes "part-00000", codes "hello") ∷ []) ∷ []) events
 
--- a set-up that wears out, and then one whose driver is killed in it
+-- A job with a set-up that runs out of retries, and a second one whose driver is killed.
 abbrev pub killed_setup : Script
 killed_setup = script (Do Driver Setup ∷ Start Driver Setup ∷ Kill Driver ∷ [])
 
--- the ends of a set-up that wore out and of one whose driver was killed
+-- The ends of these events.
 abbrev pub killed_setup_ends : List EventEnd
 killed_setup_ends = Ended (ends.Setup setups.StoreFault) ∷ Done ∷ Done ∷ []
 
--- set-up, write, task's commit, job's commit
+-- A job with a set-up, a write, a task's commit and a job's commit.
 abbrev pub whole : Script
 whole = script (Do Driver Setup ∷ Do worker Write ∷ Do worker Commit ∷ Do Driver Commit ∷ [])
 
--- the ends of a whole run, with that of its commit
+-- The ends of its events, the last of which is the end of its commit.
 abbrev pub whole_ends : EventEnd → List EventEnd
 whole_ends end = done_setup ∷ done_task ∷ done_task ∷ end ∷ []
 
--- a set-up that wears out, so that the commit is refused
+-- A job with a set-up that runs out of retries, so that its commit is refused.
 abbrev pub refused_commit : Script
 refused_commit = script (Do Driver Setup ∷ Do Driver Commit ∷ [])
 
--- a driver that is killed in its commit and restarted
+-- A job whose driver is killed in its commit and restarted.
 abbrev pub killed_commit : Script
 killed_commit = script (Do Driver Setup ∷ Do worker Write ∷ Do worker Commit ∷ Start Driver Commit ∷ Kill Driver ∷ Restart ∷ Restart ∷
     Recover worker ∷ Do Driver Commit ∷ Do Driver Abort ∷ [])
 
--- the ends of a run whose driver is killed in its commit and restarted
+-- The ends of its events up to the restart.
 abbrev pub killed_commit_ends : List EventEnd
 killed_commit_ends = done_setup ∷ done_task ∷ done_task ∷ Done ∷ Done ∷ Done ∷ []
 
--- a driver that is killed after a task's commit and restarted
+-- A job whose driver is killed after a task's commit and restarted.
 abbrev pub forgotten : Script
 forgotten = script (Do Driver Setup ∷ Do worker Write ∷ Do worker Commit ∷ Kill Driver ∷ Restart ∷ Do Driver Commit ∷ [])
 
--- the ends of a run whose driver is killed after a task's commit and restarted
+-- The ends of its events up to the restart.
 abbrev pub forgotten_ends : List EventEnd
 forgotten_ends = done_setup ∷ done_task ∷ done_task ∷ Done ∷ Done ∷ []
 
--- the verdict that is due of each of these runs
+-- The status of each of these runs.
 pub record DecidesSo : Type 0 where
-  -- nothing was begun
+  -- Nothing was begun.
   pub nothing : verdict whole [] ≡ 1
-  -- the last set-up that was begun decides, also where it has no end
+  -- The last set-up that was begun decides, even if it has not ended.
   pub worn_setup : verdict killed_setup (Ended (ends.Setup setups.StoreFault) ∷ []) ≡ 8
   pub killed : verdict killed_setup killed_setup_ends ≡ 1
-  -- the commit decides where one was begun
+  -- If a commit was begun, it decides.
   pub committed : verdict whole (whole_ends (Ended (ends.Commit commits.Committed))) ≡ 0
   pub missing : verdict whole (whole_ends (Ended (ends.Commit (commits.Missing 0)))) ≡ 1
   pub no_memory : verdict whole (whole_ends (Ended (ends.Commit commits.NoMemory))) ≡ 9
   pub not_made : verdict whole (whole_ends (Ended ends.NoMemory)) ≡ 9
-  -- a commit that was not reached, or was refused, does not decide
+  -- A commit that was not reached, or was refused, does not decide.
   pub unreached : verdict whole (Ended (ends.Setup setups.StoreFault) ∷ []) ≡ 8
   pub refused : verdict refused_commit (Ended (ends.Setup setups.StoreFault) ∷ Refused faults.NotSet ∷ []) ≡ 8
-  -- one whose driver was killed in it decides, also after a restart
+  -- A commit whose driver was killed decides, even after a restart.
   pub killed_commit : verdict killed_commit killed_commit_ends ≡ 1
 
--- what a restart changes, and what is refused behind it
+-- What a restart changes, and what is refused after it.
 pub record RestartsSo : Type 0 where
-  -- the dead driver is committing; a restart makes it idle and its commit failed, and gives the next number
+  -- The dead driver was committing. The restart makes it idle and its commit failed, and gives the next number.
   pub before : (past killed_commit (done_setup ∷ done_task ∷ done_task ∷ Done ∷ Done ∷ [])).state Driver ≡ dead stage.Committing
   pub after : (past killed_commit killed_commit_ends).state Driver ≡ idle stage.Failed
   pub number : (past killed_commit killed_commit_ends).attempt ≡ 2
-  -- a second restart, a recovery and a second commit are refused, an abort is not
+  -- A second restart, a recovery and a second commit are refused; an abort is not.
   pub again : refusal (past killed_commit killed_commit_ends).state Restart ≡ Some faults.NotDead
   pub recovery : refusal (past killed_commit killed_commit_ends).state (Recover worker) ≡ Some faults.NoRecovery
   pub commit : refusal (past killed_commit killed_commit_ends).state (Do Driver Commit) ≡ Some faults.WrongState
   pub abort : refusal (past killed_commit killed_commit_ends).state (Do Driver Abort) ≡ None
-  -- the first commit stays the job's
+  -- The first commit stays the job's commit.
   pub begun : commit_event killed_commit killed_commit_ends ≡ Some 4
-  -- a report from before a restart does not count, but other stages stay
+  -- A report from before a restart does not count; the stages of the driver and of the attempt stay.
   pub reported : missing forgotten (past forgotten (done_setup ∷ done_task ∷ done_task ∷ Done ∷ [])).reported ≡ None
   pub forgot : missing forgotten (past forgotten forgotten_ends).reported ≡ Some 0
   pub stays : (past forgotten forgotten_ends).state Driver ≡ idle stage.Set

@@ -1,4 +1,4 @@
--- A job of one attempt with four files in lanes: its scripts, the entries of its commits, and what is said of its runs.
+-- A job of one attempt with four files in lanes: its scripts, the entries of its commits, and the claims about its runs.
 use Rattle.basics.specs.Order.{text_eq}
 use Rattle.job_examples.specs.FourFiles.{attempt_entries, of_file, the_set}
 use Rattle.job_examples.specs.Jobs.{attempt, directory, doing, entry, hello_tag, job, lake, said, set_key, setting, worker}
@@ -37,34 +37,34 @@ use Rattle.job_model.specs.declared.ends.OpEnd.TheVariants as ends
 
 -- ---- the job
 
--- the attempt's files
+-- The attempt's files.
 abbrev pub four : List File
 four = (codes "a", codes "hello") ∷ (codes "b", codes "hello") ∷ (codes "c", codes "hello") ∷ (codes "d", codes "hello") ∷ []
 
--- the job's script with so many retries and lanes and these losses
+-- The job's script with these retries, lanes, fates and further events.
 abbrev pub script : ℕ → ℕ → FateMap → List Event → Script
 script retries lanes fates events = record (job Magic Append 1 retries lanes (attempt 0 0 four ∷ [])
     (Do Driver ops.Setup ∷ Do worker ops.Write ∷ Do worker ops.Commit ∷ events)) { fates = fates }
 
 -- ---- keys and records
 
--- the key of a file, and that of its marker, whose record has the suffix `.pending`
+-- The key of a file.
 abbrev pub out : List ℕ → List ℕ
 out name = codes "out/" ++ name
 
--- the key of a file's marker
+-- The key of a file's marker.
 abbrev pub below_attempt : List ℕ → List ℕ
 below_attempt name = directory ++ name
 
--- the key of a file's record
+-- The key of a file's record.
 abbrev pub pending : List ℕ → List ℕ
 pending name = below_attempt (name ++ codes ".pending")
 
--- the text of a file's record
+-- The text of a file's record.
 abbrev pub record_bytes : List ℕ → ℕ → List ℕ
 record_bytes name id = compact_text (pending_tree (of_file name id))
 
--- the text of `_SUCCESS`
+-- The text of `_SUCCESS`.
 abbrev pub mark_bytes : List ℕ
 mark_bytes = compact_text (success_tree (record {
   job = codes "j1";
@@ -74,45 +74,45 @@ mark_bytes = compact_text (success_tree (record {
   stamp = None;
 }))
 
--- ---- of a commit
+-- ---- the entries of a commit
 
--- all up to the driver's read of the set in event k, the sending 26
+-- The entries up to the driver's read of the set in event k, send 26.
 abbrev pub read_entries : ℕ → List Entry
 read_entries k = attempt_entries ++ reads_set k set_key the_set ∷ []
 
--- it completes a file's upload; the reply is lost; a repeated completion finds no upload
+-- The completion of a file's upload.
 abbrev pub completion : List ℕ → ℕ → Request
 completion name id = CompleteUpload lake (out name) id (record { number = 1; tag = hello_tag } ∷ [])
 
--- the completion of a file's upload is answered
+-- The completion of a file's upload is answered.
 abbrev pub completes : ℕ → List ℕ → ℕ → Entry
 completes k name id = said k Driver (completion name id) (Completed (joined_tag (hello_tag ∷ [])))
 
--- the reply to the completion of a file's upload is lost
+-- The reply to the completion of a file's upload is lost.
 abbrev pub loses : ℕ → List ℕ → ℕ → Entry
 loses k name id = entry k Driver (completion name id) ReplyLost
 
--- a repeated completion finds no upload
+-- A repeated completion finds no upload.
 abbrev pub finds_none : ℕ → List ℕ → ℕ → Entry
 finds_none k name id = said k Driver (completion name id) (Refused NoSuchUpload)
 
--- ---- what is said of a run
+-- ---- claims about a run
 
--- after the first m entries the destination shows these files
+-- Holds if readers see exactly these files after the first m entries.
 abbrev pub Shows : Script → List Entry → ℕ → List File → Type 0
 Shows w journal m files = (p : List ℕ) → view w.dest (moment opening journal m).content p ≡ lookup (text_eq p) files
 
--- of these names, each with the bytes `hello`
+-- Files with these names, each with the contents `hello`.
 abbrev pub hellos : List (List ℕ) → List File
 hellos [] = []
 hellos (n ∷ ns) = (n, codes "hello") ∷ hellos ns
 
--- the actor's entries up to event `upto` are what its operation asks, which began in event k, and lead to this end
+-- Holds if the actor's entries up to event `upto` are the requests of its operation, which began in event k, and the operation ends so.
 abbrev pub Goes : Script → List Entry → Actor → Op → ℕ → Option ℕ → ℕ → Option OpEnd → Type 0
 Goes w journal a op k missing upto end = OpFollows (setting w) a (doing op k missing) (by_actor a (until upto journal))
     × (op_over (setting w) a (doing op k missing) (by_actor a (until upto journal)) ≡ end)
 
--- the set-up, the write and the task's commit go so and are done, whatever retries, lanes and later events the job has
+-- The set-up, the write and the task's commit send their requests and are Done, whatever retries, lanes and later events the job has.
 pub record Prepared (w : Script) (journal : List Entry) : Type 0 where
   pub setup : Goes w journal Driver ops.Setup 1 (Some 0) 1 (Some (ends.Setup setups.Done))
   pub write : Goes w journal worker ops.Write 2 (Some 0) 2 (Some (ends.Task tasks.Done))

@@ -1,4 +1,4 @@
--- The run of one attempt with four files whose job's commit is killed after two completions.
+-- The run of one attempt with four files, in which the driver is killed after two completions of its commit.
 use Rattle.job_examples.specs.Jobs.{attempt, commits_at, directory, doing as begun_so, job, lake, set_key, setting, worker}
 use Rattle.job_examples.specs.OneFile.{opening, setup_entries}
 use Rattle.job_examples.specs.Runs.{Goes, Keeps, completes, held, hello, lists, puts_set, reads_record, reads_set, set_of, upload, writes}
@@ -28,26 +28,26 @@ use Rattle.job_model.specs.declared.ends.TaskEnd.TheVariants as tasks
 use Rattle.job_model.specs.declared.ends.OpEnd.TheVariants as ends
 use Rattle.job_model.specs.declared.states.ActorStage.TheVariants as stage
 
--- the job's script
+-- The job's script.
 abbrev pub script : Script
 script = job Magic Append 1 3 1
     (attempt 0 0 ((codes "a", codes "hello") ∷ (codes "b", codes "hello") ∷ (codes "c", codes "hello") ∷ (codes "d", codes "hello") ∷ []) ∷
     [])
     (Do Driver Setup ∷ Do worker Write ∷ Do worker Commit ∷ Start Driver Commit ∷ Step Driver 3 ∷ Kill Driver ∷ [])
 
--- the upload of a file
+-- The upload of a file.
 abbrev pub of_file : List ℕ → ℕ → Pending
 of_file path id = upload hello 0 0 path id
 
--- the task's set
+-- The task's set.
 abbrev pub the_set : PendingSet
 the_set = set_of 0 0 (of_file (codes "a") 1 ∷ of_file (codes "b") 2 ∷ of_file (codes "c") 3 ∷ of_file (codes "d") 4 ∷ [])
 
--- a file's marker and record in the listing of the attempt's directory, behind which others stand
+-- The listing of a file's marker and record, followed by others.
 abbrev pub listed : List ℕ → List PageEntry → List PageEntry
 listed path others = Listed (directory ++ path) 0 ∷ Listed (directory ++ path ++ codes ".pending") 168 ∷ others
 
--- the set-up, and what the attempt sends until its commit has ended
+-- The entries of the set-up, and those of the attempt until the end of its commit.
 abbrev pub attempt_entries : List Entry
 attempt_entries =
     setup_entries
@@ -63,19 +63,19 @@ attempt_entries =
     ∷ puts_set 3 worker set_key the_set
     ∷ []
 
--- the driver reads the set and completes two uploads in the step of its commit
+-- The journal. In the step of its commit the driver reads the set and completes two uploads.
 abbrev pub journal : List Entry
 journal = attempt_entries ++ reads_set 5 set_key the_set ∷ completes 5 (codes "out/a") 1 ∷ completes 5 (codes "out/b") 2 ∷ []
 
--- the ends of the run's events
+-- The ends of the run's events.
 abbrev pub the_ends : List EventEnd
 the_ends = Ended (ends.Setup setups.Done) ∷ Ended (ends.Task tasks.Done) ∷ Ended (ends.Task tasks.Done) ∷ Done ∷ Done ∷ Done ∷ []
 
--- what is seen after the first m entries
+-- What the journal shows after the first m entries.
 abbrev pub at : ℕ → Seen
 at m = seen script (commits_at 4) opening journal m
 
--- the driver is killed behind two completions: two whole files are shown, and no marker
+-- After the driver is killed, readers see two whole files, and there is no `_SUCCESS`.
 pub record FourFiles : Type 0 where
   pub sent : length journal ≡ 28
   pub event : commit_event script the_ends ≡ Some 4
@@ -83,25 +83,25 @@ pub record FourFiles : Type 0 where
   pub setup : Goes script the_ends journal Driver Setup 1 (Some 0) (ends.Setup setups.Done)
   pub write : Goes script the_ends journal worker Write 2 (Some 0) (ends.Task tasks.Done)
   pub task : Goes script the_ends journal worker Commit 3 (Some 0) (ends.Task tasks.Done)
-  -- the commit begins without a request and has three in its step; it follows as far as it went, and is not over
+  -- The commit begins without a request, and sends three in its step. It sends its own requests so far, and is not over.
   pub start : Turns script (past script (take 3 the_ends)).state (Start Driver Commit) Done (of_event 4 journal)
   pub step : Turns script (past script (take 4 the_ends)).state (Step Driver 3) Done (of_event 5 journal)
   pub dies : refusal (past script (take 5 the_ends)).state (Kill Driver) ≡ None
   pub doing : (past script the_ends).doing Driver ≡ Some (begun_so Commit 4 None)
   pub commit : OpFollows (setting script) Driver (begun_so Commit 4 None) (by_actor Driver journal)
   pub unended : op_over (setting script) Driver (begun_so Commit 4 None) (by_actor Driver journal) ≡ None
-  -- it is seen to begin with the read of the set, which picks the attempt
+  -- It begins with the read of the set, which chooses the attempt.
   pub not_begun : (at 25).begun ≡ false
   pub begun : (at 26).begun ≡ true
   pub picked : (at 26).picks 0 ≡ Some 0
-  -- no file is shown until then, and two whole ones at the end, without the marker
+  -- Readers see no file until then, and two whole ones at the end, without `_SUCCESS`.
   pub before : (p : List ℕ) → view script.dest (moment opening journal 26).content p ≡ None
   pub first : view script.dest (moment opening journal 28).content (codes "a") ≡ Some (codes "hello")
   pub second : view script.dest (moment opening journal 28).content (codes "b") ≡ Some (codes "hello")
   pub third : view script.dest (moment opening journal 28).content (codes "c") ≡ None
   pub fourth : view script.dest (moment opening journal 28).content (codes "d") ≡ None
   pub unmarked : object_at (moment opening journal 28).content lake (codes "out/_SUCCESS") ≡ None
-  -- the other two uploads are live
+  -- The other two uploads are live.
   pub third_live : upload_at (moment opening journal 28).content lake 3 ≡ Some (held (codes "c"))
   pub fourth_live : upload_at (moment opening journal 28).content lake 4 ≡ Some (held (codes "d"))
   pub driver : (past script the_ends).state Driver ≡ dead stage.Committing

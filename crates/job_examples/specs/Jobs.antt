@@ -1,4 +1,4 @@
--- The job that the runs are of, and entries of its journals.
+-- The job of these runs, and entries of its journals.
 use Rattle.job_model.specs.Attempts.{Declared}
 use Rattle.job_model.specs.Files.{File}
 use Rattle.job_model.specs.JobScript.{Script, plain_script}
@@ -26,103 +26,103 @@ use Rattle.job_model.specs.declared.ends.SetupEnd.TheVariants as setups
 use Rattle.job_model.specs.declared.ends.TaskEnd.TheVariants as tasks
 use Rattle.job_model.specs.declared.ends.OpEnd.TheVariants as ends
 
--- the bucket
+-- The bucket.
 abbrev pub lake : List ℕ
 lake = codes "lake"
 
--- a job at s3a://lake/out that names no fate
+-- A job at s3a://lake/out that names no fate.
 abbrev pub job : Committer → Mode → ℕ → ℕ → ℕ → List Declared → List Event → Script
 job committer mode tasks retries lanes attempts events =
     record (plain_script (codes "j1") (record { bucket = lake; key = codes "out" }) committer mode tasks)
     { retries = retries; lanes = lanes; attempts = attempts; events = events }
 
--- an attempt that writes files
+-- An attempt with its files.
 abbrev pub attempt : ℕ → ℕ → List File → Declared
 attempt task number files = (record { task = task; attempt = number }, files)
 
--- the attempt 0.0
+-- The attempt 0.0.
 abbrev pub worker : Actor
 worker = Attempt 0 0
 
--- the tag of `hello`
+-- The tag of `hello`.
 abbrev pub hello_tag : Spelled
 hello_tag = record { digits = codes "5d41402abc4b2a76b9719d911017c592"; parts = 0 }
 
--- an entry of the journal
+-- An entry of the journal.
 abbrev pub entry : ℕ → Actor → Request → Outcome → Entry
 entry k a r o = record { event = k; actor = a; request = r; outcome = o }
 
--- an entry that was answered
+-- An answered entry.
 abbrev pub said : ℕ → Actor → Request → Reply → Entry
 said k a r reply = entry k a r (Answered reply)
 
--- the commit is this event of the run, in which no abort or clean is begun
+-- The times of a run whose commit begins in this event, and in which no abort or clean begins.
 abbrev pub commits_at : ℕ → Times
 commits_at k = record { commit = Some k; clean = None }
 
--- the attempt 0.1
+-- The attempt 0.1.
 abbrev pub other : Actor
 other = Attempt 0 1
 
--- the magic directory of the attempt 0.0
+-- The magic directory of the attempt 0.0.
 abbrev pub directory : List ℕ
 directory = codes "out/__magic/job-j1/tasks/0_0/__base/"
 
--- the key of the set of task 0
+-- The key of the set of task 0.
 abbrev pub set_key : List ℕ
 set_key = codes "out/__magic/job-j1/sets/task_0.pendingset"
 
--- what stays while the run goes on
+-- What stays the same during a run.
 abbrev pub setting : Script → Setting
 setting w = record { script = w; minimum = 5242880; shared = false }
 
--- what the driver knows where this task is missing, and where none is: then the one attempt has reported its
+-- The driver's reports if this task is missing, or, if none is, with that of the one attempt.
 abbrev pub told_of : Option ℕ → Reports
 told_of None = record { missing = None; attempts = record { task = 0; attempt = 0 } ∷ [] }
 told_of (Some t) = record { missing = Some t; attempts = [] }
 
--- an operation that this actor began in event k, with these reports
+-- An operation that began in event k with these reports.
 abbrev pub begun_with : Op → ℕ → Reports → Doing
 begun_with op k reports = record { op = op; since = k; reports = reports }
 
--- in which this task was missing
+-- An operation that began in event k, where this task was missing.
 abbrev pub doing : Op → ℕ → Option ℕ → Doing
 doing op k missing = begun_with op k (told_of missing)
 
--- a set-up that is done
+-- The end of a set-up that is Done.
 abbrev pub done_setup : EventEnd
 done_setup = Ended (ends.Setup setups.Done)
 
--- an attempt's operation that is done
+-- The end of an attempt's operation that is Done.
 abbrev pub done_task : EventEnd
 done_task = Ended (ends.Task tasks.Done)
 
--- the ends of the events before the commit
+-- The ends of the events before the commit.
 abbrev pub before_commit : List EventEnd
 before_commit = done_setup ∷ done_task ∷ done_task ∷ []
 
--- ---- what an operation asks for and comes to, over outcomes that are given
+-- ---- the requests and the end of an operation, for given outcomes
 
--- the requests that were asked, one for each outcome
+-- The requests of the operation, one for each outcome.
 abbrev pub asked : Setting → Actor → Running → List Outcome → List (Option Request)
 asked g a m [] = []
 asked g a m (o ∷ os) = wants g a m ∷ asked g a (advance g a m o) os
 
--- what is asked next behind all these
+-- The operation after these outcomes.
 abbrev pub reached : Setting → Actor → Running → List Outcome → Running
 reached g a m [] = m
 reached g a m (o ∷ os) = reached g a (advance g a m o) os
 
--- what an operation asked for, and its end
+-- The requests of an operation, and its end.
 pub record Course : Type 0 where
   pub requests : List (Option Request)
   pub end : Option OpEnd
 
--- what an operation asks over these outcomes, and how it ends
+-- The requests and the end of an operation with these outcomes.
 abbrev pub course_of : Setting → Actor → Running → List Outcome → Course
 course_of g a m os = record { requests = asked g a m os; end = over (reached g a m os).operation }
 
--- what an operation asks from its beginning over these outcomes, and how it ends
+-- The requests and the end of an operation from its beginning, with these outcomes.
 abbrev pub course : Setting → Actor → Option Operation → Known → List Outcome → Course
 course g a None k os = record { requests = []; end = None }
 course g a (Some op) k os = course_of g a (record { operation = op; known = k }) os

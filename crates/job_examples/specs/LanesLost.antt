@@ -1,4 +1,4 @@
--- Four files in two lanes: the reply to the first completion is lost, and the commit ends all the same.
+-- Four files in two lanes. The reply to the first completion is lost, and the commit ends with Committed all the same.
 use Rattle.job_examples.specs.FourFileLanes.{Goes, Prepared, Shows, completes, finds_none, hellos, loses, mark_bytes, read_entries}
 use Rattle.job_examples.specs.Jobs.{before_commit, commits_at, lake}
 use Rattle.job_examples.specs.OneFile.{opening}
@@ -27,30 +27,30 @@ use Rattle.job_model.specs.declared.ends.CommitEnd.TheVariants as commits
 use Rattle.job_model.specs.declared.ends.OpEnd.TheVariants as ends
 use Rattle.job_examples.specs.FourFileLanes as files
 
--- the reply of the sending 27 is lost
+-- The job's script. The reply to send 27 is lost.
 abbrev pub script : Script
 script = files.script 3 2 (fin.insert fin.empty 27 After) (Do Driver ops.Commit ∷ [])
 
--- the lanes are a and c, b and d: the lost completion is sent again at its lane's next turn
+-- The journal. The lanes are a and c, b and d. The lost completion is sent again at its lane's next turn.
 abbrev pub journal : List Entry
 journal =
     read_entries 4
     ++ loses 4 (codes "a") 1 ∷ completes 4 (codes "b") 2 ∷ finds_none 4 (codes "a") 1 ∷ completes 4 (codes "d") 4 ∷ completes 4 (codes "c")
     3 ∷ puts 4 Driver (codes "out/_SUCCESS") mark_bytes ∷ []
 
--- the ends of the run's events
+-- The ends of the run's events.
 abbrev pub the_ends : List EventEnd
 the_ends = before_commit ++ Ended (ends.Commit commits.Committed) ∷ []
 
--- what is seen after the first m entries
+-- What the journal shows after the first m entries.
 abbrev pub at : ℕ → Seen
 at m = seen script (commits_at 4) opening journal m
 
--- the object at the key of the marker after the first m entries
+-- The object at the key of `_SUCCESS` after the first m entries.
 abbrev pub marker_at : ℕ → Option Object
 marker_at m = object_at (moment opening journal m).content lake (codes "out/_SUCCESS")
 
--- the commit ends committed, with all four files
+-- The commit ends with Committed, with all four files.
 pub record LanesLost : Type 0 where
   pub sent : length journal ≡ 32
   pub always : Always script (commits_at 4) opening journal
@@ -59,7 +59,7 @@ pub record LanesLost : Type 0 where
   pub outside : OutsideStays script opening journal
   pub prepared : Prepared script journal
   pub commit : Goes script journal Driver ops.Commit 4 None 4 (Some (ends.Commit commits.Committed))
-  -- no request wears out, so it is due that the job is committed; its marker was answered
+  -- No request runs out of retries, so the resulting end is Committed. The put of `_SUCCESS` is answered.
   pub worn : first_worn 3 (since 4 (by_actor Driver journal)) ≡ None
   pub due : commit_due script (at 32).picks None (first_worn 3 (since 4 (by_actor Driver journal))) ≡ commits.Committed
   pub answered : is_mark_answered script (since 4 (by_actor Driver journal)) ≡ true
@@ -68,7 +68,7 @@ pub record LanesLost : Type 0 where
   pub picked : (at 26).picks 0 ≡ Some 0
   pub unmarked : (at 31).put_mark ≡ false
   pub marked : (at 32).put_mark ≡ true
-  -- the files come in the order of the lanes' turns, and the marker stands over all four
+  -- The files appear in the order of the lanes' turns, and `_SUCCESS` comes after all four.
   pub none : Shows script journal 26 []
   pub one : Shows script journal 27 (hellos (codes "a" ∷ []))
   pub two : Shows script journal 28 (hellos (codes "a" ∷ codes "b" ∷ []))

@@ -1,4 +1,4 @@
--- Four files in one lane: the second completion takes effect and its reply is lost, so it wears out, and the commit is reverted.
+-- Four files in one lane. The second completion takes effect, but its reply is lost; so it runs out of retries, and the commit reverts.
 use Rattle.job_examples.specs.FourFileLanes.{Goes, Prepared, Shows, completes, completion, hellos, loses, out, read_entries}
 use Rattle.job_examples.specs.Jobs.{before_commit, commits_at, lake, said}
 use Rattle.job_examples.specs.OneFile.{opening}
@@ -28,11 +28,11 @@ use Rattle.job_model.specs.declared.ends.Stage.TheVariants as stages
 use Rattle.job_model.specs.declared.ends.OpEnd.TheVariants as ends
 use Rattle.job_examples.specs.FourFileLanes as files
 
--- no request is sent again, and the reply of the sending 28 is lost
+-- The job's script. No request is sent again, and the reply to send 28 is lost.
 abbrev pub script : Script
 script = files.script 0 1 (fin.insert fin.empty 28 After) (Do Driver ops.Commit ∷ [])
 
--- the upload of b is gone, its file is deleted, then that of a, and the uploads of c and d are aborted
+-- The journal. The upload of b is gone; the files of b and of a are deleted, and the uploads of c and d aborted.
 abbrev pub journal : List Entry
 journal =
     read_entries 4
@@ -45,15 +45,15 @@ journal =
     ∷ said 4 Driver (AbortUpload lake (out (codes "d")) 4) Aborted
     ∷ []
 
--- the ends of the run's events
+-- The ends of the run's events.
 abbrev pub the_ends : List EventEnd
 the_ends = before_commit ++ Ended (ends.Commit (commits.StoreFault stages.Complete)) ∷ []
 
--- what is seen after the first m entries
+-- What the journal shows after the first m entries.
 abbrev pub at : ℕ → Seen
 at m = seen script (commits_at 4) opening journal m
 
--- the commit is reverted, and nothing is shown
+-- The commit reverts, and readers see no file.
 pub record LanesReverted : Type 0 where
   pub sent : length journal ≡ 33
   pub always : Always script (commits_at 4) opening journal
@@ -62,17 +62,17 @@ pub record LanesReverted : Type 0 where
   pub outside : OutsideStays script opening journal
   pub prepared : Prepared script journal
   pub commit : Goes script journal Driver ops.Commit 4 None 4 (Some (ends.Commit (commits.StoreFault stages.Complete)))
-  -- the second completion wears out, and its stage is the end that is due
+  -- The second completion runs out of retries, and the resulting end is StoreFault of its stage.
   pub worn : first_worn 0 (since 4 (by_actor Driver journal)) ≡ Some (completion (codes "b") 2)
   pub due : commit_due script (at 33).picks None (first_worn 0 (since 4 (by_actor Driver journal))) ≡ commits.StoreFault stages.Complete
   pub verdict : verdict script the_ends ≡ 8
-  -- the commit begins with the read, which picks the attempt; no marker is put
+  -- The commit begins with the read of the set, which chooses the attempt. `_SUCCESS` is never put.
   pub not_begun : (at 25).begun ≡ false
   pub begun : (at 26).begun ≡ true
   pub unpicked : (at 25).picks 0 ≡ None
   pub picked : (at 26).picks 0 ≡ Some 0
   pub unmarked : (at 33).put_mark ≡ false
-  -- a is shown with its completion and b with the lost one; the revert hides b and then a
+  -- Readers see a after its completion, and b after the lost one. The revert hides b and then a.
   pub none : Shows script journal 26 []
   pub one : Shows script journal 27 (hellos (codes "a" ∷ []))
   pub two : Shows script journal 28 (hellos (codes "a" ∷ codes "b" ∷ []))

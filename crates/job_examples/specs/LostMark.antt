@@ -1,4 +1,5 @@
--- The run of one file in which both sendings of the last put lose their replies: the commit ends at fault, the file and the marker stand.
+-- The run of one file in which both sends of the last put lose their replies. The commit ends with StoreFault, but the file and `_SUCCESS`
+-- exist.
 use Rattle.job_examples.specs.Jobs.{before_commit, commits_at, doing, entry, lake}
 use Rattle.job_examples.specs.OneFile.{attempt_entries, opening, the_completion, the_mark, the_read}
 use Rattle.job_model.specs.JobScript.{Script}
@@ -29,34 +30,34 @@ use Rattle.job_model.specs.declared.ends.Stage.TheVariants as stages
 use Rattle.job_model.specs.declared.ends.OpEnd.TheVariants as ends
 use Rattle.job_examples.specs.OneFile as one
 
--- each request may be sent twice, and the replies of the sendings 13 and 14 are lost
+-- The job's script. Each request may be sent twice, and the replies to sends 13 and 14 are lost.
 abbrev pub script : Script
 script = record one.script { retries = 1; fates = fin.insert (fin.insert fin.empty 13 After) 14 After }
 
--- a put of the marker whose reply is lost
+-- A put of `_SUCCESS` whose reply is lost.
 abbrev pub lost_put : Entry
 lost_put = entry 4 Driver (PutObject lake (codes "out/_SUCCESS") (compact_text (success_tree the_mark)) None) ReplyLost
 
--- the run's journal
+-- The run's journal.
 abbrev pub journal : List Entry
 journal = attempt_entries ++ the_read ∷ the_completion 4 ∷ lost_put ∷ lost_put ∷ []
 
--- the ends of the run's events
+-- The ends of the run's events.
 abbrev pub the_ends : List EventEnd
 the_ends = before_commit ++ Ended (ends.Commit (commits.StoreFault stages.Success)) ∷ []
 
--- what stays while the run goes on
+-- What stays the same during the run.
 abbrev pub setting : Setting
 setting = record { script = script; minimum = 5242880; shared = false }
 
--- the commit is at fault, and the file and the marker stand
+-- The commit ends with StoreFault, but the file and `_SUCCESS` exist.
 pub record LostMark : Type 0 where
-  -- at each moment a reader is shown what he may rely on: the marker stands from the thirteenth sending on, and with it the whole file
+  -- After each entry readers see what they may rely on. From send 13 on `_SUCCESS` exists, and with it the whole file.
   pub always : Always script (commits_at 4) opening journal
   pub honest : IsHonest opening journal
   pub zero_rename : ZeroRename script opening journal
   pub outside : OutsideStays script opening journal
-  -- the put wears out with its second sending, and its stage is the end that is due
+  -- The put runs out of retries with its second send, and the resulting end is StoreFault of its stage.
   pub follows : OpFollows setting Driver (doing ops.Commit 4 None) (by_actor Driver journal)
   pub over : op_over setting Driver (doing ops.Commit 4 None) (by_actor Driver journal) ≡ Some
       (ends.Commit (commits.StoreFault stages.Success))

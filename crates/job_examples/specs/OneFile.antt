@@ -37,12 +37,12 @@ use Rattle.job_model.specs.declared.ends.CommitEnd.TheVariants as commits
 use Rattle.job_model.specs.declared.ends.OpEnd.TheVariants as ends
 use Rattle.std.specs.FinMap as fin
 
--- the job's script
+-- The job's script.
 abbrev pub script : Script
 script = job Magic Append 1 3 1 (attempt 0 0 ((codes "part-00000", codes "hello") ∷ []) ∷ [])
     (Do Driver Setup ∷ Do worker Write ∷ Do worker Commit ∷ Do Driver Commit ∷ [])
 
--- the upload's record, the task's set and the job's marker
+-- The record of the upload.
 abbrev pub the_record : Pending
 the_record = record {
   task = 0;
@@ -56,15 +56,15 @@ the_record = record {
   sizes = Some (5 ∷ []);
 }
 
--- the task's set
+-- The task's set.
 abbrev pub the_set : PendingSet
 the_set = record { job = codes "j1"; task = 0; attempt = 0; commits = the_record ∷ [] }
 
--- what `_SUCCESS` says
+-- The contents of `_SUCCESS`.
 abbrev pub the_mark : SuccessMark
 the_mark = record { job = codes "j1"; committer = Magic; files = codes "part-00000" ∷ []; stamp = None }
 
--- the entries of the set-up
+-- The entries of the set-up.
 abbrev pub setup_entries : List Entry
 setup_entries =
     said 1 Driver (HeadObject lake (codes "out")) (Refused NoSuchKey)
@@ -72,16 +72,16 @@ setup_entries =
     ∷ said 1 Driver (ListPage lake (codes "out/__magic/job-j1/") false [] 1000) (Page [] false)
     ∷ []
 
--- the entries of the write
+-- The entries of the write.
 abbrev pub write_entries : List Entry
 write_entries = writes hello 2 worker directory (codes "part-00000") the_record
 
--- the attempt's put of its task's set
+-- The attempt's put of its task's set.
 abbrev pub the_publishing : Entry
 the_publishing = said 3 worker (PutObject lake (codes "out/__magic/job-j1/sets/task_0.pendingset") (compact_text (set_tree the_set)) None)
     (Stored (plain_tag (compact_text (set_tree the_set))))
 
--- the entries of the task's commit
+-- The entries of the task's commit.
 abbrev pub task_entries : List Entry
 task_entries =
     lists 3 worker directory (Listed (directory ++ codes "part-00000") 0 ∷ Listed (directory ++ codes "part-00000.pending") 177 ∷ [])
@@ -89,83 +89,83 @@ task_entries =
     ∷ the_publishing
     ∷ []
 
--- all that comes before the job's commit
+-- The entries before the job's commit.
 abbrev pub attempt_entries : List Entry
 attempt_entries = setup_entries ++ write_entries ++ task_entries
 
--- the commit's read of the set, its completion of the upload and its put of the marker
+-- The driver's read of the set.
 abbrev pub the_read : Entry
 the_read = said 4 Driver (GetObject lake (codes "out/__magic/job-j1/sets/task_0.pendingset"))
     (Object (compact_text (set_tree the_set)) None)
 
--- the completion of the upload
+-- The completion of the upload.
 abbrev pub the_completion : ℕ → Entry
 the_completion k = said k Driver (CompleteUpload lake (codes "out/part-00000") 1 (record { number = 1; tag = hello_tag } ∷ []))
     (Completed (joined_tag (hello_tag ∷ [])))
 
--- the put of `_SUCCESS`
+-- The put of `_SUCCESS`.
 abbrev pub the_marking : Entry
 the_marking = said 4 Driver (PutObject lake (codes "out/_SUCCESS") (compact_text (success_tree the_mark)) None)
     (Stored (plain_tag (compact_text (success_tree the_mark))))
 
--- the entries of the job's commit
+-- The entries of the job's commit.
 abbrev pub commit_entries : List Entry
 commit_entries = the_read ∷ the_completion 4 ∷ the_marking ∷ []
 
--- the run's journal
+-- The run's journal.
 abbrev pub journal : List Entry
 journal = setup_entries ++ write_entries ++ task_entries ++ commit_entries
 
--- what stays while the run goes on
+-- What stays the same during the run.
 abbrev pub setting : Setting
 setting = record { script = script; minimum = 5242880; shared = false }
 
--- the actor's entries up to its event are what its operation asks, and lead to this end
+-- Holds if the actor's entries up to its event are the requests of its operation, and the operation ends so.
 abbrev pub Goes : Actor → Op → ℕ → Option ℕ → OpEnd → Type 0
 Goes a op k missing end = OpFollows setting a (doing op k missing) (by_actor a (until k journal))
     × (op_over setting a (doing op k missing) (by_actor a (until k journal)) ≡ Some end)
 
--- each operation asks what it should, and ends so
+-- Each operation sends its requests and ends as it must.
 pub record OneFileRuns : Type 0 where
   pub setup : Goes Driver Setup 1 (Some 0) (ends.Setup setups.Done)
   pub write : Goes worker Write 2 (Some 0) (ends.Task tasks.Done)
   pub task : Goes worker Commit 3 (Some 0) (ends.Task tasks.Done)
   pub commit : Goes Driver Commit 4 None (ends.Commit commits.Committed)
 
--- the store at the start: the bucket alone
+-- The store at the start: only the bucket.
 abbrev pub opening : Content
 opening = record { buckets = fin.insert fin.empty lake new_bucket; next = 1; minimum = 5242880 }
 
--- what is seen after the first m entries
+-- What the journal shows after the first m entries.
 abbrev pub at : ℕ → Seen
 at m = seen script (commits_at 4) opening journal m
 
--- what is seen where the job's entries are told as a stranger's
+-- What it shows if all entries belong to another job.
 abbrev pub strange : ℕ → Seen
 strange m = seen script (commits_at 4) opening (in_eyes (λ n. false) journal) m
 
--- what is seen at each moment
+-- What the journal shows after each entry.
 pub record OneFileSeen : Type 0 where
-  -- the commit begins with the read of the set, the eleventh entry
+  -- The commit begins with the read of the set, the eleventh entry.
   pub not_begun : (at 10).begun ≡ false
   pub begun : (at 11).begun ≡ true
-  -- the attempt publishes with the tenth, and is picked by the eleventh
+  -- The attempt publishes with the tenth entry, and is chosen by the eleventh.
   pub unpublished : (at 9).last 0 ≡ None
   pub published : (at 10).last 0 ≡ Some 0
   pub unpicked : (at 10).picks 0 ≡ None
   pub picked : (at 11).picks 0 ≡ Some 0
   pub undecided : is_decided script (at 10).picks ≡ false
   pub decided : is_decided script (at 11).picks ≡ true
-  -- its file alone is wanted, and all opening files are kept
+  -- Only its file is written, and all opening files are kept.
   pub wanted : wanted_at script (at 11).picks (codes "part-00000") ≡ Some (codes "hello")
   pub unwanted : wanted_at script (at 11).picks (codes "other") ≡ None
   pub kept : keeps_of script (at 11).picks (codes "other") ≡ true
-  -- the marker is put by the last entry, and the end is the one that is due
+  -- The last entry puts `_SUCCESS`. Without a missing task the end is Committed, and otherwise Missing.
   pub unmarked : (at 12).put_mark ≡ false
   pub marked : (at 13).put_mark ≡ true
   pub due : commit_due script (at 13).picks None None ≡ commits.Committed
   pub due_missing : commit_due script (at 13).picks (Some 0) None ≡ commits.Missing 0
-  -- of a stranger's entries nothing is seen but the store
+  -- Entries of another job change only the store.
   pub no_commit : (strange 13).begun ≡ false
   pub no_publisher : (strange 13).last 0 ≡ None
   pub no_mark : (strange 13).put_mark ≡ false

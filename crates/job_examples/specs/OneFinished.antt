@@ -11,16 +11,16 @@ use Rattle.job_model.specs.declared.ends.TaskEnd.TheVariants as tasks
 use Rattle.job_model.specs.declared.ends.CommitEnd.TheVariants as commits
 use Rattle.job_model.specs.declared.ends.OpEnd.TheVariants as ends
 
--- the ends of the run's events
+-- The ends of the run's events.
 abbrev pub the_ends : List EventEnd
 the_ends = Ended (ends.Setup setups.Done) ∷ Ended (ends.Task tasks.Done) ∷ Ended (ends.Task tasks.Done) ∷ Ended
     (ends.Commit commits.Committed) ∷ []
 
--- the picks that are told
+-- The reported attempts.
 abbrev pub the_picks : List Pick
 the_picks = record { task = 0; attempt = 0 } ∷ []
 
--- the run is finished, with verdict 0
+-- The run is finished, with status 0.
 pub record OneFileFinished : Type 0 where
   pub finished : Finished script opening journal the_picks the_ends
   pub verdict : verdict script the_ends ≡ 0

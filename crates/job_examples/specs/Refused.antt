@@ -1,4 +1,4 @@
--- Journals that a job's promise refuses, each by the part of it that is named.
+-- Journals that a job's promise refuses. The name of each tells the broken part.
 use Rattle.job_examples.specs.Jobs.{before_commit, commits_at, lake, said}
 use Rattle.job_examples.specs.OneFile.{attempt_entries, opening, script, setup_entries, the_completion, the_marking, the_read}
 use Rattle.job_examples.specs.OneFile.{write_entries}
@@ -14,31 +14,31 @@ use Rattle.s3_types.specs.declared.request.Request.TheVariants.{DeleteObject, Pu
 use Rattle.std.specs.Prelude.{List, None, codes, ℕ, [], ◌++◌, ◌∷◌}
 use Rattle.std.specs.FinMap as fin
 
--- the driver puts an object while its commit goes on
+-- The driver puts an object during its commit.
 abbrev pub puts : List ℕ → List ℕ → Entry
 puts key bytes = said 4 Driver (PutObject lake key bytes None) (Stored (plain_tag bytes))
 
--- a foreign file stands at the destination after the commit has begun
+-- A foreign file exists at the destination after the commit has begun.
 abbrev pub foreign : List Entry
 foreign = attempt_entries ++ the_read ∷ puts (codes "out/other") (codes "hello") ∷ []
 
--- the file of the pick is torn
+-- The file of the chosen attempt is torn.
 abbrev pub torn : List Entry
 torn = attempt_entries ++ the_read ∷ puts (codes "out/part-00000") (codes "hel") ∷ []
 
--- the driver completes the upload in an event before that of its commit
+-- The driver completes the upload in an event before its commit.
 abbrev pub early : List Entry
 early = setup_entries ++ write_entries ++ the_completion 3 ∷ []
 
--- its commit completes the upload before it has read the set
+-- The commit completes the upload before it has read the set.
 abbrev pub unread : List Entry
 unread = attempt_entries ++ the_completion 4 ∷ []
 
--- the marker is put while the file is not there
+-- The driver puts `_SUCCESS`, and the file does not exist.
 abbrev pub marked_early : List Entry
 marked_early = attempt_entries ++ the_read ∷ the_marking ∷ []
 
--- a store that shows one file already
+-- A store in which readers already see one file.
 abbrev pub old_opening : Content
 old_opening = record {
   buckets = fin.insert fin.empty lake (record {
@@ -50,11 +50,11 @@ old_opening = record {
   minimum = 5242880;
 }
 
--- a kept file is gone, in the mode append
+-- A file that the mode append keeps is gone.
 abbrev pub kept_gone : List Entry
 kept_gone = attempt_entries ++ the_read ∷ said 4 Driver (DeleteObject lake (codes "out/old")) Deleted ∷ []
 
--- none of these is what a reader may rely on, so none is promised, whatever picks are told
+-- Each of these journals breaks what readers may rely on.
 pub record Misshown : Type 0 where
   pub foreign : Always script (commits_at 4) opening foreign → ⊥
   pub torn : Always script (commits_at 4) opening torn → ⊥
@@ -63,7 +63,7 @@ pub record Misshown : Type 0 where
   pub marked_early : Always script (commits_at 4) opening marked_early → ⊥
   pub kept_gone : Always script (commits_at 4) old_opening kept_gone → ⊥
 
--- no such run is promised, whatever picks are told
+-- No such run is promised, whatever attempts are reported as chosen.
 pub record MisshownRuns : Type 0 where
   pub foreign : (ps : List Pick) → Promised script opening foreign ps before_commit → ⊥
   pub torn : (ps : List Pick) → Promised script opening torn ps before_commit → ⊥

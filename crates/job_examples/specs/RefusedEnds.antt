@@ -1,4 +1,4 @@
--- Ends that are not those that are due, and a run that shows two attempts of one task.
+-- Wrong ends of operations, and a run after which readers see the files of two attempts of one task.
 use Rattle.job_examples.specs.Jobs.{attempt, commits_at, done_setup, done_task, entry, hello_tag, job, lake, other, said, worker}
 use Rattle.job_examples.specs.OneFile.{attempt_entries, journal, opening, setting}
 use Rattle.job_examples.specs.OneFinished.{the_ends}
@@ -31,28 +31,28 @@ use Rattle.job_model.specs.declared.ends.CleanEnd.TheVariants as cleans
 use Rattle.job_model.specs.declared.ends.Stage.TheVariants as stages
 use Rattle.job_model.specs.declared.ends.OpEnd.TheVariants as ends
 
--- an upload of `hello` by an attempt, and its completion by the driver
+-- The creation of an upload of `hello` by an attempt, and its part.
 abbrev pub drafts : ℕ → Actor → List ℕ → ℕ → List Entry
 drafts k a key id = said k a (CreateUpload lake key) (Upload id) ∷ said k a (UploadPart lake key id 1 (codes "hello")) (Part hello_tag) ∷ []
 
 -- ---- two attempts of one task
 
--- the script of two attempts of one task
+-- The script of two attempts of one task.
 abbrev pub both_script : Script
 both_script = job Magic Append 1 3 1
     (attempt 0 0 ((codes "a", codes "hello") ∷ []) ∷ attempt 0 1 ((codes "b", codes "hello") ∷ []) ∷ [])
     (Do Driver ops.Setup ∷ Do worker ops.Write ∷ Do worker ops.Commit ∷ Do other ops.Write ∷ Do other ops.Commit ∷ Do Driver ops.Commit ∷
     [])
 
--- the second attempt's set
+-- The second attempt's set.
 abbrev pub b_set : PendingSet
 b_set = set_of 0 1 (upload hello 0 1 (codes "b") 2 ∷ [])
 
--- what `_SUCCESS` says of the second attempt
+-- The contents of `_SUCCESS` for the second attempt.
 abbrev pub b_mark : SuccessMark
 b_mark = record { job = codes "j1"; committer = Magic; files = codes "b" ∷ []; stamp = None }
 
--- both attempts publish, the driver reads the set of the later one, completes the uploads of both and puts the marker
+-- Both attempts publish. The driver reads the set of the later one, completes the uploads of both and puts `_SUCCESS`.
 abbrev pub both_attempts : List Entry
 both_attempts =
     drafts 2 worker (codes "out/a") 1
@@ -68,12 +68,12 @@ both_attempts =
 
 -- ---- a revert
 
--- no request is sent again, and the job's commit is the event 4
+-- The job's script. No request is sent again, and the job's commit is event 4.
 abbrev pub revert_script : Script
 revert_script = job Magic Append 1 0 1 (attempt 0 0 ((codes "a", codes "hello") ∷ (codes "b", codes "hello") ∷ []) ∷ [])
     (Do Driver ops.Setup ∷ Do worker ops.Write ∷ Do worker ops.Commit ∷ Do Driver ops.Commit ∷ [])
 
--- `out/a` is completed, the completion of `out/b` is lost, and its revert leaves out the deletion of `out/a`
+-- `out/a` is completed, the reply to the completion of `out/b` is lost, and the revert leaves out the deletion of `out/a`.
 abbrev pub half_reverted : List Entry
 half_reverted =
     drafts 2 worker (codes "out/a") 1
@@ -84,36 +84,36 @@ half_reverted =
     ∷ said 4 Driver (DeleteObject lake (codes "out/b")) Deleted
     ∷ []
 
--- the ends of a run whose commit is reverted
+-- The ends of a run whose commit reverts.
 abbrev pub revert_ends : List EventEnd
 revert_ends = done_setup ∷ done_task ∷ done_task ∷ Ended (ends.Commit (commits.StoreFault stages.Complete)) ∷ []
 
 -- ---- a task that is reported after a restart
 
--- the script in which a task is reported behind the restart
+-- The script in which a task is reported after the restart.
 abbrev pub anew_script : Script
 anew_script = job Magic Append 1 3 1 (attempt 0 0 ((codes "part-00000", codes "hello") ∷ []) ∷ [])
     (Do Driver ops.Setup ∷ Do worker ops.Write ∷ Kill Driver ∷ Restart ∷ Do worker ops.Commit ∷ Do Driver ops.Commit ∷ [])
 
--- the new driver's commit misses the task all the same
+-- The ends of its events, where the new driver's commit misses the task all the same.
 abbrev pub anew_ends : List EventEnd
 anew_ends = done_setup ∷ done_task ∷ Done ∷ Done ∷ done_task ∷ Ended (ends.Commit (commits.Missing 0)) ∷ []
 
--- ---- whose want of memory it is
+-- ---- an operation that runs out of memory
 
--- the fourth event, the driver's commit, is told to have ended as a clean that found no memory
+-- The ends where the fourth event, the driver's commit, is reported to end as a clean that ran out of memory.
 abbrev pub strange_ends : List EventEnd
 strange_ends = done_setup ∷ done_task ∷ done_task ∷ Ended (ends.Clean cleans.NoMemory) ∷ []
 
--- no such end is due
+-- None of these is the resulting end.
 pub record Misended : Type 0 where
-  -- the marker stands over the files of two attempts of one task
+  -- `_SUCCESS` exists with the files of two attempts of one task.
   pub both : Always both_script (commits_at 6) opening both_attempts → ⊥
-  -- an upload that a revert leaves completed
+  -- A revert leaves an upload completed.
   pub left : CommitsEnd revert_script opening half_reverted revert_ends → ⊥
-  -- a task is missing that was reported after the restart
+  -- A task is missing that was reported after the restart.
   pub anew : CommitsEnd anew_script opening [] anew_ends → ⊥
-  -- an end stands behind that of the last event
+  -- There is one more end after that of the last event.
   pub beyond : Plays setting (the_ends ++ Done ∷ []) journal → ⊥
-  -- a job's commit that found no memory is told as a clean that found none
+  -- A job's commit that ran out of memory is reported as a clean that did.
   pub strange : Plays setting strange_ends attempt_entries → ⊥

@@ -1,4 +1,4 @@
--- Four files, and a driver that is killed in its commit after two whole files and restarted: its abort leaves these two and no live upload.
+-- Four files. The driver is killed in its commit after two whole files and restarted. Its abort leaves these two files and no live upload.
 use Rattle.basics.specs.Order.{text_eq}
 use Rattle.job_examples.specs.FourFileLanes.{Goes, Prepared, Shows, below_attempt, completes, hellos, out, pending, read_entries}
 use Rattle.job_examples.specs.FourFiles.{the_set}
@@ -33,12 +33,12 @@ use Rattle.job_model.specs.declared.ends.EventFault.TheVariants as faults
 use Rattle.job_model.specs.declared.states.ActorStage.TheVariants as stage
 use Rattle.job_examples.specs.FourFileLanes as files
 
--- three retries are the default, and one lane
+-- The job's script, with three retries and one lane, as by default.
 abbrev pub script : Script
 script = files.script 3 1 fin.empty (Start Driver ops.Commit ∷ Step Driver 3 ∷ Kill Driver ∷ Restart ∷ Do Driver ops.Commit ∷ Do Driver
     ops.Abort ∷ Restart ∷ Recover worker ∷ [])
 
--- what stands below the job's magic directory
+-- The keys below the job's magic directory.
 abbrev pub magic_keys : List (List ℕ)
 magic_keys =
     set_key
@@ -48,7 +48,7 @@ magic_keys =
     ∷ below_attempt (codes "d") ∷ pending (codes "d")
     ∷ []
 
--- the abort is event 9: the two live uploads are aborted, and the magic directory is emptied
+-- The entries of the abort, event 9. It aborts the two live uploads and empties the magic directory.
 abbrev pub abort_entries : List Entry
 abort_entries =
     said 9 Driver (ListUploads lake (codes "out/") None 1000) (Uploads
@@ -65,32 +65,32 @@ abort_entries =
     ∷ said 9 Driver (DeleteObjects lake magic_keys) Deleted
     ∷ []
 
--- the run's journal
+-- The run's journal.
 abbrev pub journal : List Entry
 journal = read_entries 5 ++ completes 5 (codes "a") 1 ∷ completes 5 (codes "b") 2 ∷ abort_entries
 
--- up to the restart, and all
+-- The ends of the events up to the restart.
 abbrev pub restart_ends : List EventEnd
 restart_ends = before_commit ++ Done ∷ Done ∷ Done ∷ Done ∷ []
 
--- the ends of the events up to the abort
+-- The ends of the events up to the abort.
 abbrev pub abort_ends : List EventEnd
 abort_ends = restart_ends ++ Refused faults.WrongState ∷ Ended (ends.Clean cleans.Done) ∷ []
 
--- the ends of the run's events
+-- The ends of the run's events.
 abbrev pub the_ends : List EventEnd
 the_ends = abort_ends ++ Refused faults.NotDead ∷ Refused faults.NoRecovery ∷ []
 
--- what is seen after the first m entries
+-- What the journal shows after the first m entries.
 abbrev pub at : ℕ → Seen
 at m = seen script (commits_at 4) opening journal m
 
--- the two objects that are left
+-- The two objects that are left.
 abbrev pub two_objects : List (List ℕ × Object)
 two_objects = (out (codes "a"), record { bytes = codes "hello"; header = None }) ∷
     (out (codes "b"), record { bytes = codes "hello"; header = None }) ∷ []
 
--- the abort leaves two whole files, and no live upload
+-- The abort leaves two whole files, and no live upload.
 pub record Restarted : Type 0 where
   pub sent : length journal ≡ 33
   pub always : Always script (commits_at 4) opening journal
@@ -98,14 +98,14 @@ pub record Restarted : Type 0 where
   pub zero_rename : ZeroRename script opening journal
   pub outside : OutsideStays script opening journal
   pub prepared : Prepared script journal
-  -- the commit that the killed driver began in event 4 has no end; the abort of event 9 is done
+  -- The commit that the killed driver began in event 4 has no end. The abort of event 9 is Done.
   pub commit : Goes script journal Driver ops.Commit 4 None 6 None
   pub abort : Goes script journal Driver ops.Abort 9 (Some 0) 9 (Some (ends.Clean cleans.Done))
-  -- after the restart the driver's commit has failed: another one is refused, an abort is not
+  -- After the restart the driver's commit has failed. Another commit is refused; an abort is not.
   pub failed : (past script restart_ends).state Driver ≡ idle stage.Failed
   pub second : refusal (past script restart_ends).state (Do Driver ops.Commit) ≡ Some faults.WrongState
   pub may_abort : refusal (past script restart_ends).state (Do Driver ops.Abort) ≡ None
-  -- after the abort another restart and a recovery are refused
+  -- After the abort another restart and a recovery are refused.
   pub aborted : (past script the_ends).state Driver ≡ idle stage.Aborted
   pub number : (past script the_ends).attempt ≡ 2
   pub again : refusal (past script abort_ends).state Restart ≡ Some faults.NotDead
@@ -115,7 +115,7 @@ pub record Restarted : Type 0 where
   pub begun : (at 26).begun ≡ true
   pub picked : (at 26).picks 0 ≡ Some 0
   pub unmarked : (at 33).put_mark ≡ false
-  -- the two files stay; at the end there is no other object, and no live upload
+  -- The two files stay. At the end there is no other object, and no live upload.
   pub two : Shows script journal 28 (hellos (codes "a" ∷ codes "b" ∷ []))
   pub stay : Shows script journal 33 (hellos (codes "a" ∷ codes "b" ∷ []))
   pub no_uploads : (id : ℕ) → upload_at (moment opening journal 33).content lake id ≡ None

@@ -1,4 +1,4 @@
--- What attempts and the driver of a job send for files of five bytes, and what whole runs of them keep.
+-- The entries of attempts and drivers for files of five bytes, and what whole runs of them keep.
 use Rattle.job_examples.specs.Jobs.{begun_with, hello_tag, lake, said, setting}
 use Rattle.job_model.specs.JobScript.{Script}
 use Rattle.job_model.specs.declared.ends.EventEnd.{EventEnd}
@@ -31,16 +31,16 @@ use Rattle.std.specs.FinMap as fin
 
 -- ---- requests
 
--- a text of five bytes with its tag
+-- A text of five bytes with its tag.
 pub record Text : Type 0 where
   pub bytes : List ℕ
   pub tag : Spelled
 
--- the text `hello`
+-- The text `hello`.
 abbrev pub hello : Text
 hello = record { bytes = codes "hello"; tag = hello_tag }
 
--- the pending upload of a task's attempt for a file that has this text
+-- The pending upload of an attempt for a file with this text.
 abbrev pub upload : Text → ℕ → ℕ → List ℕ → ℕ → Pending
 upload text task attempt path id = record {
   task = task;
@@ -53,27 +53,27 @@ upload text task attempt path id = record {
   sizes = Some (5 ∷ []);
 }
 
--- an attempt's set of such uploads
+-- An attempt's set of these uploads.
 abbrev pub set_of : ℕ → ℕ → List Pending → PendingSet
 set_of task attempt uploads = record { job = codes "j1"; task = task; attempt = attempt; commits = uploads }
 
--- the live upload of a file that has `hello`, as the store holds it with its one part
+-- The live upload of a file with the text `hello`, as the store keeps it with its one part.
 abbrev pub held : List ℕ → Live
 held path = record { key = codes "out/" ++ path; parts = fin.insert fin.empty 1 (codes "hello") }
 
--- a put of a text, and a read of it
+-- A put of a text.
 abbrev pub puts : ℕ → Actor → List ℕ → List ℕ → Entry
 puts k a key text = said k a (PutObject lake key text None) (Stored (plain_tag text))
 
--- a read of a text
+-- A read of a text.
 abbrev pub reads : ℕ → Actor → List ℕ → List ℕ → Entry
 reads k a key text = said k a (GetObject lake key) (Object text None)
 
--- a page of a listing, which is the last
+-- The only page of a listing.
 abbrev pub lists : ℕ → Actor → List ℕ → List PageEntry → Entry
 lists k a prefix found = said k a (ListPage lake prefix false [] 1000) (Page found false)
 
--- a file's upload, its part, its marker and its record, below the attempt's directory
+-- The entries of a file's write: its upload, its part, its marker and its record, below the attempt's directory.
 abbrev pub writes : Text → ℕ → Actor → List ℕ → List ℕ → Pending → List Entry
 writes text k a directory path u =
     said k a (CreateUpload lake u.destination) (Upload u.upload)
@@ -82,19 +82,19 @@ writes text k a directory path u =
     ∷ puts k a (directory ++ path ++ codes ".pending") (compact_text (pending_tree u))
     ∷ []
 
--- the read of a file's record
+-- The read of a file's record.
 abbrev pub reads_record : ℕ → Actor → List ℕ → List ℕ → Pending → Entry
 reads_record k a directory path u = reads k a (directory ++ path ++ codes ".pending") (compact_text (pending_tree u))
 
--- the put of a set
+-- The put of a set.
 abbrev pub puts_set : ℕ → Actor → List ℕ → PendingSet → Entry
 puts_set k a key s = puts k a key (compact_text (set_tree s))
 
--- the driver's read of a set
+-- The driver's read of a set.
 abbrev pub reads_set : ℕ → List ℕ → PendingSet → Entry
 reads_set k key s = reads k Driver key (compact_text (set_tree s))
 
--- an attempt lists its directory, reads the record of `p` and puts its task's set
+-- The entries of a task's commit: the attempt lists its directory, reads the record of `p` and puts its task's set.
 abbrev pub commits_task : ℕ → Actor → List ℕ → Pending → List ℕ → PendingSet → List Entry
 commits_task k a directory u key s =
     lists k a directory (Listed (directory ++ codes "p") 0 ∷ Listed (directory ++ codes "p.pending") 168 ∷ [])
@@ -102,15 +102,15 @@ commits_task k a directory u key s =
     ∷ puts_set k a key s
     ∷ []
 
--- the completion of an upload by the driver
+-- The driver's completion of an upload.
 abbrev pub completes : ℕ → List ℕ → ℕ → Entry
 completes k key id = said k Driver (CompleteUpload lake key id (record { number = 1; tag = hello_tag } ∷ []))
     (Completed (joined_tag (hello_tag ∷ [])))
 
 -- ---- runs
 
--- Event k, where the events had these ends: it has the actor do a whole operation, as it may, with this task missing then.
--- Its entries are the actor's; the actor's entries up to there are what the operation asks, they lead to this end, and the event has it.
+-- Holds if event k has the actor do a whole operation, which is not refused and ends so. The task `missing` is missing when it begins. The
+-- event's entries are the actor's, and the actor's entries up to the event are the requests of the operation.
 pub record Goes (w : Script) (xs : List EventEnd) (journal : List Entry) (a : Actor) (op : Op) (k : ℕ) (missing : Option ℕ) (end : OpEnd) :
     Type 0 where
   pub event : slice_get w.events (k - 1) ≡ Some (Do a op)
@@ -123,12 +123,12 @@ pub record Goes (w : Script) (xs : List EventEnd) (journal : List Entry) (a : Ac
       end
   pub has_ended : slice_get xs (k - 1) ≡ Some (Ended end)
 
--- What is kept of a run with these times.
+-- What a run with these times keeps.
 pub record Keeps (w : Script) (k : Times) (opening : Content) (journal : List Entry) : Type 0 where
-  -- at each moment a reader is shown what he may rely on
+  -- After each entry, readers see what they may rely on.
   pub always : Always w k opening journal
-  -- each answer is the one that was due, and each sending has the outcome that the script names for its number
+  -- Each reply is the one that S3 must give, and each send has the fate that the script names for its number.
   pub sent : Sent w opening journal
-  -- nothing is copied, the driver sends no data, and only it shows files
+  -- Nothing is copied, the driver sends no data, and only the driver changes what readers see.
   pub zero_rename : ZeroRename w opening journal
   pub outside : OutsideStays w opening journal

@@ -1,4 +1,4 @@
--- Entries that are nobody's turn.
+-- Entries of actors whose turn it is not.
 use Rattle.job_examples.specs.Jobs.{hello_tag, lake, said, worker}
 use Rattle.job_examples.specs.OneFile.{setting}
 use Rattle.job_examples.specs.OneFinished.{the_ends}
@@ -10,16 +10,16 @@ use Rattle.s3_types.specs.declared.request.Actor.TheVariants.{Attempt, Driver}
 use Rattle.s3_types.specs.declared.request.Request.TheVariants.{PutObject}
 use Rattle.std.specs.Prelude.{List, None, codes, ℕ, [], ◌∷◌}
 
--- a put of the task's set, by this actor in this event
+-- A put of the task's set, by this actor in this event.
 abbrev pub stray : ℕ → Actor → List Entry
 stray k a = said k a (PutObject lake (codes "out/__magic/job-j1/sets/task_0.pendingset") (codes "hello") None) (Stored hello_tag) ∷ []
 
--- an entry that is nobody's turn is in no run
+-- No run has an entry of an actor whose turn it is not.
 pub record StraysAreRefused : Type 0 where
-  -- before the first event
+  -- Before the first event.
   pub no_event : Plays setting [] (stray 0 worker) → ⊥
-  -- in the set-up, which has no end yet: of an attempt that is not declared, and of one that has begun nothing
+  -- In the set-up, which has not ended: an entry of an attempt that is not declared, and one of an attempt that has begun nothing.
   pub undeclared : Plays setting [] (stray 1 (Attempt 9 9)) → ⊥
   pub idle : Plays setting [] (stray 1 worker) → ⊥
-  -- behind the last event
+  -- After the last event.
   pub late : Plays setting the_ends (stray 5 Driver) → ⊥

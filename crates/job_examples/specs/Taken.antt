@@ -1,5 +1,5 @@
--- The run of a staging attempt whose partition has a file already, in the mode fail: its task's commit finds the conflict, and nothing
--- changes.
+-- The run of a staging attempt whose partition already has a file, with the mode fail. Its task's commit finds the conflict, and readers
+-- see no change.
 use Rattle.job_examples.specs.Jobs.{attempt, commits_at, job, lake, said, worker}
 use Rattle.job_examples.specs.Runs.{Goes, Keeps}
 use Rattle.job_model.specs.JobScript.{Script}
@@ -31,16 +31,16 @@ use Rattle.job_model.specs.declared.ends.TaskEnd.TheVariants as tasks
 use Rattle.job_model.specs.declared.ends.CommitEnd.TheVariants as commits
 use Rattle.job_model.specs.declared.ends.OpEnd.TheVariants as ends
 
--- the job's script
+-- The job's script.
 abbrev pub script : Script
 script = job Partitioned Fail 1 3 1 (attempt 0 0 ((codes "d=1/x", codes "hello") ∷ []) ∷ [])
     (Do Driver Setup ∷ Do worker Write ∷ Do worker Commit ∷ Do worker Abort ∷ Do Driver Commit ∷ [])
 
--- the file that stands in the partition
+-- The file that exists in the partition.
 abbrev pub old_file : Object
 old_file = record { bytes = codes "x"; header = None }
 
--- a store that shows a file in the partition
+-- A store in which readers see a file in the partition.
 abbrev pub opening : Content
 opening = record {
   buckets = fin.insert fin.empty lake (record { objects = fin.insert fin.empty (codes "out/d=1/a") old_file; uploads = fin.empty });
@@ -48,7 +48,7 @@ opening = record {
   minimum = 5242880;
 }
 
--- the set-up, and the look at the partition; the write, the abort and the job's commit send nothing
+-- The journal: the set-up and the check of the partition. The write, the abort and the job's commit send nothing.
 abbrev pub journal : List Entry
 journal =
     said 1 Driver (HeadObject lake (codes "out")) (Refused NoSuchKey)
@@ -56,16 +56,16 @@ journal =
     ∷ said 3 worker (ListPage lake (codes "out/d=1/") false [] 1) (Page (Listed (codes "out/d=1/a") 1 ∷ []) false)
     ∷ []
 
--- the ends of the run's events
+-- The ends of the run's events.
 abbrev pub the_ends : List EventEnd
 the_ends = Ended (ends.Setup setups.Done) ∷ Ended (ends.Task tasks.Done) ∷ Ended (ends.Task (tasks.Conflict (codes "d=1"))) ∷ Ended
     (ends.Task tasks.Done) ∷ Ended (ends.Commit (commits.Missing 0)) ∷ []
 
--- what is seen after the first m entries
+-- What the journal shows after the first m entries.
 abbrev pub at : ℕ → Seen
 at m = seen script (commits_at 5) opening journal m
 
--- the task's commit ends with the conflict, and the destination shows what it showed
+-- The task's commit ends with the conflict, and readers see the same files as before.
 pub record Taken : Type 0 where
   pub sent : length journal ≡ 3
   pub event : commit_event script the_ends ≡ Some 5
@@ -73,14 +73,14 @@ pub record Taken : Type 0 where
   pub setup : Goes script the_ends journal Driver Setup 1 (Some 0) (ends.Setup setups.Done)
   pub write : Goes script the_ends journal worker Write 2 (Some 0) (ends.Task tasks.Done)
   pub task : Goes script the_ends journal worker Commit 3 (Some 0) (ends.Task (tasks.Conflict (codes "d=1")))
-  -- the attempt has nothing to abort, and does not keep anything
+  -- The attempt has nothing to abort, and its abort is Done, not Kept.
   pub abort : Goes script the_ends journal worker Abort 4 (Some 0) (ends.Task tasks.Done)
-  -- the job's commit misses the task, and its end is the one that is due
+  -- The job's commit misses the task, and the resulting end is Missing.
   pub commit : Goes script the_ends journal Driver Commit 5 (Some 0) (ends.Commit (commits.Missing 0))
   pub unpublished : (at 3).last 0 ≡ None
   pub not_begun : (at 3).begun ≡ false
   pub due : commit_due script (at 3).picks (Some 0) (first_worn 3 (since 5 (by_actor Driver journal))) ≡ commits.Missing 0
-  -- the destination shows its opening file, and no other, throughout
+  -- Readers see the opening file and no other during the whole run.
   pub shows : (m : ℕ) → Same (view script.dest (moment opening journal m).content) (view script.dest opening)
   pub shown : view script.dest opening (codes "d=1/a") ≡ Some (codes "x")
   pub verdict : verdict script the_ends ≡ 1

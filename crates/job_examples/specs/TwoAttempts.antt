@@ -1,5 +1,5 @@
--- The run of one task with two attempts that commit one after the other: the job's commit picks and shows the later one, and a clean leaves
--- nothing behind.
+-- The run of one task with two attempts that commit one after the other. The job's commit chooses and publishes the later one, and a clean
+-- leaves nothing.
 use Rattle.job_examples.specs.Jobs.{attempt, commits_at, directory, done_task, job, lake, other, said, set_key, worker}
 use Rattle.job_examples.specs.OneFile.{opening, setup_entries}
 use Rattle.job_examples.specs.Runs.{Goes, Keeps, Text, commits_task, hello, lists, puts, reads_set, set_of, upload, writes}
@@ -39,45 +39,45 @@ use Rattle.job_model.specs.declared.ends.CommitEnd.TheVariants as commits
 use Rattle.job_model.specs.declared.ends.CleanEnd.TheVariants as cleans
 use Rattle.job_model.specs.declared.ends.OpEnd.TheVariants as ends
 
--- the text `world`
+-- The text `world`.
 abbrev pub world : Text
 world = record { bytes = codes "world"; tag = record { digits = codes "7d793037a0760186574b0282f2f435e7"; parts = 0 } }
 
--- both attempts write the file `p`
+-- A job whose two attempts both write the file `p`.
 abbrev pub with_events : List Event → Script
 with_events events = job Magic Append 1 3 1 (attempt 0 0 ((codes "p", codes "hello") ∷ []) ∷ attempt 0 1 ((codes "p", codes "world") ∷ []) ∷
     []) events
 
--- the job's script
+-- The job's script.
 abbrev pub script : Script
 script = with_events (Do Driver Setup ∷ Do worker Write ∷ Do worker Commit ∷ Do other Write ∷ Do other Commit ∷ Do Driver Commit ∷ Do Driver
     Clean ∷ [])
 
--- the second attempt's magic directory
+-- The second attempt's magic directory.
 abbrev pub second_directory : List ℕ
 second_directory = codes "out/__magic/job-j1/tasks/0_1/__base/"
 
--- the first attempt's upload
+-- The first attempt's upload.
 abbrev pub first_upload : Pending
 first_upload = upload hello 0 0 (codes "p") 1
 
--- the second attempt's upload
+-- The second attempt's upload.
 abbrev pub second_upload : Pending
 second_upload = upload world 0 1 (codes "p") 2
 
--- the first attempt's set
+-- The first attempt's set.
 abbrev pub first_set : PendingSet
 first_set = set_of 0 0 (first_upload ∷ [])
 
--- the second attempt's set
+-- The second attempt's set.
 abbrev pub second_set : PendingSet
 second_set = set_of 0 1 (second_upload ∷ [])
 
--- what `_SUCCESS` says
+-- The contents of `_SUCCESS`.
 abbrev pub the_mark : SuccessMark
 the_mark = record { job = codes "j1"; committer = Magic; files = codes "p" ∷ []; stamp = None }
 
--- the entries of the job's commit
+-- The entries of the job's commit.
 abbrev pub commit_entries : ℕ → List Entry
 commit_entries k =
     reads_set k set_key second_set
@@ -86,7 +86,7 @@ commit_entries k =
     ∷ puts k Driver (codes "out/_SUCCESS") (compact_text (success_tree the_mark))
     ∷ []
 
--- the clean aborts the first attempt's upload and empties the job's magic directory
+-- The entries of the clean. It aborts the first attempt's upload and empties the job's magic directory.
 abbrev pub clean_entries : ℕ → List Entry
 clean_entries k =
     said k Driver (ListUploads lake (codes "out/") None 1000) (Uploads (record { key = codes "out/p"; upload = 1 } ∷ []) false)
@@ -102,14 +102,14 @@ clean_entries k =
     (second_directory ++ codes "p") ∷ (second_directory ++ codes "p.pending") ∷ [])) Deleted
     ∷ []
 
--- up to the end of the first attempt's commit
+-- The entries up to the end of the first attempt's commit.
 abbrev pub first_entries : List Entry
 first_entries =
     setup_entries
     ++ writes hello 2 worker directory (codes "p") first_upload
     ++ commits_task 3 worker directory first_upload set_key first_set
 
--- all, where the second attempt's write and commit, the job's commit and the clean are these events
+-- The journal, where the second attempt's write and commit, the job's commit and the clean are these events.
 abbrev pub journal_of : ℕ → ℕ → ℕ → ℕ → List Entry
 journal_of write task commit clean =
     first_entries
@@ -118,46 +118,46 @@ journal_of write task commit clean =
     ++ commit_entries commit
     ++ clean_entries clean
 
--- the run's journal
+-- The run's journal.
 abbrev pub journal : List Entry
 journal = journal_of 4 5 6 7
 
--- the ends of the run's events
+-- The ends of the run's events.
 abbrev pub the_ends : List EventEnd
 the_ends = Ended (ends.Setup setups.Done) ∷ done_task ∷ done_task ∷ done_task ∷ done_task ∷ Ended (ends.Commit commits.Committed) ∷ Ended
     (ends.Clean cleans.Done) ∷ []
 
--- the picks that are told
+-- The reported attempts.
 abbrev pub the_picks : List Pick
 the_picks = record { task = 0; attempt = 1 } ∷ []
 
--- Of a journal of both attempts whose commit is event k: the later set replaces the earlier one, the job's commit picks and shows that one,
--- and a clean leaves nothing behind.
+-- What holds of a journal of both attempts whose commit is event k. The later set replaces the earlier one, the job's commit chooses and
+-- publishes the later attempt, and a clean leaves nothing.
 pub record Replaces (w : Script) (k : ℕ) (xs : List EventEnd) (journal : List Entry) : Type 0 where
   pub sent : length journal ≡ 24
   pub event : commit_event w xs ≡ Some k
   pub keeps : Keeps w (commits_at k) opening journal
-  -- the second attempt's set replaces that of the first
+  -- The second attempt's set replaces that of the first.
   pub first_published : (seen w (commits_at k) opening journal 10).last 0 ≡ Some 0
   pub second_published : (seen w (commits_at k) opening journal 17).last 0 ≡ Some 1
-  -- the commit begins with the read of the set, and picks the attempt that published last
+  -- The commit begins with the read of the set, and chooses the attempt that published last.
   pub not_begun : (seen w (commits_at k) opening journal 17).begun ≡ false
   pub begun : (seen w (commits_at k) opening journal 18).begun ≡ true
   pub picked : (seen w (commits_at k) opening journal 18).picks 0 ≡ Some 1
   pub picks : all_picks w opening journal xs ≡ the_picks
-  -- the marker is put by its last entry, and its end is the one that is due
+  -- Its last entry puts `_SUCCESS`, and the resulting end is Committed.
   pub unmarked : (seen w (commits_at k) opening journal 19).put_mark ≡ false
   pub marked : (seen w (commits_at k) opening journal 20).put_mark ≡ true
   pub due : commit_due w (seen w (commits_at k) opening journal 20).picks None (first_worn 3 (since k (by_actor Driver (until k journal))))
       ≡ commits.Committed
-  -- no live upload is left, and no key in the job's magic directory; the file and the marker stand
+  -- No live upload is left, and no key in the job's magic directory. The file and `_SUCCESS` exist.
   pub nothing_left : NothingLeft Magic w (moment opening journal 24)
   pub shown : view w.dest (moment opening journal 24).content (codes "p") ≡ Some (codes "world")
   pub stands : object_at (moment opening journal 24).content lake (codes "out/_SUCCESS") ≡ Some
       (record { bytes = compact_text (success_tree the_mark); header = None })
   pub verdict : verdict w xs ≡ 0
 
--- the later attempt is picked and shown, and a clean leaves nothing of the job
+-- The later attempt is chosen, readers see its file, and a clean leaves nothing of the job.
 pub record TwoAttempts : Type 0 where
   pub replaces : Replaces script 6 the_ends journal
   pub setup : Goes script the_ends journal Driver Setup 1 (Some 0) (ends.Setup setups.Done)

@@ -41,52 +41,52 @@ use Rattle.job_model.specs.declared.ends.OpEnd.TheVariants as ends
 
 -- ---- the jobs
 
--- the script of a job with one file
+-- The script of a job with one file.
 abbrev pub script : List ℕ → List ℕ → List Event → Script
 script id name later = record (job Magic Append 1 3 1 (attempt 0 0 ((name, codes "hello") ∷ []) ∷ [])
     (Do Driver ops.Setup ∷ Do worker ops.Write ∷ Do worker ops.Commit ∷ Do Driver ops.Commit ∷ later)) { job = id }
 
--- the first job, with the file `x`
+-- The first job, with the file `x`.
 abbrev pub ja : Script
 ja = script (codes "ja") (codes "x") (Do Driver ops.Clean ∷ [])
 
--- the second job, with the file `y`
+-- The second job, with the file `y`.
 abbrev pub jb : Script
 jb = script (codes "jb") (codes "y") []
 
 -- ---- a job's keys and records
 
--- a job's magic directory
+-- The prefix of a job's magic directory.
 abbrev pub magic : List ℕ → List ℕ
 magic id = codes "out/__magic/job-" ++ (id ++ codes "/")
 
--- the key of a file's marker
+-- The key of a file's marker.
 abbrev pub below_attempt : List ℕ → List ℕ → List ℕ
 below_attempt id name = magic id ++ (codes "tasks/0_0/__base/" ++ name)
 
--- the key of a file's record
+-- The key of a file's record.
 abbrev pub pending : List ℕ → List ℕ → List ℕ
 pending id name = below_attempt id (name ++ codes ".pending")
 
--- the key of the task's set
+-- The key of the task's set.
 abbrev pub set_key : List ℕ → List ℕ
 set_key id = magic id ++ codes "sets/task_0.pendingset"
 
--- a job's set
+-- A job's set.
 abbrev pub set_of : List ℕ → List ℕ → ℕ → PendingSet
 set_of id name upload = record { job = id; task = 0; attempt = 0; commits = of_file name upload ∷ [] }
 
--- the text of the set
+-- The text of the set.
 abbrev pub set_bytes : List ℕ → List ℕ → ℕ → List ℕ
 set_bytes id name upload = compact_text (set_tree (set_of id name upload))
 
--- the text of `_SUCCESS`
+-- The text of `_SUCCESS`.
 abbrev pub mark_bytes : List ℕ → List ℕ → List ℕ
 mark_bytes id name = compact_text (success_tree (record { job = id; committer = Magic; files = name ∷ []; stamp = None }))
 
--- ---- its entries: set-up, write and task's commit are the events from k on
+-- ---- a job's entries: its set-up, its write and its task's commit are the events from k on
 
--- a job's entries up to its task's commit; its set-up is event k
+-- A job's entries up to its task's commit; its set-up is event k.
 abbrev pub prepares : List ℕ → List ℕ → ℕ → ℕ → List Entry
 prepares id name upload k =
     said k Driver (HeadObject lake (codes "out")) (Refused NoSuchKey)
@@ -99,16 +99,16 @@ prepares id name upload k =
     ∷ said (k + 2) worker (PutObject lake (set_key id) (set_bytes id name upload) None) (Stored (plain_tag (set_bytes id name upload)))
     ∷ [])
 
--- the read of its set, the completion and the put of its marker
+-- The driver's read of a job's set.
 abbrev pub reads : List ℕ → List ℕ → ℕ → ℕ → Entry
 reads id name upload k = said k Driver (GetObject lake (set_key id)) (Read (set_bytes id name upload) None)
 
--- the put of a job's `_SUCCESS`
+-- The put of a job's `_SUCCESS`.
 abbrev pub marks : List ℕ → List ℕ → ℕ → Entry
 marks id name k = said k Driver (PutObject lake (codes "out/_SUCCESS") (mark_bytes id name) None) (Stored (plain_tag (mark_bytes id name)))
 
--- A clean that spares the other job's uploads: it lists what the job kept, aborts what its records name, and deletes it. This is
--- none of the operations of one job alone, whose clean lists all live uploads below the destination.
+-- A clean that spares the other job's uploads. It lists the job's keys, aborts the uploads that its records name, and deletes the keys. A
+-- job that is alone has no such clean: it lists all live uploads below the destination.
 abbrev pub clean_entries : List Entry
 clean_entries =
     said 9 Driver (ListPage lake (magic (codes "ja")) false [] 1000) (Page (
@@ -124,11 +124,11 @@ clean_entries =
 
 -- ---- the run: three events of ja, four of jb, two of ja
 
--- up to the read of jb's commit, the sending 21
+-- The entries up to the read of jb's commit, send 21.
 abbrev pub quiet_entries : List Entry
 quiet_entries = prepares (codes "ja") (codes "x") 1 1 ++ prepares (codes "jb") (codes "y") 2 4 ++ reads (codes "jb") (codes "y") 2 7 ∷ []
 
--- the entries behind the read of jb's commit
+-- The entries after the read of jb's commit.
 abbrev pub later_entries : List Entry
 later_entries =
     completes 7 (codes "y") 2
@@ -138,77 +138,77 @@ later_entries =
     ∷ marks (codes "ja") (codes "x") 8
     ∷ clean_entries
 
--- the run's journal
+-- The run's journal.
 abbrev pub journal : List Entry
 journal = quiet_entries ++ later_entries
 
--- the events 4 to 7 are those of jb, and all others are those of ja
+-- True for the events of ja. Events 4 to 7 are those of jb.
 abbrev pub mine : ℕ → Bool
 mine n = nat_le n 3 || nat_le 8 n
 
--- the journal in the eyes of ja
+-- The journal as ja reads it.
 abbrev pub eyes : List Entry
 eyes = in_eyes mine journal
 
--- the ends of the run's events
+-- The ends of ja's events.
 abbrev pub the_ends : List EventEnd
 the_ends = before_commit ++ Ended (ends.Commit commits.Committed) ∷ Ended (ends.Clean cleans.Done) ∷ []
 
--- what is seen after the first m entries
+-- What ja's journal shows after the first m entries.
 abbrev pub at : ℕ → Seen
 at m = seen ja (commits_at 4) opening eyes m
 
--- the object at a key after the first m entries
+-- The object at a key after the first m entries.
 abbrev pub object_then : ℕ → List ℕ → Option Object
 object_then m key = object_at (moment opening eyes m).content lake key
 
--- of the object at a key after m entries: these bytes, without a header
+-- Holds if the object at a key has these bytes and no header after the first m entries.
 abbrev pub Holds : ℕ → List ℕ → List ℕ → Type 0
 Holds m key bytes = object_then m key ≡ Some (record { bytes = bytes; header = None })
 
--- the three keys below jb's magic directory have what jb put there
+-- The three keys below jb's magic directory have the objects that jb put there.
 pub record Kept (m : ℕ) : Type 0 where
   pub set : Holds m (set_key (codes "jb")) (set_bytes (codes "jb") (codes "y") 2)
   pub marker : object_then m (below_attempt (codes "jb") (codes "y")) ≡ Some (record { bytes = []; header = Some 5 })
   pub pending : Holds m (pending (codes "jb") (codes "y")) (record_bytes (codes "y") 2)
 
--- what ja keeps and sees beside jb
+-- What ja keeps and sees beside jb.
 pub record TwoJobs : Type 0 where
   pub sent : length eyes ≡ 30
   pub honest : IsHonest opening eyes
-  -- each entry of ja is none of a copy and leaves all outside the destination, whatever jb sends
+  -- No entry of ja copies, and none changes anything outside the destination, whatever jb sends.
   pub zero_rename : ZeroRename ja opening eyes
   pub prepared : Prepared ja eyes
   pub commit : Goes ja eyes Driver ops.Commit 4 None 4 (Some (ends.Commit commits.Committed))
-  -- a clean of one job alone does not go so: it would abort what the other has not completed
+  -- A clean of a job that is alone sends other requests: it would abort the uploads that the other job has not completed.
   pub other_clean : OpFollows (setting ja) Driver (doing ops.Clean 5 None) (by_actor Driver eyes) → ⊥
   pub worn : first_worn 3 (since 4 (by_actor Driver (until 4 eyes))) ≡ None
   pub due : commit_due ja (at 26).picks None None ≡ commits.Committed
   pub verdict : verdict ja the_ends ≡ 0
-  -- neither jb's commit nor its marker is ja's
+  -- Neither jb's commit nor its `_SUCCESS` counts as ja's.
   pub not_begun : (at 23).begun ≡ false
   pub begun : (at 24).begun ≡ true
   pub unpicked : (at 23).picks 0 ≡ None
   pub picked : (at 24).picks 0 ≡ Some 0
   pub unmarked : (at 25).put_mark ≡ false
   pub marked : (at 26).put_mark ≡ true
-  -- y is shown with jb's commit and x with ja's; the later marker stands
+  -- Readers see y after jb's commit and x after ja's. The later `_SUCCESS` replaces the earlier one.
   pub none : Shows ja eyes 21 []
   pub one : Shows ja eyes 22 (hellos (codes "y" ∷ []))
   pub two : Shows ja eyes 25 (hellos (codes "x" ∷ codes "y" ∷ []))
   pub whole : Shows ja eyes 30 (hellos (codes "x" ∷ codes "y" ∷ []))
   pub first_mark : Holds 23 (codes "out/_SUCCESS") (mark_bytes (codes "jb") (codes "y"))
   pub last_mark : Holds 30 (codes "out/_SUCCESS") (mark_bytes (codes "ja") (codes "x"))
-  -- ja's own keys are gone after its clean, and those of jb stay
+  -- After its clean ja's own keys are gone, and those of jb stay.
   pub gone : object_then 30 (set_key (codes "ja")) ≡ None
   pub before : Kept 26
   pub stay : Kept 30
 
--- the journal in the eyes of jb
+-- The journal as jb reads it.
 abbrev pub other_eyes : List Entry
 other_eyes = in_eyes (λ n. not (mine n)) journal
 
--- what jb keeps and sees beside ja
+-- What jb keeps and sees beside ja.
 pub record TheOther : Type 0 where
   pub zero_rename : ZeroRename jb opening other_eyes
   pub prepared : Prepared jb other_eyes

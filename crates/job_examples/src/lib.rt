@@ -1,19 +1,31 @@
-//! Whole runs written out as data, and what the definitions of a job's operations and of its promise say of them.
+//! Whole runs written out as data, and what the definitions of a job's operations and of its
+//! promise say about them.
 //!
 //! # What is proved
 //!
-//! The run of one file is finished, with every part of the promise; with its last put lost it keeps what a reader is
-//! shown, and so do runs with two tasks that write one path, a set whose put is lost, a driver killed in its commit, two
-//! attempts of one task with a clean, the same where a new driver misses the task, and a partition that has a file in the
-//! mode fail; and runs of a job with four files: with a revert, with two lanes and a lost reply, with kills in one lane
-//! and in two, and with a restart. There is what a reader is shown at each moment, operations with their requests and
-//! ends, and verdicts; and what operations ask for in lanes, reverts, modes, staging and cleans. Runs that break one part
-//! each are refused, entries of nobody's turn and ends that no operation tells among them. Of two jobs at one destination
-//! each one's own entries copy nothing and leave all outside, and its commit is committed; the second one's keys outlast
-//! the first one's clean. Of two of the magic committer, one file each, with an abort of what its own records name, no entry
-//! names what is the other's, and at each moment that matters readers are shown what two jobs promise, by events alone; a
-//! clean that aborts the other's upload and a marker over a missing file are refused. A job of the directory committer with
-//! the mode fail ends with the conflict that its check lists, and with none where nothing is listed.
+//! The run of one file is finished, with every part of the promise. These runs keep what readers
+//! see:
+//!
+//! - the run of one file with its last put lost
+//! - two tasks that write the same path, and a set whose put is lost
+//! - a driver that is killed in its commit
+//! - two attempts of one task with a clean, also where a new driver misses the task
+//! - a partition that has a file in the mode fail
+//! - a job with four files: with a revert, with two lanes and a lost reply, with kills in one lane
+//!   and in two, and with a restart
+//!
+//! Their laws tell what readers see after each entry, the requests and ends of operations, and the
+//! statuses. Other laws tell what operations send in lanes, reverts, modes, staging and cleans.
+//! Runs that break one part each are refused. Among these are entries of actors whose turn it is
+//! not, and ends that no operation reports.
+//!
+//! For two jobs at one destination, each job's own entries copy nothing and change nothing outside,
+//! and its commit is committed. The second job's keys outlast the first job's clean. For two jobs
+//! of the magic committer, one file each, with a clean by the job's own records, no entry names
+//! what belongs to the other job. After each entry that matters, readers see what two jobs promise,
+//! by events alone. A clean that aborts the other job's upload is refused, and so is `_SUCCESS`
+//! over a missing file. A job of the directory committer with the mode fail ends with the conflict
+//! that its check lists, and with none if nothing is listed.
 #![tactic(auto)]
 
 ghost use Rattle.job_examples.specs.Conflict.{FoundConflict};
@@ -39,13 +51,13 @@ ghost use Rattle.job_examples.specs.TwoAttempts.{TwoAttempts};
 ghost use Rattle.job_examples.specs.TwoJobs.{TheOther, TwoJobs};
 ghost use Rattle.job_examples.specs.TwoMagic.{TwoMagic};
 
-/// Verdicts on runs, and drivers that are restarted.
+/// The statuses of runs, and restarted drivers.
 pub fn verdicts()
     ensures verdicts { DecidesSo }
     ensures restarts { RestartsSo }
 {}
 
-/// One attempt with one file, of the magic committer.
+/// A run of one attempt with one file, with the magic committer.
 pub fn one_file()
     ensures runs { OneFileRuns }
     ensures seen { OneFileSeen }
@@ -64,59 +76,59 @@ pub fn committers()
     ensures drivers { DriversRun }
 {}
 
-/// Journals whose destination shows what it should not.
+/// Journals after which readers see the wrong files.
 pub fn misshown()
     ensures shown { Misshown }
     ensures runs { MisshownRuns }
 {}
 
-/// Ends that are not due, and a marker over two attempts of one task.
+/// Wrong ends of operations, and `_SUCCESS` over the files of two attempts of one task.
 pub fn misended()
     ensures ends { Misended }
 {}
 
-/// One attempt with one file, where the replies to the last put are lost.
+/// A run of one attempt with one file, in which the replies to the last put are lost.
 pub fn lost_mark()
     ensures { LostMark }
 {}
 
-/// Entries that are nobody's turn.
+/// Entries of actors whose turn it is not.
 pub fn strays()
     ensures { StraysAreRefused }
 {}
 
-/// Two tasks that write one path, of the magic committer.
+/// A run of two tasks that write the same path, with the magic committer.
 pub fn shared_path()
     ensures { SharedPath }
 {}
 
-/// One attempt with one file, where the replies to the put of its set are lost.
+/// A run of one attempt with one file, in which the replies to the put of its set are lost.
 pub fn lost_set()
     ensures { LostSet }
 {}
 
-/// One attempt with four files, where the driver is killed in its commit.
+/// A run of one attempt with four files, in which the driver is killed in its commit.
 pub fn four_files()
     ensures { FourFiles }
 {}
 
-/// Two attempts of one task that commit one after the other, and a clean.
+/// A run of two attempts of one task that commit one after the other, and a clean.
 pub fn two_attempts()
     ensures { TwoAttempts }
 {}
 
-/// Two attempts of one task whose driver is killed and restarted between them.
+/// A run of two attempts of one task, between which the driver is killed and restarted.
 pub fn new_driver()
     ensures run { NewDriver }
     ensures forgotten { Forgotten }
 {}
 
-/// A staging attempt whose partition has a file already, in the mode fail.
+/// A run of a staging attempt whose partition already has a file, with the mode fail.
 pub fn taken()
     ensures { Taken }
 {}
 
-/// A commit in one lane in which a completion wears out.
+/// A commit in one lane in which a completion runs out of retries.
 pub fn lanes_reverted()
     ensures { LanesReverted }
 {}
@@ -126,7 +138,7 @@ pub fn lanes_lost()
     ensures { LanesLost }
 {}
 
-/// The same where the driver is killed after five sendings.
+/// A commit with such a lost reply, whose driver is killed after five sends.
 pub fn lanes_killed()
     ensures { LanesKilled }
 {}
@@ -136,18 +148,18 @@ pub fn restarted()
     ensures { Restarted }
 {}
 
-/// Two jobs at one destination, as each of them sees it.
+/// Two jobs at one destination, as each of them sees the run.
 pub fn two_jobs()
     ensures first { TwoJobs }
     ensures other { TheOther }
 {}
 
-/// Two jobs of the magic committer.
+/// Two jobs of the magic committer at one destination.
 pub fn two_magic()
     ensures { TwoMagic }
 {}
 
-/// A job of the directory committer whose check finds the other's file.
+/// A job of the directory committer whose check finds the other job's file.
 pub fn conflict()
     ensures { FoundConflict }
 {}

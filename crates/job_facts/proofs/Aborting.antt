@@ -1,4 +1,4 @@
--- An attempt's abort of its task keeps the facts with each of its requests, whatever becomes of it, and goes on as it should.
+-- An attempt's abort of its task keeps the facts with each of its requests, whatever becomes of it, and its state fits afterwards.
 use Rattle.basics.proofs.Members.{false_true, in_append, in_filter}
 use Rattle.basics.specs.Members.{IsIn}
 use Rattle.job_facts.proofs.Going.{Each, each_so, step_by}
@@ -44,7 +44,7 @@ dropped_in (suc n) [] k i = absurd i
 dropped_in (suc n) (q ∷ ks) k i = inr (dropped_in n ks k i)
 
 module _ (w : Script) (a : Who) (k : Known) (unsent : k.publish_sent ≡ false) where
-  -- an end that is not that it was kept
+  -- An end other than Kept.
   fits_over : (end : TaskEnd) → (end ≡ tasks.Kept → ⊥) → FitsAbort w a k (TaskAbortOver end)
   fits_over end other = (λ e. absurd (other e), λ e. absurd (false_true unsent e))
 
@@ -63,7 +63,7 @@ module _ (w : Script) (a : Who) (k : Known) (unsent : k.publish_sent ≡ false) 
   fits_walked true keys h = (unsent, h)
   fits_walked false keys h = fits_deleting (filter all_go keys) (λ q i. h q (in_filter all_go q keys i).0)
 
--- an abort as it begins
+-- The first state of an abort.
 pub abort_fits : (w : Script) (a : Who) (k : Known) → FitsAbort w a k (task_abort_start w k)
 abort_fits w a k =
     (elim k.publish_sent as (λ b. k.publish_sent ≡ b → FitsAbort w a k (task_abort_by b w.committer k))
@@ -80,7 +80,7 @@ abort_fits w a k =
 
 module _ (w : Script) (minimum : ℕ) (k : Times) (s : Seen) (m : Told) (a : Who) (n : ℕ) (j : IsLegal w) (d : IsAttempt w a)
     (h : Hold w minimum s m) where
-  -- it goes on as it should
+  -- Its state fits after an answer.
   heard : (op : TaskAbort) → FitsAbort w a (known m a) op
       → Each (λ q. (x : Reply) → x ≡ answer s.scene q → FitsAbort w a (known m a) (task_abort_hears w op x)) (task_abort_asks w a op)
   heard (Dropping x xs sent) fits = λ y z. fits_dropping w a (known m a) fits.0 w.committer sent xs (λ v i. fits.1 v (inr i))

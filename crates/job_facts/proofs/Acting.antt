@@ -1,4 +1,4 @@
--- Every operation of an attempt keeps the facts with each of its requests, and goes on as it should; and it names only what is its own.
+-- Every operation of an attempt keeps the facts with each of its requests, its state fits afterwards, and it names only what is its own.
 use Rattle.basics.proofs.Members.{map_in}
 use Rattle.basics.specs.Members.{RisesFrom}
 use Rattle.job_facts.proofs.Aborting.{abort_goes}
@@ -61,14 +61,14 @@ module _ (w : Script) (minimum : ℕ) (a : Who) where
       → FitsUploaded w minimum a k f fs u → FitsWrite w minimum a k (writes.uploaded w f fs u)
   write_uploaded k f fs u h g e = grind arith
 
-  -- only the uploads that it knows, and what it has sent, matter
+  -- Only the uploads that the attempt knows, and what it has sent, matter.
   pub fits_upload_same : (k more : Known) (f : File) (fs : List File) (u : Uploading) → more.drawn ≡ k.drawn
       → FitsUpload w minimum a k f fs u → FitsUpload w minimum a more f fs u
   fits_upload_same k more f fs u h g = grind arith
 
 module _ (w : Script) (minimum : ℕ) (k : Times) (s : Seen) (m : Told) (a : Who) (n : ℕ) (j : IsLegal w) (d : IsAttempt w a)
     (h : Hold w minimum s m) where
-  -- what it puts is no task's set
+  -- A put of it puts no task's set.
   put_open : (p : Place) (bytes : List ℕ) (header : Option ℕ) → is_magic w.committer ≡ true → IsOwnPlace w p → (p ≡ SetPlace a.task → ⊥)
       → (o : Outcome) → IsOpen (known m a) → IsOpen (learn w a (known m a)
       (PutObject w.dest.bucket (key_at w.dest.key w.job p) bytes header) o)
@@ -78,7 +78,7 @@ module _ (w : Script) (minimum : ℕ) (k : Times) (s : Seen) (m : Told) (a : Who
     free.1,
   )
 
-  -- it goes on as it should
+  -- Its state fits after an answer.
   write_heard : (op : Write) → FitsWrite w minimum a (known m a) op
       → Each (λ q. (x : Reply) → x ≡ answer s.scene q
       → FitsWrite w minimum a (learn w a (known m a) q (Answered x)) (write_hears w minimum op x)) (write_asks w a (known m a) op)
@@ -151,7 +151,7 @@ module _ (w : Script) (minimum : ℕ) (a : Who) (j : IsLegal w) where
       → FitsCommit w minimum a k (reading cs fs)
   fits_reading k cs fs h g = grind arith
 
-  -- the files that were listed, in the order of the listing
+  -- The files that were listed, in the order of the listing.
   listed_commits : (ds : List Drawn) (keys : List (List ℕ)) → AllWritten w minimum a ds → RisesFrom [] keys
       → least_missing keys (map (record_key w a) (files w a)) ≡ None → AreCommits w minimum ds a (in_order w a keys)
   listed_commits ds keys written rises none = record {
@@ -182,13 +182,13 @@ module _ (w : Script) (minimum : ℕ) (a : Who) (j : IsLegal w) where
   fits_checked k d ds staging free t (Page (y ∷ ys) more) = λ e. absurd cc
   fits_checked k d ds staging free t _ = (staging, free, t)
 
-  -- an end of a rename, which was sent
+  -- The end of a rename that was sent.
   fits_renamed : (k : Known) → k.publish_sent ≡ true → (x : Reply) (repeated : Bool) → FitsCommit w minimum a k (renamed w a x repeated)
   fits_renamed k h x repeated = grind arith
 
 module _ (w : Script) (minimum : ℕ) (k : Times) (s : Seen) (m : Told) (a : Who) (n : ℕ) (j : IsLegal w) (d : IsAttempt w a)
     (clean : m.undone a ≡ false) (h : Hold w minimum s m) where
-  -- it goes on as it should
+  -- Its state fits after an answer.
   commit_heard : (repeated : Bool) (op : TaskCommit) → FitsCommit w minimum a (known m a) op
       → Each (λ q. (x : Reply) → x ≡ answer s.scene q
       → FitsCommit w minimum a (learn w a (known m a) q (Answered x)) (task_commit_hears w minimum a op x repeated))

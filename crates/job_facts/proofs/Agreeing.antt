@@ -1,4 +1,4 @@
--- The picks that are seen are those of the sets that the driver holds, as its commit goes on.
+-- The picks that the journal shows are those of the sets that the driver has read, as its commit goes on.
 use Rattle.basics.proofs.Members.{false_true, in_map, map_in, true_or_false}
 use Rattle.basics.specs.Members.{IsIn}
 use Rattle.job_facts.proofs.Held.{Course, completing_so, fetching_so, missed, of_sets, revert_each, swept_so, task_low, tells_so, worn}
@@ -43,7 +43,7 @@ use Rattle.store_frame.specs.Frame.{changed_keys}
 
 -- ---- what a replace mode deletes is what it does not keep
 
--- some directory has the path
+-- The path is below some directory.
 below_some : (dirs : List (List ℕ)) (q : List ℕ) → is_below_any dirs q ≡ true → (d : List ℕ) × IsIn d dirs
     × (begins (d ++ 47 ∷ []) q ≡ true)
 below_some [] q h = absurd (false_true refl h)
@@ -58,7 +58,7 @@ below_one (e ∷ dirs) q d (inl is) h = ap (λ x. begins (x ++ 47 ∷ []) q || i
     h
 below_one (e ∷ dirs) q d (inr i) h = ap (λ b. begins (e ++ 47 ∷ []) q || b) (below_one dirs q d i h) ∙ or-true (begins (e ++ 47 ∷ []) q)
 
--- below a partition's prefix is what is below the partition
+-- The keys below a partition's prefix are those of the paths below the partition.
 partition_is : {w : Script} → IsLegal w → (d q : List ℕ) → begins (partition_prefix w d) (below w.dest.key q) ≡ begins (d ++ 47 ∷ []) q
 partition_is {w = w} j d q =
     ap (λ p. begins p (below w.dest.key q)) (paths_below w.dest.key (d ++ codes "/") (some_dest j))
@@ -83,7 +83,7 @@ module _ {w : Script} (j : IsLegal w) (picks : Picks) where
       ap not (below_one (partitions (wanted_paths w picks)) q o.0 o.1 (sym (partition_is j o.0 q) ∙ ap (λ x. begins x (below w.dest.key q))
       (sym o.2) ∙ h))
 
-  -- what is not kept is below a prefix that is emptied
+  -- A path that the mode does not keep is below a prefix that it empties.
   pub unkept_prefix : (q : List ℕ) → keeps_of w picks q ≡ false → (p : List ℕ) × IsIn p (replaced w.committer w.mode w picks)
       × (begins p (below w.dest.key q) ≡ true)
   unkept_prefix q h = prefix_of (displaced w.committer w.mode) q h
@@ -95,7 +95,7 @@ module _ {w : Script} (j : IsLegal w) (picks : Picks) where
 -- ---- picks that are those of sets
 
 module _ (w : Script) (picks : Picks) where
-  -- so far
+  -- For the first n tasks.
   abbrev pub AgreeBelow : Sets → ℕ → Type 0
   AgreeBelow sets n = (t : ℕ) → t < n → picks t ≡ picks_of sets t
 
@@ -109,14 +109,14 @@ module _ (w : Script) (picks : Picks) where
       there (x ∷ xs) zero l = refl
       there (x ∷ xs) (suc i) l = there xs i (omega arith)
 
-  -- once all are read each task has a pick, and no two write one path
+  -- Once all are read, each task has a pick, and no two write one path.
   pub picks_apart : (sets : Sets) → AreDecided w sets → AgreeBelow sets w.tasks → same_path w picks ≡ None
   picks_apart sets d h = still_apart w (picks_of sets) picks h d.apart
 
   pub decided_so : (sets : Sets) → AreDecided w sets → AgreeBelow sets w.tasks → is_decided w picks ≡ true
   decided_so sets d h = rw (read_all sets w.tasks (omega (arith, d.all)) h, ap is_some (picks_apart sets d h)) refl
 
-  -- the keys that requests of a revert change are those of wanted files
+  -- The request changes only keys of wanted files.
   abbrev pub OfWanted : Request → Type 0
   OfWanted r = (k : List ℕ) → IsIn k (changed_keys r) → (q : List ℕ) × (b : List ℕ) × (k ≡ below w.dest.key q)
       × (wanted_at w picks q ≡ Some b)
@@ -143,9 +143,9 @@ module _ (w : Script) (picks : Picks) where
   agrees_start None = agrees_fetching [] (omega arith) (λ t l. absurd (omega arith))
   agrees_start (Some t) = λ e. absurd cc
 
-  -- where the request is no read
+  -- The request is no read.
   module _ {minimum : ℕ} {s : Scene} {last : ℕ → Option ℕ} {m : Told} (j : IsLegal w) (f : Facts w minimum s last m) where
-    -- an upload of the sets goes to a wanted file
+    -- An upload of the sets goes to a wanted file.
     pub upload_wanted : (sets : Sets) → Reads w minimum m.publish_sent m.drawn sets → AreDecided w sets → AgreeBelow sets w.tasks
         → (p : Pending) → IsIn p (all_commits sets) → (q : List ℕ) × (b : List ℕ) × (p.destination ≡ below w.dest.key q)
         × (wanted_at w picks q ≡ Some b)
@@ -181,7 +181,7 @@ module _ (w : Script) (picks : Picks) where
     agrees_worn (Replacing sets p ps x n) fits t d a = λ e. decided_so sets d a
     agrees_worn (Marking sets n) fits t d a = λ e. decided_so sets d a
 
-    -- an answer to a read is told elsewhere
+    -- The outcome is an answer to a read.
     abbrev pub IsRead : Commit → Outcome → Type 0
     IsRead (Fetching sets n) (Answered x) = Unit {0}
     IsRead _ _ = ⊥

@@ -1,4 +1,4 @@
--- What a request of an attempt leaves standing of another's, and of its own.
+-- What a request of an attempt leaves of another's files and records, and of its own.
 use Rattle.basics.proofs.Cuts.{cut_once}
 use Rattle.basics.proofs.Members.{false_true, same_or_other, some_is, true_or_false}
 use Rattle.basics.specs.Members.{IsIn}
@@ -51,7 +51,7 @@ whole : (w : Script) (a : Who) (x : List ℕ) → attempt_dir w a ++ 47 ∷ x �
     (codes "/__magic/job-" ++ (w.job ++ (codes "/tasks/" ++ inside a.task a.attempt x)))
 whole w a x = simp append_assoc
 
--- a key below two attempts' directories is of one attempt
+-- A key below two attempts' directories is of one attempt.
 one_directory : {w : Script} → IsLegal w → (a b : Who) → IsAttempt w a → IsAttempt w b → (x y : List ℕ)
     → attempt_dir w a ++ 47 ∷ x ≡ attempt_dir w b ++ 47 ∷ y → a ≡ b
 one_directory {w = w} j a b d e x y same =
@@ -80,7 +80,7 @@ record_own {w = w} j a f = ap (begins (attempt_prefix w a)) (record_is j a f) �
 pub record_below : {w : Script} → IsLegal w → (a : Who) (f : File) → begins (magic_prefix w.dest.key w.job) (record_key w a f) ≡ true
 record_below {w = w} j a f = own_directory w a (record_key w a f) (record_own j a f)
 
--- another attempt's directory has none of its records
+-- Another attempt's directory has none of its records.
 pub another : {w : Script} → IsLegal w → (a b : Who) → IsAttempt w a → IsAttempt w b → (a ≡ b → ⊥) → (f : File)
     → begins (attempt_prefix w b) (record_key w a f) ≡ false
 another {w = w} j a b d e ne f = elim (true_or_false (begins (attempt_prefix w b) (record_key w a f))) [
@@ -127,7 +127,7 @@ module _ (w : Script) (s : Scene) (there : HasBucket s.content w.dest.bucket) wh
   upload_keys k f Creating q = key_left q (upload_asks w k f Creating) (λ b i. i)
   upload_keys k f (Sending p ps) q = key_left q (upload_asks w k f (Sending p ps)) (λ b i. i)
 
-  -- writes and commits delete no key, and a write no path
+  -- Writes and commits delete no key, and a write deletes no path.
   pub write_keys : (b : Who) (k : Known) (t : Write) (r : Request) → write_asks w b k t ≡ Some r → (q : List ℕ) → Keeps q r
   write_keys b k (writes.Uploads f fs u) r e q = subst (Keeps q) (some_is e) (upload_keys k f u q)
   write_keys b k (WriteOver end) r e q = absurd cc
@@ -142,7 +142,7 @@ module _ (w : Script) (s : Scene) (there : HasBucket s.content w.dest.bucket) wh
   commit_keys b k (TaskCommitOver end) r e q = absurd cc
   commit_keys b k _ r e q = key_still q r (ap changed_keys (sym (some_is e)))
 
-  -- an abort deletes keys of its own directory
+  -- An abort deletes only keys in its own directory.
   pub abort_keys : (b : Who) (k : Known) (t : TaskAbort) → FitsAbort w b k t → (r : Request) → task_abort_asks w b t ≡ Some r → (q : List ℕ)
       → begins (attempt_prefix w b) q ≡ false → Keeps q r
   abort_keys b k (Dropping x xs sent) h r e q out = subst (Keeps q) (some_is e)

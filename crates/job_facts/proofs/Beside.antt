@@ -1,4 +1,4 @@
--- Operations as they begin; and what an attempt sends leaves the driver's commit as it is.
+-- The first states of operations; and what an attempt sends leaves the driver's commit as it is.
 use Rattle.basics.proofs.Members.{false_true, none_some}
 use Rattle.basics.specs.Members.{IsIn}
 use Rattle.job_facts.proofs.Acting.{fits_checking, fits_writing}
@@ -32,9 +32,9 @@ use Rattle.s3_types.specs.declared.request.Request.{Request}
 use Rattle.std.proofs.Common.{Bool, List, None, Option, Some, ap, arith, inl, inr, refl, subst, sym, true, ℕ, [], ◌∙◌, ◌≡◌}
 use Rattle.job_model.specs.declared.ends.TaskEnd.TheVariants as tasks
 
--- ---- operations as they begin
+-- ---- the first states of operations
 
--- an attempt that knows nothing has all its files to write
+-- An attempt that knows nothing has all its files to write.
 all_todo : (w : Script) (minimum : ℕ) → IsLegal w → (a : Who) (ds : List Drawn) → ds ≡ [] → Todo w minimum a ds (files w a)
 all_todo w minimum j a ds e = record {
   each = λ f i. i;
@@ -68,9 +68,9 @@ pub job_commit_begins : (w : Script) (minimum : ℕ) → IsLegal w → (m : Told
 job_commit_begins w minimum j m None = fetching_so (fits_course j minimum m.publish_sent m.drawn) [] (λ t s e. absurd (none_some refl e))
 job_commit_begins w minimum j m (Some t) = tt
 
--- ---- who has sent its publishing request learns no more
+-- ---- an attempt that has sent its publishing request learns no more
 
--- that it was sent stays so
+-- Once it was sent, it stays so.
 learn_sent : (w : Script) (a : Who) (k : Known) (r : Request) (o : Outcome) → k.publish_sent ≡ true → (learn w a k r o).publish_sent ≡ true
 learn_sent w a k r o h = grind arith
 
@@ -114,7 +114,7 @@ module _ (g : Setting) (m : Told) (a : Who) (op : Operation) (fits : Fits g.scri
         is = h.is ∙ ap (λ ds. files_set g.script h.by h.commits (knowing ds)) same;
       }
 
-  -- the driver's commit is as it was
+  -- The driver's commit is as it was.
   pub beside : (c : Commit) → FitsJobCommit g.script g.minimum m.publish_sent m.drawn c
       → FitsJobCommit g.script g.minimum now.publish_sent now.drawn c
   beside c h = grind (arith, held_still)

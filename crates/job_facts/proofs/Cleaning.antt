@@ -1,5 +1,5 @@
--- The driver's abort or clean of the job keeps the facts with each of its requests, goes on as it should, and no reader of the destination
--- sees it.
+-- The driver's abort or clean of the job keeps the facts with each of its requests, its state fits afterwards, and it changes nothing that
+-- readers of the destination see.
 use Rattle.basics.proofs.Members.{in_append, in_filter, some_is}
 use Rattle.basics.specs.Members.{IsIn}
 use Rattle.job_facts.proofs.Aborting.{dropped_in, taken, taken_in}
@@ -72,7 +72,7 @@ module _ (w : Script) where
   fits_removing (p ∷ ps) h = (refl, h)
 
 module _ (w : Script) (minimum : ℕ) (k : Times) (s : Seen) (m : Told) (n : ℕ) (j : IsLegal w) (h : Hold w minimum s m) where
-  -- what it sends
+  -- What it sends.
   pub clean_asked : (t : Clean) → FitsClean w m.cleaned t → (r : Request) → clean_asks w t ≡ Some r
       → IsClearing w m.cleaned (Unit {0}) (Unit {0}) r
   clean_asked (Aborting u us) fits r e = subst (IsClearing w m.cleaned (Unit {0}) (Unit {0})) (some_is e)
@@ -83,12 +83,12 @@ module _ (w : Script) (minimum : ℕ) (k : Times) (s : Seen) (m : Told) (n : ℕ
   clean_asked (CleanOver end) fits r e = absurd cc
   clean_asked _ fits r e = reads r (ap only_reads (sym (some_is e)))
 
-  -- the facts are kept
+  -- It keeps the facts.
   pub clean_keeps : (t : Clean) → FitsClean w m.cleaned t → (r : Request) → clean_asks w t ≡ Some r → (o : Outcome)
       → Hold w minimum (see w k s (driver_entry n r o)) (tell w m (driver_entry n r o))
   clean_keeps t fits r e o = clearing_keeps j k s m n r o (clean_asked t fits r e) h
 
-  -- no reader of the destination sees it, since it changes no key that is not below the magic directory
+  -- Readers of the destination see no change, since it changes only keys below the magic directory.
   pub clean_hides : (t : Clean) → FitsClean w m.cleaned t → (r : Request) → clean_asks w t ≡ Some r → HidesAll w r
   clean_hides t fits r e = clearing_hides r (clean_asked t fits r e) tt
 
@@ -96,7 +96,7 @@ module _ (w : Script) (minimum : ℕ) (k : Times) (s : Seen) (m : Told) (n : ℕ
       → Same (view w.dest (effect s.scene r o).content) (view w.dest s.scene.content)
   clean_shows t fits r e o = hidden_shows j s.scene r o h.there (clean_hides t fits r e)
 
-  -- it goes on as it should
+  -- Its state fits afterwards.
   module _ (timely : is_begun m.cleans_at n ≡ true) (retries : ℕ) (spare : ℕ) (repeated : Bool) where
     now : (m.cleaned || is_begun m.cleans_at n) ≡ true
     now = ap (λ b. m.cleaned || b) timely ∙ or-true m.cleaned
@@ -104,7 +104,7 @@ module _ (w : Script) (minimum : ℕ) (k : Times) (s : Seen) (m : Told) (n : ℕ
     abbrev at : Clean → Retried Clean
     at op = record { operation = op; spare = spare; repeated = repeated }
 
-    -- what fits before it has begun fits then
+    -- A state that fits before the clean-up has begun fits after it.
     begun : (op : Clean) → FitsClean w m.cleaned op → FitsClean w true op
     begun op h = grind arith
 

@@ -1,4 +1,4 @@
--- The driver's abort or clean of the job leaves nothing of it, where nobody else sends.
+-- The driver's abort or clean leaves nothing of the job, if nobody else sends.
 use Rattle.basics.proofs.Members.{filter_in, in_back, in_front, map_in, none_some, same_or_not, text_exact, text_gone, text_true}
 use Rattle.basics.proofs.Members.{true_or_false}
 use Rattle.basics.specs.Members.{IsIn}
@@ -43,7 +43,7 @@ use Rattle.store_frame.specs.Held.{HasBucket}
 use Rattle.std.specs.FinMap as fin
 use Rattle.s3_types.specs.Multipart as multipart
 
--- ---- as it ends
+-- ---- its end
 
 nothing_staging : (c : Committer) (w : Script) (s : Scene) → is_staging c ≡ true → NoneLive w s.content → FilesIn w s [] → NothingLeft c w s
 nothing_staging Magic w s m none bare = absurd cc
@@ -74,7 +74,7 @@ module _ (w : Script) (s : Scene) where
 -- ---- its requests
 
 module _ (w : Script) (s : Scene) where
-  -- a page of live uploads
+  -- A page of live uploads.
   module _ (there : HasBucket s.content w.dest.bucket) (found : List UploadRef) (cover : LiveOrBehind w s.content found) where
     abbrev rest : List UploadRef
     rest = refs_rest w s there found
@@ -102,7 +102,7 @@ module _ (w : Script) (s : Scene) where
     paged true e = (there, cover_more)
     paged false e = clears_aborting w s w.committer refl (found ++ take 1000 rest) there (cover_all e)
 
-  -- an abort of an upload
+  -- An abort of an upload.
   module _ (there : HasBucket s.content w.dest.bucket) (u : UploadRef) (us : List UploadRef) (live : LiveIn w s.content (u ∷ us)) where
     abbrev abort : Request
     abort = AbortUpload w.dest.bucket u.key u.upload
@@ -122,14 +122,14 @@ module _ (w : Script) (s : Scene) where
           | inr i ↦ i
         ]
 
-  -- deletions leave uploads alone
+  -- Deletions leave uploads as they are.
   sweep_live : (t : Sweep) → HasBucket s.content w.dest.bucket → NoneLive w s.content
       → NoneLive w (apply s (sweep_asks w.dest.bucket (magic_prefix w.dest.key w.job) t)).content
   sweep_live (Listing keys) there none = subst (λ (u : Scene). NoneLive w u.content)
       (sym (reads_nothing s (sweep_asks w.dest.bucket (magic_prefix w.dest.key w.job) (Listing keys)) refl)) none
   sweep_live (Deleting q qs) there none = λ id u e. none id u (sym ((deletes_drop w s (take 1000 (q ∷ qs)) there).uploads id) ∙ e)
 
-  -- a cluster file
+  -- A file in the cluster.
   named : (p bytes : List ℕ) → fin.get s.files p ≡ Some bytes → IsIn p (fin.keys s.files)
   named p bytes e = map_in (λ (q : List ℕ × List ℕ). q.0) (p, bytes) (fin.entries s.files)
       (find_in text_cmp text_exact (fin.entries s.files) p bytes (sym (fin.get-entries s.files p) ∙ e))

@@ -47,7 +47,7 @@ module _ (w : Script) (sent : Who → Bool) (drawn : Who → List Drawn) where
   ends_none : (r : Request) → ((id : ℕ) → ends r id ≡ false) → EndsOnly r
   ends_none r none id e = absurd (false_true (none id) e)
 
-  -- of a commit only a revert matters
+  -- Of the stages of a commit, only a revert matters.
   reverts_course : Course w (Reverts sent drawn) (λ sets. Unit {0}) (λ sets ps. Unit {0})
   reverts_course = record {
     fetches = λ sets l h. tt;
@@ -67,7 +67,7 @@ module _ (w : Script) (sent : Who → Bool) (drawn : Who → List Drawn) where
   reverts_missed : (c : Commit) → Reverts sent drawn c → (lost : Bool) → Reverts sent drawn (missed c lost)
   reverts_missed c h lost = grind arith
 
--- ---- the sets that the driver holds are of attempts that have sent
+-- ---- the sets that the driver has read are of attempts that have sent
 
 module _ {w : Script} {minimum : ℕ} {s : Scene} {last : ℕ → Option ℕ} {m : Told} (j : IsLegal w) (f : Facts w minimum s last m) where
   commits_sent : (sets : Sets) → Reads w minimum m.publish_sent m.drawn sets → (p : Pending) → IsIn p (all_commits sets)
@@ -125,7 +125,7 @@ module _ {w : Script} {minimum : ℕ} {s : Scene} {last : ℕ → Option ℕ} {m
 
 -- ---- entries
 
--- of the driver
+-- An entry of the driver.
 pub driver_closes : (m : Told) (n : ℕ) (r : Request) (o : Outcome) → Closed m
     → ((id : ℕ) → ends r id ≡ true → IsSent m.publish_sent m.drawn id) → Closed (at_event n (tell_driver m r o))
 driver_closes m n r o h only c id e = elim (true_or_false (m.ended id)) [
@@ -133,7 +133,7 @@ driver_closes m n r o h only c id e = elim (true_or_false (m.ended id)) [
   | inr g ↦ only id (and_parts (is_effective o) (ends r id) (sym (ap (λ b. b || (is_effective o && ends r id)) g) ∙ e)).1
 ]
 
--- of an attempt
+-- An entry of an attempt.
 module _ (g : Setting) (m : Told) (a : Who) (op : Operation) (fits : Fits g.script g.minimum a m op) (r : Request)
     (e : asks g a (known m a) op ≡ Some r) (o : Outcome) where
   abbrev now : Told
@@ -153,7 +153,7 @@ module _ (g : Setting) (m : Told) (a : Who) (op : Operation) (fits : Fits g.scri
   attempt_reverts (Reverting q qs n) h = ends_now (q ∷ qs) h
   attempt_reverts _ h = tt
 
--- of the driver's commit
+-- An entry of the driver's commit.
 pub commit_closes : (g : Setting) → IsLegal g.script → (s : Seen) (m : Told) → Hold g.script g.minimum s m → Closed m → (c : Commit)
     → FitsJobCommit g.script g.minimum m.publish_sent m.drawn c → Tabled g.script c → Reverts m.publish_sent m.drawn c
     → (r : Request) → commit_asks g.script c ≡ Some r → (n : ℕ) (o : Outcome) → Closed (at_event n (tell_driver m r o))
@@ -164,7 +164,7 @@ commit_closes g j s m h closed c f t v r e n o = (
       (reverts_missed g.script m.publish_sent m.drawn c v) (reverts_worn j h c f v t),
 )
 
--- and of its abort or clean, which has begun then
+-- An entry of its abort or clean, which has begun then.
 pub clean_begun : (m : Told) (n : ℕ) → is_begun m.cleans_at n ≡ true → (r : Request) (o : Outcome)
     → (at_event n (tell_driver m r o)).cleaned ≡ true
 clean_begun m n timely r o = ap (λ b. m.cleaned || b) timely ∙ or-true m.cleaned

@@ -41,12 +41,12 @@ module _ (w : Script) (minimum : ℕ) (f : File) where
 
 -- ---- the parts of a file's upload, joined by a completion, are the file's bytes
 
--- the parts from n on are these bytes
+-- The parts with numbers from n on have these bytes.
 abbrev Match : Parts → ℕ → List (List ℕ) → Type 0
 Match m n [] = Unit {0}
 Match m n (b ∷ bs) = (fin.get m n ≡ Some b) × Match m (n + 1) bs
 
--- which are named by their tags
+-- The parts in a completion, named by their tags.
 abbrev named : ℕ → List (List ℕ) → List NamedPart
 named n bs = named_from n (map plain_tag bs)
 
@@ -69,7 +69,7 @@ all_joined m n (b ∷ bs) h =
     let first : bytes_of m (record { number = n; tag = plain_tag b }) ≡ b = rw h.0 refl in
     ap (λ x. x ++ flat_map (bytes_of m) (named (n + 1) bs)) first ∙ ap (λ l. b ++ l) (all_joined m (n + 1) bs h.1)
 
--- all but the last have the minimum
+-- All parts but the last have the least size.
 abbrev AllLarge : ℕ → List (List ℕ) → Type 0
 AllLarge minimum (b ∷ c ∷ bs) = (minimum ≤ length b) × AllLarge minimum (c ∷ bs)
 AllLarge minimum _ = Unit {0}
@@ -104,8 +104,7 @@ from_there m n (b ∷ bs) h =
           (fin.get m) there ∙ h (suc i) x e),
     )
 
--- the tags of all the parts of a file
--- an upload that is held with the tags of all its parts is joined to its file
+-- If an upload is held and the tags of all its parts came back, its parts are joined to its file.
 pub held_joined : (w : Script) (minimum : ℕ) (uploads : ℕ → Option Upload) (d : Drawn) (f : File) → (h : IsHeld w minimum uploads d f)
     → d.tags ≡ map plain_tag (file_parts w minimum f) → length d.tags ≡ length (file_parts w minimum f)
     → joined (Some (record { key = d.key; parts = h.parts })) (named_from 1 d.tags) minimum ≡ Ok f.1

@@ -1,4 +1,4 @@
--- The driver's commit has decided as it goes on with its sets, and a revert names their uploads alone.
+-- When the driver's commit goes on with its sets, all are read and no two share a path; and a revert names only their uploads.
 use Rattle.job_facts.proofs.Held.{Course, completing_so, fetched_so, fetching_so, missed, of_sets, revert_each, swept_so, tells_so, worn}
 use Rattle.job_facts.specs.Driver.{FitsJobCommit}
 use Rattle.job_facts.specs.Facts.{Facts}

@@ -27,16 +27,16 @@ use Rattle.s3_types.specs.declared.request.UploadRef.{UploadRef}
 use Rattle.std.proofs.Common.{Bool, List, Option, ap, arith, sym, true, ℕ, ◌&&◌, ◌∙◌, ◌≡◌}
 use Rattle.std.proofs.lemmas.Bool.{or_parts}
 
--- ---- more is told of the driver
+-- ---- what a journal says of the driver changes
 
--- uploads are ended that were not
+-- More uploads are ended.
 pub told_more : {w : Script} {minimum : ℕ} {s : Scene} {last : ℕ → Option ℕ} {m : Told} (r : Request) (o : Outcome)
     → Facts w minimum s last m → Facts w minimum s last (tell_driver m r o)
 told_more {s = s} {m = m} r o f =
     facts_so s s.files f f.ids (λ a d i. let x = f.owned a d i in owned_by x (λ e u. x.held (or_parts (m.ended d.upload) _ e).0 u))
     f.records f.sets f.standing f.temporaries f.kept
 
--- it has begun to clean up
+-- The driver has begun to clean up.
 pub told_at : {w : Script} {minimum : ℕ} {s : Scene} {last : ℕ → Option ℕ} {m : Told} (n : ℕ) → Facts w minimum s last m
     → Facts w minimum s last (at_event n m)
 told_at {s = s} {m = m} n f = facts_so s s.files f f.ids f.owned f.records f.sets (λ c. f.standing (or_parts m.cleaned _ c).0) f.temporaries
@@ -46,7 +46,7 @@ told_at {s = s} {m = m} n f = facts_so s s.files f f.ids f.owned f.records f.set
 
 module _ {w : Script} {minimum : ℕ} {last : ℕ → Option ℕ} {m : Told} (j : IsLegal w) (s : Scene) (r : Request) (d : IsDriving w r)
     (f : Facts w minimum s last m) where
-  -- an effect, which ends what it changes
+  -- The request took effect, and ends what it changes.
   pub driving_effect : (o : Outcome) → Facts w minimum (effect s r o) last (tell_driver m r o)
   driving_effect o =
       effect_by (λ v u. Facts w minimum u last (tell_driver m r v)) s r o (λ none. told_more r o f)
@@ -54,7 +54,7 @@ module _ {w : Script} {minimum : ℕ} {last : ℕ → Option ℕ} {m : Told} (j 
       (λ id k e b c. false_true (sym (ap (λ t. t && ends r id) took) ∙ (or_parts (m.ended id) _ e).1) (d.uploads id c)) d.paths)
       (told_more r o f))
 
--- what is seen after an entry of the driver
+-- What the journal shows after an entry of the driver.
 driver_sees : {w : Script} {minimum : ℕ} (k : Times) (s : Seen) (m : Told) (n : ℕ) (r : Request) (o : Outcome)
     → Facts w minimum (effect s.scene r o) s.last (tell_driver m r o)
     → Hold w minimum (see w k s (driver_entry n r o)) (tell w m (driver_entry n r o))
@@ -70,7 +70,8 @@ reads_drive w r h = grind arith
 
 -- ---- requests of an abort or clean of the job, which deletes once it has begun
 
--- it only reads, aborts an upload that is below the destination if A, or deletes keys that are the job's own if B, or a file of the cluster
+-- The request only reads, or aborts an upload that is below the destination if A, or deletes keys that are the job's own if B, or a file of
+-- the cluster.
 pub data IsClearing (w : Script) (begun : Bool) (A B : Type 0) : Request → Type 0 where
   reads : (r : Request) → only_reads r ≡ true → IsClearing w begun A B r
   aborts : (u : UploadRef) → (A → begins (dest_prefix w) u.key ≡ true) → IsClearing w begun A B (AbortUpload w.dest.bucket u.key u.upload)

@@ -1,4 +1,4 @@
--- What the driver's completions, aborts and deletions leave of a file's key and of its upload.
+-- What the driver's completions, aborts and deletions leave at a file's key and of its upload.
 use Rattle.basics.proofs.Members.{none_or_some, text_gone, text_true, true_or_false}
 use Rattle.job_facts.proofs.Ended.{completes_id, completes_key, gone_stays, refused_key}
 use Rattle.job_facts.proofs.Replies.{file_joined, held_of}
@@ -37,13 +37,13 @@ module _ (w : Script) (s : Scene) (there : HasBucket s.content w.dest.bucket) wh
   deleted_uploads q id = ap (λ c. at_id w c id) (store_is w s there.0 there.1 (DeleteObject w.dest.bucket q)) ∙ id_after w s there.0 there.1
       (left q) s.content.next id ∙ sym (id_before w s there.0 there.1 id)
 
-  -- a batch leaves what stands at a key, or nothing
+  -- After a batch there is the same object at a key, or none.
   pub deleted_or_not : (keys : List (List ℕ)) (k : List ℕ)
       → (at_key w (apply s (DeleteObjects w.dest.bucket keys)).content k ≡ at_key w s.content k)
       ⊎ (at_key w (apply s (DeleteObjects w.dest.bucket keys)).content k ≡ None)
   deleted_or_not keys k = grind (arith, none_or_some, deletes_drop)
 
--- ---- of the uploads of sets that were read
+-- ---- the uploads of sets that were read
 
 module _ {w : Script} {minimum : ℕ} {s : Scene} {last : ℕ → Option ℕ} {m : Told} (j : IsLegal w) (f : Facts w minimum s last m)
     (gone : Gone w s.content m) (p : Pending) (x : IsCommit w minimum m.publish_sent m.drawn p) where
@@ -53,26 +53,26 @@ module _ {w : Script} {minimum : ℕ} {s : Scene} {last : ℕ → Option ℕ} {m
   pub upload_low : p.upload < s.content.next
   upload_low = subst (λ n. n < s.content.next) (sym upload_is) (f.ids.below x.by x.written.drawn x.written.known)
 
-  -- where it is not ended its parts are joined to the file
+  -- If the upload is not ended, its parts are joined to the file.
   whole_joined : m.ended p.upload ≡ false → joined (live f.there.0.uploads (file_key w x.file) x.written.drawn.upload)
       (named_from 1 x.written.drawn.tags) s.content.minimum ≡ Ok x.file.1
   whole_joined e = file_joined j f x.by x.file x.mine x.written (ap m.ended (sym upload_is) ∙ e) (f.kept x.by x.has_sent)
 
-  -- so a completion puts the file, and the upload is gone
+  -- So a completion puts the file, and the upload is gone.
   pub completes_file : m.ended p.upload ≡ false → at_key w (apply s (completion p)).content p.destination ≡ Some (whole_of x.file.1)
   completes_file e =
       subst (λ (v : Pending). at_key w (apply s (completion v)).content v.destination ≡ Some (whole_of x.file.1)) (sym x.is)
       (completes_key w s f.there.0 f.there.1 (file_key w x.file) x.written.drawn.upload (named_from 1 x.written.drawn.tags) x.file.1
       (whole_joined e))
 
-  -- of one that is ended it changes no key
+  -- A completion of an ended upload changes no key.
   pub completes_nothing : m.ended p.upload ≡ true → (k : List ℕ) → at_key w (apply s (completion p)).content k ≡ at_key w s.content k
   completes_nothing e k =
       let none : at_id w s.content x.written.drawn.upload ≡ None = ap (at_id w s.content) (sym upload_is) ∙ (gone p.upload e).1 in
       subst (λ (v : Pending). at_key w (apply s (completion v)).content k ≡ at_key w s.content k) (sym x.is)
       (refused_key w s f.there.0 f.there.1 (file_key w x.file) x.written.drawn.upload (named_from 1 x.written.drawn.tags) none k)
 
-  -- after a completion or an abort the upload is gone
+  -- After a completion or an abort the upload is gone.
   pub completion_ends : at_id w (apply s (completion p)).content p.upload ≡ None
   completion_ends = elim (true_or_false (m.ended p.upload)) [
     | inl e ↦ gone_stays w s f.there p.upload upload_low (completion p) (gone p.upload e).1
@@ -96,14 +96,14 @@ module _ {w : Script} {minimum : ℕ} {s : Scene} {last : ℕ → Option ℕ} {m
   pub deletion_is : deletion p ≡ DeleteObject w.dest.bucket p.destination
   deletion_is = ap (λ (v : Pending). DeleteObject v.bucket p.destination) x.is
 
-  -- keys and uploads that are not the request's own
+  -- The request changes no other key and no other upload.
   pub other_key : (k : List ℕ) → (k ≡ p.destination → ⊥) → at_key w (apply s (completion p)).content k ≡ at_key w s.content k
   other_key k ne = (frame s w.dest.bucket (completion p) f.there).keys k (λ b i. elim i [ inl e ↦ ne e | inr none ↦ absurd none ])
 
   pub abort_keys : (k : List ℕ) → at_key w (apply s (abort p)).content k ≡ at_key w s.content k
   abort_keys k = (frame s w.dest.bucket (abort p) f.there).keys k (λ b i. absurd i)
 
-  -- a deletion leaves nothing at its key, and the others as they are
+  -- A deletion leaves no object at its key, and the others as they are.
   pub deletion_key : at_key w (apply s (deletion p)).content p.destination ≡ None
   deletion_key = ap (λ r. at_key w (apply s r).content p.destination) deletion_is ∙ deleted w s f.there p.destination
 

@@ -1,4 +1,4 @@
--- A sweep of the job's magic directory leaves nothing there, where none but the driver changes it.
+-- A sweep of the job's magic directory leaves nothing there, if only the driver changes it.
 use Rattle.basics.proofs.Members.{filter_in, in_filter, none_some, text_true}
 use Rattle.basics.specs.Members.{IsIn}
 use Rattle.basics.specs.Order.{text_cmp, text_ties, text_total}
@@ -72,11 +72,11 @@ magic_some [] r [] h = absurd (false≢true h)
 magic_some (x ∷ p) r [] h = absurd (false≢true h)
 magic_some p r (x ∷ k) h = refl
 
--- as it begins
+-- Its first state.
 pub sweep_begins : (w : Script) (c : Content) → Empties w c (Listing [])
 sweep_begins w c k x h go e = inr (magic_some w.dest.key _ k h)
 
--- a sweep that goes on, or is done
+-- A sweep that goes on, or is done.
 abbrev pub EmptiedBy : Script → List ℕ → (List ℕ → Bool) → Content → Option Sweep → Type 0
 EmptiedBy w p goes c None = OnlyThose w p goes c []
 EmptiedBy w p goes c (Some t) = SweepsUnder p t × EmptiesBy w p goes c t
@@ -134,12 +134,12 @@ module _ (w : Script) (s : Scene) (there : HasBucket s.content w.dest.bucket) (p
       | inr i ↦ i
     ]
 
-  -- ---- both
+  -- ---- a page or a batch
 
   abbrev asked : Sweep → Request
   asked t = sweep_asks w.dest.bucket prefix t
 
-  -- after its answer
+  -- After its answer.
   pub swept_by : (t : Sweep) → SweepsUnder prefix t → EmptiesBy w prefix goes s.content t → (x : Reply) → x ≡ answer s (asked t)
       → EmptiedBy w prefix goes (apply s (asked t)).content (sweep_hears goes t x)
   swept_by (Listing keys) all h x e =
@@ -150,7 +150,7 @@ module _ (w : Script) (s : Scene) (there : HasBucket s.content w.dest.bucket) (p
       deletes_on w prefix goes (apply s (asked (Deleting q qs))).content (drop 1000 (q ∷ qs)) (λ k i. all k (dropped_in 1000 (q ∷ qs) k i))
       (cover_left (q ∷ qs) all h)
 
-  -- as it is, also where its request took effect
+  -- In the same state, also if its request took effect.
   pub still_by : (t : Sweep) → SweepsUnder prefix t → EmptiesBy w prefix goes s.content t → (o : Outcome)
       → EmptiesBy w prefix goes (effect s (asked t) o).content t
   still_by (Listing keys) all h o = subst (λ (u : Scene). EmptiesBy w prefix goes u.content (Listing keys))
@@ -158,7 +158,7 @@ module _ (w : Script) (s : Scene) (there : HasBucket s.content w.dest.bucket) (p
   still_by (Deleting q qs) all h o = effect_so (λ u. EmptiesBy w prefix goes u.content (Deleting q qs)) s (asked (Deleting q qs)) o h
       (λ k x b go e. h k x b go (stood_at (q ∷ qs) all h k x e))
 
--- of the job's magic directory
+-- A sweep of the job's magic directory.
 pub sweep_empties : (w : Script) (s : Scene) (there : HasBucket s.content w.dest.bucket) (t : Sweep) → FitsSweep w t → Empties w s.content t
     → (x : Reply) → let r = sweep_asks w.dest.bucket (magic_prefix w.dest.key w.job) t in x ≡ answer s r
     → Emptied w (apply s r).content (sweep_hears all_go t x)
@@ -168,7 +168,7 @@ pub sweep_still : (w : Script) (s : Scene) (there : HasBucket s.content w.dest.b
     → (o : Outcome) → Empties w (effect s (sweep_asks w.dest.bucket (magic_prefix w.dest.key w.job) t) o).content t
 sweep_still w s there t all h o = still_by w s there (magic_prefix w.dest.key w.job) all_go t all h o
 
--- the same keys below the directory
+-- The same keys are below the directory.
 pub sweep_same : (w : Script) (c d : Content) (t : Sweep)
     → ((k : List ℕ) → begins (magic_prefix w.dest.key w.job) k ≡ true → at_key w d k ≡ at_key w c k) → Empties w c t → Empties w d t
 sweep_same w c d t h g = grind arith

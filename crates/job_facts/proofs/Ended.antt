@@ -1,4 +1,4 @@
--- A live upload keeps its key, and one that is gone never comes back; a completion that is due puts the file, and leaves its upload gone.
+-- A live upload keeps its key, and one that is gone never comes back; a completion that is due puts the file, and its upload is gone.
 use Rattle.basics.proofs.Members.{nat_gone, nat_left, none_or_some, none_some, same_or_not, same_or_other, some_is, text_here}
 use Rattle.basics.specs.Order.{text_eq}
 use Rattle.job_facts.proofs.Shapes.{abort_turns, id_after, id_before, key_after, key_before, part_turns, store_is}
@@ -17,7 +17,7 @@ use Rattle.store_frame.proofs.Framed.{frame}
 use Rattle.store_frame.specs.Held.{HasBucket}
 use Rattle.std.specs.FinMap as fin
 
--- what stands at an upload's id stood before, with the same key
+-- The upload was there before, with the same key.
 pub record Stood (before : Option Upload) (u : Upload) : Type 0 where
   pub one : Upload
   pub stood : before ≡ Some one
@@ -65,7 +65,7 @@ module _ (w : Script) (s : Scene) (b : BucketContent) (there : fin.get s.content
   then_id key id parts u = ap (λ c. at_id w c u) (store_is w s b there (CompleteUpload w.dest.bucket key id parts)) ∙ id_after w s b there
       (done key id parts) s.content.next u
 
-  -- the bytes that it joins stand at its key, and the upload is gone
+  -- The object at its key has the joined bytes, and the upload is gone.
   pub completes_key : (key : List ℕ) (id : ℕ) (parts : List NamedPart) (bytes : List ℕ)
       → joined (live b.uploads key id) parts s.content.minimum ≡ Ok bytes
       → at_key w (after key id parts) key ≡ Some (record { bytes = bytes; header = None })
@@ -77,7 +77,7 @@ module _ (w : Script) (s : Scene) (b : BucketContent) (there : fin.get s.content
   completes_id key id parts bytes e = then_id key id parts id ∙ ap (λ x. fin.get (completed b key id x).uploads id) e ∙ nat_gone b.uploads
       id id refl
 
-  -- where the upload is gone it changes no key
+  -- If the upload is gone, the completion changes no key.
   pub refused_key : (key : List ℕ) (id : ℕ) (parts : List NamedPart) → at_id w s.content id ≡ None → (k : List ℕ)
       → at_key w (after key id parts) k ≡ at_key w s.content k
   refused_key key id parts h k = grind (arith, id_before, then_key, key_before)
@@ -94,11 +94,11 @@ module _ (w : Script) (s : Scene) (there : HasBucket s.content w.dest.bucket) (i
   abbrev After : Request → Type 0
   After r = (u : Upload) → at_id w (apply s r).content id ≡ Some u → Stood (at_id w s.content id) u
 
-  -- one that does not name the upload
+  -- A request that does not name the upload.
   other : (r : Request) → (bucket_of r ≡ w.dest.bucket → ⊥) → After r
   other r ne u e = as_it_was (at_id w s.content id) u (sym ((frame s w.dest.bucket r there).uploads id (λ b i. ne b) low) ∙ e)
 
-  -- one that changes what stands at one id
+  -- A request that changes only the upload at one id.
   turn_so : (r : Request) (x : ℕ) → ((u : ℕ) → u < s.content.next → (u ≡ x → ⊥) → at_id w (apply s r).content u ≡ at_id w s.content u)
       → ((u : Upload) → at_id w (apply s r).content x ≡ Some u → Stood (at_id w s.content x) u) → After r
   turn_so r x others here u e = elim (same_or_not id x) [
@@ -122,7 +122,7 @@ module _ (w : Script) (s : Scene) (there : HasBucket s.content w.dest.bucket) (i
       turn_so r x (λ u l ne. (frame s w.dest.bucket r there).uploads u (λ b i. ne (sym (some_is i))) l)
       (complete_stood w s there.0 there.1 key x parts)
 
-  -- whoever sends it
+  -- Whoever sends it.
   pub stood_so : (r : Request) → After r
   stood_so (UploadPart q key x number bytes) = elim (same_or_other q w.dest.bucket) [
     | inl is ↦ subst (λ n. After (UploadPart n key x number bytes)) (sym is) (part_so key x number bytes)
@@ -140,7 +140,7 @@ module _ (w : Script) (s : Scene) (there : HasBucket s.content w.dest.bucket) (i
   stood_so r = λ u e. as_it_was (at_id w s.content id) u (sym ((frame s w.dest.bucket r there).uploads id (λ b i. none_some refl i) low) ∙
       e)
 
-  -- an upload that is gone does not come back
+  -- An upload that is gone does not come back.
   pub gone_stays : (r : Request) → at_id w s.content id ≡ None → at_id w (apply s r).content id ≡ None
   gone_stays r none = elim (none_or_some (at_id w (apply s r).content id)) [
     | inl e ↦ e
@@ -148,7 +148,7 @@ module _ (w : Script) (s : Scene) (there : HasBucket s.content w.dest.bucket) (i
         (none_some none (stood_so r x.0 x.1).stood)
   ]
 
--- a completion leaves an upload as it is, or ends one with its key
+-- A completion leaves an upload as it is, or ends one with its key.
 completed_left : (b : BucketContent) (key : List ℕ) (id : ℕ) (parts : List NamedPart) (minimum : ℕ) (o : Option Upload)
     → fin.get b.uploads id ≡ o → (x : Result (List ℕ) Refusal) → joined (with_key key o) parts minimum ≡ x
     → (fin.get (completed b key id x).uploads id ≡ o) ⊎ (fin.get (completed b key id x).uploads id ≡ end_left key o)

@@ -1,4 +1,4 @@
--- Each upload that the driver has ended is gone; what stands where files go after each entry of its commit.
+-- Each upload that the driver has ended is gone; and what is at the paths of files after each entry of its commit.
 use Rattle.basics.proofs.Members.{eq_nat, false_true, some_is, true_or_false}
 use Rattle.job_facts.proofs.Effects.{abort_ends, completion_ends, upload_low}
 use Rattle.job_facts.proofs.Ended.{gone_stays}
@@ -29,7 +29,7 @@ use Rattle.std.proofs.lemmas.Bool.{and_parts, false≢true}
 use Rattle.store_frame.proofs.Framed.{frame}
 use Rattle.store_frame.specs.Held.{HasBucket}
 
--- an upload that is gone stays so
+-- An upload that is gone stays gone.
 module _ (w : Script) (s : Scene) (there : HasBucket s.content w.dest.bucket) (id : ℕ) where
   abbrev Out : Scene → Type 0
   Out u = (id < u.content.next) × (at_id w u.content id ≡ None)
@@ -44,7 +44,7 @@ effective_is s r o h = grind arith
 
 module _ {w : Script} {minimum : ℕ} {s : Scene} {last : ℕ → Option ℕ} {m : Told} (j : IsLegal w) (f : Facts w minimum s last m)
     (gone : Gone w s.content m) where
-  -- a request ends nothing, or it is about the upload of a set that was read
+  -- The request ends nothing, or it is about the upload of a set that was read.
   abbrev pub Kind : Request → Type 0
   Kind r = ((id : ℕ) → ends r id ≡ false) ⊎ ((p : Pending) × IsCommit w minimum m.publish_sent m.drawn p
       × ((r ≡ completion p) ⊎ ((r ≡ abort p) ⊎ (r ≡ deletion p))))
@@ -71,7 +71,7 @@ module _ {w : Script} {minimum : ℕ} {s : Scene} {last : ℕ → Option ℕ} {m
   ended_out p x q r is none id same = subst (λ v. Out w s f.there v (apply s r)) (sym same)
       (subst (λ y. Out w s f.there p.upload (apply s y)) (sym is) (low p x q, none))
 
-  -- what such a request ends is gone
+  -- What such a request ends is gone.
   ends_now : (r : Request) → Kind r → (id : ℕ) → ends r id ≡ true → Out w s f.there id (apply s r)
   ends_now r (inl none) id e = absurd (false_true (none id) e)
   ends_now r (inr (p, x, inl is)) id e = ended_out p x (completion p) r is (completion_ends j f gone p x) id
@@ -93,7 +93,7 @@ module _ {w : Script} {minimum : ℕ} {s : Scene} {last : ℕ → Option ℕ} {m
 pub first_gone : (w : Script) (s : Scene) (c : Option ℕ) → Gone w s.content (nothing_told c)
 first_gone w s c id e = absurd (false≢true e)
 
--- a request that ends nothing leaves it so
+-- After a request that ends nothing, all ended uploads are still gone.
 pub others_gone : (w : Script) (s : Scene) → HasBucket s.content w.dest.bucket → (ended : ℕ → Bool)
     → ((id : ℕ) → ended id ≡ true → (id < s.content.next) × (at_id w s.content id ≡ None)) → (r : Request) (o : Outcome)
     → (id : ℕ) → ended id ≡ true → (id < (effect s r o).content.next) × (at_id w (effect s r o).content id ≡ None)

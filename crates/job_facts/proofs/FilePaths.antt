@@ -1,4 +1,4 @@
--- The paths of the job's files are such as a reader of the destination is shown.
+-- The paths of the job's files are paths that readers of the destination see.
 use Rattle.basics.proofs.Bools.{not_so}
 use Rattle.basics.proofs.Members.{false_true, true_or_false}
 use Rattle.basics.proofs.Pieces.{one_part, parts_append}
@@ -35,7 +35,7 @@ use Rattle.std.proofs.lemmas.List.Folds.{list_all-append}
 use Rattle.std.specs.Fmt.{decimal}
 use Rattle.std.specs.List.{list_all, list_any}
 
--- a text that ends in `/` has an empty part
+-- A text that ends in `/` has an empty part.
 no_folder : (part : List ℕ) (x : ℕ) (p : List ℕ) → is_folder (x ∷ p) ≡ true → list_all is_full (parts_from 47 part (x ∷ p)) ≡ true → ⊥
 unfolding parts_from
 no_folder part x [] h full = elim (true_or_false (x == 47)) [
@@ -47,7 +47,7 @@ no_folder part x (y ∷ p) h full = elim (true_or_false (x == 47)) [
   | inr e ↦ no_folder (part ++ x ∷ []) y p h (rw e at full)
 ]
 
--- a path that does not begin with `_`, and has no empty part
+-- A path that does not begin with `_` and has no empty part is that of a file.
 shown_so : (p : List ℕ) → is_open p ≡ true → list_all is_full (parts_of 47 p) ≡ true → is_file_path p ≡ true
 shown_so [] h full = absurd (false≢true h)
 shown_so (x ∷ p) h full =
@@ -85,7 +85,7 @@ module _ {w : Script} (j : IsLegal w) where
       let e : f.0 ≡ path_of w.unique w.job g.given.0 = ap (λ (x : File). x.0) g.is in
       shown_so f.0 (file_open j a f i) (ap (λ p. list_all is_full (parts_of 47 p)) e ∙ full_path w.unique g.given.0 (given_of j a f i))
 
--- ---- the final path of a file's marker is the file's
+-- ---- the final path of a file's marker is that of the file
 
 none_reserved : (es : List (List ℕ)) → list_any is_reserved es ≡ false → has_magic es ≡ false
 none_reserved [] h = refl
@@ -93,16 +93,16 @@ none_reserved (e ∷ es) h =
     let p = or_parts (is_reserved e) (list_any is_reserved es) h in
     rw ((or_parts (is_word (codes "__magic") e) (is_word (codes "__base") e) p.0).0, none_reserved es p.1) refl
 
--- the element of an attempt is another than `__base`
+-- The element of an attempt is not `__base`.
 no_base : (ds more : List ℕ) → 0 < length ds → list_all (is_other 95) ds ≡ true → is_word (codes "__base") (ds ++ more) ≡ false
 no_base [] more some h = absurd (omega arith)
 no_base (d ∷ ds) more some h = rw (not_so _ (and_parts (is_other 95 d) (list_all (is_other 95) ds) h).0) refl
 
--- a word, and what stands behind it and a `/`
+-- A word, and what comes after it and a `/`.
 word_part : (word rest : List ℕ) → list_all (is_other 47) word ≡ true → parts_of 47 (word ++ 47 ∷ rest) ≡ word ∷ parts_of 47 rest
 word_part word rest h = parts_append 47 word rest ∙ ap (λ (l : List (List ℕ)). l ++ parts_of 47 rest) (one_part 47 word h)
 
--- a destination that is no bucket's root and has no element `__magic`, a job, and an attempt
+-- A destination that is no bucket's root and has no element `__magic`, a job, and an attempt.
 record Names (dest id : List ℕ) (t a : ℕ) : Type 0 where
   pub some : 1 ≤ length dest
   pub bare : has_magic (parts_of 47 dest) ≡ false
@@ -133,7 +133,7 @@ module _ (dest id path : List ℕ) (t a : ℕ) (n : Names dest id t a) where
       (sym (append_assoc (decimal t) (95 ∷ decimal a) (47 ∷ from_base)))
       ∙ sym (append_assoc dest (47 ∷ []) from_magic)
 
-  -- ---- the first `__magic` stands behind the destination
+  -- ---- the first `__magic` comes after the destination
 
   to_magic : Walked (codes "__magic") key from_magic
   to_magic = record {
@@ -150,7 +150,7 @@ module _ (dest id path : List ℕ) (t a : ℕ) (n : Names dest id t a) where
   behind_is : parts_of 47 behind ≡ after_magic (parts_of 47 key)
   behind_is = behind_at (codes "__magic") key from_magic (codes "__magic") (parts_of 47 behind) to_magic magic_there refl
 
-  -- ---- and the first `__base` before the path
+  -- ---- and the first `__base` comes before the path
 
   to_base : Walked (codes "__base") behind from_base
   to_base =

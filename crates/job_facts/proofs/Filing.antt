@@ -1,4 +1,4 @@
--- What stands where the files of the sets go, while the driver's commit completes their uploads and where it reverts.
+-- What is at the paths of the files of the sets, while the driver's commit completes their uploads and while it reverts.
 use Rattle.basics.proofs.Members.{false_true, in_append, nat_false, nat_true, none_some, same_or_not, same_or_other, some_is, true_or_false}
 use Rattle.basics.proofs.Naturals.{above_zero, below_is}
 use Rattle.basics.specs.Members.{IsIn}
@@ -49,11 +49,11 @@ use Rattle.std.proofs.Math.Bool.{and-false, or-false, or-true}
 use Rattle.std.proofs.lemmas.Bool.{ltb-false}
 use Rattle.store_frame.specs.Frame.{changed_upload}
 
--- what stood before the commit still does, or nothing
+-- The object from before the commit is still there, or none is.
 pub before_stays : {first u v : Option Object} → (v ≡ u) ⊎ (v ≡ None) → IsBefore first u → IsBefore first v
 before_stays h g = grind arith
 
--- the set of a task with a pick was read
+-- The set of a task with a pick was read.
 pick_read : (sets : Sets) (t n : ℕ) → picks_of sets t ≡ Some n → (h : PendingSet) × (slice_get sets t ≡ Some h) × (h.attempt ≡ n)
 pick_read sets t n h = grind arith
 
@@ -82,7 +82,7 @@ module _ {w : Script} {minimum : ℕ} {s : Scene} {last : ℕ → Option ℕ} {m
       let n = number_of (all_commits sets) p.0 p.1 in
       record { upload = p.0; one_of = p.1; goes_to = p.2 ∙ ap (below w.dest.key) (sym x.path); number = n.0; low = n.1; is = n.2 }
 
-  -- and the bytes of an upload that goes there are those that are wanted
+  -- The bytes of an upload that goes to a wanted path are those that are wanted.
   pub wanted_bytes : (sets : Sets) → (reads : Reads w minimum m.publish_sent m.drawn sets) → same_path w (picks_of sets) ≡ None
       → wanted_at w (picks_of sets) q ≡ Some b → (p : Pending) → (i : IsIn p (all_commits sets)) → p.destination ≡ key
       → (of_sets j f sets reads p i).1.commit.file.1 ≡ b
@@ -105,7 +105,7 @@ module _ {w : Script} {minimum : ℕ} {s : Scene} {last : ℕ → Option ℕ} {m
     abbrev Stands : Option Object → (ℕ → Bool) → Commit → Type 0
     Stands now ended c = FileStands w q b first es now ended c
 
-    -- where all are done it goes to the marker, and the whole file stands
+    -- When all are done, the commit goes on to the marker, and the whole file is there.
     stands_completing : (sets : Sets) (told : Told) (now : Option Object) (xs : List Turn) (finished : List ℕ)
         → Reads w minimum m.publish_sent m.drawn sets → wanted_at w (picks_of sets) q ≡ Some b
         → Table w.lanes w.retries (length (all_commits sets)) xs finished → Turned told.ended sets xs finished
@@ -119,7 +119,7 @@ module _ {w : Script} {minimum : ℕ} {s : Scene} {last : ℕ → Option ℕ} {m
     abbrev Follows : Option Object → Told → Commit → Type 0
     Follows now told c = FitsJobCommit w minimum m.publish_sent m.drawn c → Wants w q b c → Stands now told.ended c
 
-    -- up to the first completion
+    -- Up to the first completion.
     pub stands_course : (told : Told) (now : Option Object) → NoneEnded told
         → Course w (Follows now told) (λ sets. now ≡ first) (λ sets ps. IsBefore first now)
     stands_course told now none = record {
@@ -138,7 +138,7 @@ module _ {w : Script} {minimum : ℕ} {s : Scene} {last : ℕ → Option ℕ} {m
           (λ p i e. ((λ g. absurd (false_true (none p.upload) g)), (λ g. before)));
     }
 
-    -- ---- each stage, where an entry leaves the key as it is or before
+    -- ---- each stage, after an entry that leaves the old object at the key or none
 
     pub fetching_stands : (sets : Sets) (n : ℕ) (told : Told) (now : Option Object) → length sets < w.tasks → NoneEnded told → now ≡ first
         → (o : Outcome) → Follows now told (commit_tells w (Fetching sets n) o)
@@ -172,7 +172,7 @@ module _ {w : Script} {minimum : ℕ} {s : Scene} {last : ℕ → Option ℕ} {m
   abbrev more : Request → Outcome → List Entry
   more r o = es ++ driver_entry n r o ∷ []
 
-  -- where an entry leaves the key as it was
+  -- If an entry leaves the key as it was.
   same_after : (r : Request) → at_key w (apply s r).content at ≡ now → (o : Outcome) → after r o ≡ now
   same_after r e o = effect_so (λ u. at_key w u.content at ≡ now) s r o refl e
 
@@ -194,7 +194,7 @@ module _ {w : Script} {minimum : ℕ} {s : Scene} {last : ℕ → Option ℕ} {m
     abbrev mine : IsCommit w minimum m.publish_sent m.drawn p
     mine = (of_sets j f sets reads p (nth_of all x.number low)).1.commit
 
-    -- this upload goes there
+    -- This upload goes there.
     whole_now : p.destination ≡ at → at_key w (apply s (completion p)).content at ≡ Some (whole_of b)
     whole_now e = elim (true_or_false (m.ended p.upload)) [
       | inl g ↦ completes_nothing j f gone p mine g at ∙ (old p (nth_of all x.number low) e).0 g
@@ -222,7 +222,7 @@ module _ {w : Script} {minimum : ℕ} {s : Scene} {last : ℕ → Option ℕ} {m
           (m.ended p.upload)))),
     )
 
-    -- another upload is as it was
+    -- Each other upload is as it was.
     ended_same : (o : Outcome) (u : ℕ) → (u ≡ p.upload → ⊥) → (told o).ended u ≡ m.ended u
     ended_same o u ne = ap (λ v. m.ended u || (is_effective o && v)) (nat_false u p.upload ne) ∙ ap (λ v. m.ended u || v)
         (and-false (is_effective o)) ∙ or-false (m.ended u)
@@ -249,11 +249,11 @@ module _ {w : Script} {minimum : ℕ} {s : Scene} {last : ℕ → Option ℕ} {m
               )
         ]
 
-    -- what becomes of the turn
+    -- What becomes of the turn.
     abbrev Now : Outcome → Commit → Type 0
     Now o c = FileStands w q b first (more (completion p) o) (after (completion p) o) (told o).ended c
 
-    -- its deletion is to come, where it stands
+    -- If it is there, its deletion is still to come.
     deletes_it : (lost : Bool) (told : Told) → Turned told.ended sets (xs ++ again x lost ∷ []) finished → (k : ℕ) → k < length all
         → told.ended (nth all k).upload ≡ true → IsIn (deletion (nth all k)) (revert all x.number xs finished)
     deletes_it lost told turned k l e = elim (turned.only k l e) [
@@ -314,7 +314,7 @@ module _ {w : Script} {minimum : ℕ} {s : Scene} {last : ℕ → Option ℕ} {m
 
   module _ (r : Request) (rs : List Request) (k : ℕ) (one : (p : Pending) × IsCommit w minimum m.publish_sent m.drawn p ×
       ((r ≡ abort p) ⊎ (r ≡ deletion p))) where
-    -- the key is as it was, or nothing stands there; and nothing where this deletes it
+    -- The key is as it was, or there is no object; and there is none if this request deletes it.
     record Taken (v : Option Object) : Type 0 where
       pub or_gone : (v ≡ now) ⊎ (v ≡ None)
       pub deleted : deletes w q ≡ r → v ≡ None
@@ -344,7 +344,7 @@ module _ {w : Script} {minimum : ℕ} {s : Scene} {last : ℕ → Option ℕ} {m
     Left es now qs = IsBefore first now ⊎ ((now ≡ Some (whole_of b)) × (IsIn (deletes w q) qs ⊎ IsWorn w.retries (deletes w q) es))
 
     module _ (few : k ≤ streak r es) (left : Left es now (r ∷ rs)) where
-      -- it took effect: what is deleted is gone, and the list goes on
+      -- The request took effect: what it deletes is gone, and the list goes on.
       effective : (o : Outcome) → (qs : List Request) → ((y : Request) → IsIn y (r ∷ rs) → (y ≡ r) ⊎ IsIn y qs)
           → Left (more r o) (at_key w (apply s r).content at) qs
       effective o qs goes = elim left [
@@ -358,11 +358,11 @@ module _ {w : Script} {minimum : ℕ} {s : Scene} {last : ℕ → Option ℕ} {m
         ]
       ]
 
-      -- it took none, and is in hand still
+      -- The request took no effect, and is sent again.
       in_hand : (o : Outcome) → Left (more r o) now (r ∷ rs)
       in_hand o = grind (arith, worn_more)
 
-      -- or it wore out
+      -- The request ran out of retries.
       passed : (o : Outcome) → IsWorn w.retries r (more r o) → Left (more r o) now rs
       passed o h = grind (arith, worn_more)
 

@@ -1,4 +1,4 @@
--- What stands where wanted files go, entry by entry: the driver's commit's, and those of others.
+-- What is at the paths of wanted files, entry by entry: those of the driver's commit, and those of others.
 use Rattle.basics.proofs.Members.{false_true, some_is}
 use Rattle.basics.specs.Members.{IsIn}
 use Rattle.job_facts.proofs.Beside.{job_commit_begins, still_known, still_sent}
@@ -55,9 +55,9 @@ use Rattle.store_frame.proofs.Framed.{frame}
 use Rattle.store_frame.specs.Frame.{changed_keys}
 use Rattle.store_frame.specs.Held.{HasBucket}
 
--- ---- others' requests
+-- ---- requests of others
 
--- an attempt's leave what a revert names
+-- A request of an attempt leaves what a revert names.
 module _ (g : Setting) (m : Told) (a : Who) (op : Operation) (fits : Fits g.script g.minimum a m op) (r : Request)
     (e : asks g a (known m a) op ≡ Some r) (o : Outcome) where
   abbrev now : Told
@@ -87,7 +87,7 @@ module _ (g : Setting) (m : Told) (a : Who) (op : Operation) (fits : Fits g.scri
   decides_beside (CommitOver end) h = tt
   decides_beside _ h = h
 
--- where a request does not change a key
+-- A request that does not change a key.
 pub stranger_same : (w : Script) (s : Scene) → HasBucket s.content w.dest.bucket → (r : Request) (o : Outcome) (k : List ℕ)
     → (bucket_of r ≡ w.dest.bucket → IsIn k (changed_keys r) → ⊥) → at_key w (effect s r o).content k ≡ at_key w s.content k
 stranger_same w s there r o k free = effect_so (λ u. at_key w u.content k ≡ at_key w s.content k) s r o refl
@@ -102,7 +102,7 @@ attempt_same g j s m a h d op fits r e o q open_path =
     stranger_same g.script s.scene h.there r o (below g.script.dest.key q) (λ b i. false_true
     (key_magic g.script.dest.key g.script.job (FilePlace q) (some_dest j) open_path) (own.keys (below g.script.dest.key q) i))
 
--- ---- as the commit begins
+-- ---- the commit begins
 
 pub files_begin : (w : Script) (minimum : ℕ) → IsLegal w → (s : Seen) (m : Told) → Hold w minimum s m → NoneEnded m
     → (q b : List ℕ) (first now : Option Object) → now ≡ first → (missing : Option ℕ) → Wants w q b (commit_start w missing)

@@ -30,7 +30,7 @@ use Rattle.store_frame.proofs.Reading.{reads_nothing}
 use Rattle.store_frame.specs.Frame.{changed_keys, changed_paths, changed_upload}
 use Rattle.store_frame.specs.Held.{HasBucket}
 
--- what is known of the scene before
+-- What is known of the scene before the request.
 pub record Stood (w : Script) (drawn : Who → List Drawn) (s : Scene) : Type 0 where
   pub there : HasBucket s.content w.dest.bucket
   pub fresh : (id : ℕ) (x : Upload) → at_id w s.content id ≡ Some x → id < s.content.next
@@ -44,7 +44,7 @@ stood {s = s} f = record {
       (f.ids.below k.0 k.1 k.2);
 }
 
--- a request that changes neither keys nor paths of the job's own, nor uploads that are open, leaves them
+-- A request that changes neither keys nor paths of the job's own, nor uploads that are open, leaves all of these.
 pub frame_leaves : (w : Script) (drawn : Who → List Drawn) (ended : ℕ → Bool) (s : Scene) → Stood w drawn s → (r : Request)
     → (bucket_of r ≡ w.dest.bucket → (k : List ℕ) → IsIn k (changed_keys r) → begins (magic_prefix w.dest.key w.job) k ≡ false)
     → ((id : ℕ) → IsKnown drawn id → ended id ≡ false → bucket_of r ≡ w.dest.bucket → changed_upload r ≡ Some id → ⊥)
@@ -73,9 +73,9 @@ foreign_keeps w minimum k s m n r Slow j g f = f
 foreign_keeps w minimum k s m n r RequestLost j g f = f
 foreign_keeps w minimum k s m n r _ j g f = foreign_effect j s.scene r g f
 
--- ---- what only reads
+-- ---- requests that only read
 
--- it names nothing that changes, and teaches nothing
+-- The request names nothing that changes, and teaches nothing.
 pub record NamesNothing (r : Request) : Type 0 where
   pub keys : changed_keys r ≡ []
   pub upload : changed_upload r ≡ None
@@ -90,11 +90,11 @@ pub record NamesNothing (r : Request) : Type 0 where
 pub reads_name : (r : Request) → only_reads r ≡ true → NamesNothing r
 reads_name r h = grind arith
 
--- so does the read of a set
+-- So does the read of a set.
 pub set_reads : (c : Committer) (w : Script) (t : ℕ) → only_reads (set_request c w t) ≡ true
 set_reads c w t = grind arith
 
--- and it keeps the facts
+-- It keeps the facts.
 pub reads_effect : {w : Script} {minimum : ℕ} {last : ℕ → Option ℕ} {m : Told} (s : Scene) (r : Request) → only_reads r ≡ true
     → Facts w minimum s last m → Facts w minimum (apply s r) last m
 reads_effect {w = w} {minimum = minimum} {last = last} {m = m} s r h f = subst (λ u. Facts w minimum u last m) (sym (reads_nothing s r h)) f

@@ -1,4 +1,5 @@
--- What an abort or clean of the job found has the key that it was found with as long as it lives; so what its aborts end is gone.
+-- Each upload that an abort or clean of the job has found has the key with which it was found, as long as it lives; so what its aborts end
+-- is gone.
 use Rattle.basics.proofs.Members.{eq_nat, false_true, in_append, some_is, text_true, true_or_false}
 use Rattle.job_facts.proofs.Aborting.{taken}
 use Rattle.job_facts.proofs.Ended.{stood_so}
@@ -53,14 +54,14 @@ module _ (w : Script) (s : Scene) (there : HasBucket s.content w.dest.bucket) wh
   keys_stay (Aborting u us) r o h = λ q i. key_stays q r o (h q i)
   keys_stay _ r o h = tt
 
-  -- an abort of one that was found leaves it gone
+  -- After an abort of an upload that was found, the upload is gone.
   abort_gone : (q : UploadRef) → HasItsKey w s.content q
       → at_id w (apply s (AbortUpload w.dest.bucket q.key q.upload)).content q.upload ≡ None
   abort_gone q h = (abort_turns w s there.0 there.1 q.key q.upload).here
       ∙ (elim (at_id w s.content q.upload) as (λ o. at_id w s.content q.upload ≡ o → end_left q.key o ≡ None)
       [ None ↦ λ e. refl | Some u ↦ λ e. ap (λ b. cond b None (Some u)) (text_true u.key q.key (h.1 u e)) ]) refl
 
--- ---- the whole
+-- ---- the whole operation
 
 found_aborting : (w : Script) (c : Content) (x : Committer) (us : List UploadRef) → AllHaveKeys w c us → FoundWithKeys w c (aborting x us)
 found_aborting w c x (u ∷ us) h = h
@@ -74,7 +75,7 @@ found_walking w c false found h = found_aborting w c w.committer found h
 
 module _ (w : Script) (s : Scene) (there : HasBucket s.content w.dest.bucket)
     (fresh : (id : ℕ) (u : Upload) → at_id w s.content id ≡ Some u → id < s.content.next) where
-  -- a page of live uploads
+  -- A page of live uploads.
   module _ (found : List UploadRef) (h : AllHaveKeys w s.content found) where
     more_keys : AllHaveKeys w s.content (found ++ take 1000 (refs_rest w s there found))
     more_keys q i = elim (in_append q found (take 1000 (refs_rest w s there found)) i) [
@@ -100,7 +101,7 @@ module _ (w : Script) (s : Scene) (there : HasBucket s.content w.dest.bucket)
   heard (Removing p ps) h = λ x e. removing_keys ps
   heard (CleanOver end) h = tt
 
-  -- it goes on
+  -- It goes on.
   pub found_goes : (retries : ℕ) (t : Retried Clean) → FoundWithKeys w s.content t.operation → (r : Request)
       → clean_asks w t.operation ≡ Some r → (o : Outcome) → IsHonestOutcome o (answer s r)
       → FoundWithKeys w (effect s r o).content (step retries (clean_after w) t o).operation
@@ -111,7 +112,7 @@ module _ (w : Script) (s : Scene) (there : HasBucket s.content w.dest.bucket)
       due))
       (λ none. keys_stay w s there t.operation r o h) (λ none. tt)
 
-  -- what its aborts end is gone
+  -- What its aborts end is gone.
   pub clean_gone : (m : Told) → Gone w s.content m → (t : Clean) → FoundWithKeys w s.content t → (r : Request) → clean_asks w t ≡ Some r
       → (o : Outcome) → Gone w (effect s r o).content (tell_driver m r o)
   clean_gone m gone t h r e o id g = elim (true_or_false (m.ended id)) [

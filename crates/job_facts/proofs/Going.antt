@@ -1,4 +1,4 @@
--- What an attempt knows after one more of its own requests, and where a request that got no answer leads.
+-- What an attempt knows after one more of its own requests, and the state after a request that got no answer.
 use Rattle.job_facts.specs.Told.{Told, known, tell_attempt}
 use Rattle.job_model.specs.Attempts.{Who}
 use Rattle.job_model.specs.JobScript.{Script}
@@ -18,21 +18,21 @@ module _ (w : Script) (m : Told) (a : Who) (r : Request) (o : Outcome) where
   pub known_now : known (tell_attempt w m a r o) a ≡ learn w a (known m a) r o
   known_now = grind arith
 
--- and so after any, where it holds after an answer
+-- What holds after an answer, and after a send without one, holds after any outcome.
 pub step_so : {M : Type 0} (retries : ℕ) (after : M → Item → M) (t : Retried M) (o : Outcome) (P : M → Type 0)
     → ((x : Reply) → o ≡ Answered x → P (after t.operation (Got x t.repeated)))
     → (((x : Reply) → o ≡ Answered x → ⊥) → P t.operation) → (((x : Reply) → o ≡ Answered x → ⊥) → P (after t.operation WornOut))
     → P (step retries after t o).operation
 step_so retries after t o P h g e = grind arith
 
--- what was not answered teaches nothing of uploads
+-- A request without an answer teaches nothing about uploads.
 pub unlearnt : (w : Script) (a : Who) (k : Known) (r : Request) (o : Outcome) → ((x : Reply) → o ≡ Answered x → ⊥)
     → (learn w a k r o).drawn ≡ k.drawn
 unlearnt w a k r o h = grind arith
 
 -- ---- what holds whatever becomes of a request
 
--- by what stood where it took no effect, and by what it leaves where it did
+-- From what holds of the scene if the request took no effect, and of the scene after it if it did.
 pub effect_by : (P : Outcome → Scene → Type 0) (s : Scene) (r : Request) (o : Outcome) → (is_effective o ≡ false → P o s)
     → (is_effective o ≡ true → P o (apply s r)) → P o (effect s r o)
 effect_by P s r o h g = grind arith
@@ -42,7 +42,7 @@ effect_so P s r o h g = effect_by (λ o. P) s r o (λ e. h) (λ e. g)
 
 -- ---- a step of an operation
 
--- of the request that is asked, if one is
+-- P holds of the request that is asked, if there is one.
 abbrev pub Each : (Request → Type 0) → Option Request → Type 0
 Each P None = Unit {0}
 Each P (Some q) = P q
@@ -50,7 +50,7 @@ Each P (Some q) = P q
 pub each_so : (P : Request → Type 0) {x : Option Request} (r : Request) → x ≡ Some r → Each P x → P r
 each_so P r e h = subst (Each P) e h
 
--- it is enough to see to an answer, which is due, and to the operation as it is and where it wears out
+-- It is enough to show P for an answer that is due, for the operation as it is, and for the operation after the request ran out of retries.
 pub step_by : {M : Type 0} (P : Outcome → M → Type 0) (retries : ℕ) (after : M → Item → M) (t : Retried M) (y : Reply) (o : Outcome)
     → IsHonestOutcome o y → ((x : Reply) → x ≡ y → P (Answered x) (after t.operation (Got x t.repeated)))
     → (((x : Reply) → o ≡ Answered x → ⊥) → P o t.operation) → (((x : Reply) → o ≡ Answered x → ⊥) → P o (after t.operation WornOut))

@@ -1,5 +1,5 @@
--- The uploads of the sets that the driver holds: whose they are, and that no two have one upload or, where no two attempts write one path,
--- one destination.
+-- The uploads of the sets that the driver has read: their attempts, and that no two are the same upload or, if no two attempts write one
+-- path, have the same destination.
 use Rattle.basics.proofs.Members.{in_append, in_back, in_front, in_map, map_in, nat_true, none_some, some_is}
 use Rattle.basics.proofs.Naturals.{below_is}
 use Rattle.basics.specs.Members.{IsIn}
@@ -54,13 +54,13 @@ number_of [] p i = absurd i
 number_of (q ∷ ps) p (inl e) = (0, omega arith, sym e)
 number_of (q ∷ ps) p (inr i) = let old = number_of ps p i in let low : old.0 < length ps = old.1 in (suc old.0, omega arith, old.2)
 
--- where no two picks write one path it has one writer
+-- If no two picks write one path, each path has one writer.
 pub one_writer : (w : Script) (picks : Picks) → same_path w picks ≡ None → (p : List ℕ) (t u : ℕ) → t < w.tasks → u < w.tasks
     → writes w picks p t ≡ true → writes w picks p u ≡ true → t ≡ u
 one_writer w picks h p t u g e f q = grind (arith, cases_lt, shared_none)
 
 module _ {X : Type 0} (of : Pending → X) where
-  -- no two of them have this in common
+  -- No two of them have this in common.
   abbrev pub Uniq : List Pending → Type 0
   Uniq [] = Unit {0}
   Uniq (p ∷ ps) = ((q : Pending) → IsIn q ps → of p ≡ of q → ⊥) × Uniq ps
@@ -83,7 +83,7 @@ module _ {X : Type 0} (of : Pending → X) where
 
 module _ {w : Script} {minimum : ℕ} {s : Scene} {last : ℕ → Option ℕ} {m : Told} (j : IsLegal w) (f : Facts w minimum s last m)
     (picks : Picks) where
-  -- an upload of the set of a task's pick
+  -- An upload of the set of a task's pick.
   pub record IsOf (t : ℕ) (p : Pending) : Type 0 where
     pub commit : IsCommit w minimum m.publish_sent m.drawn p
     pub task : commit.by.task ≡ t
@@ -122,7 +122,7 @@ module _ {w : Script} {minimum : ℕ} {s : Scene} {last : ℕ → Option ℕ} {m
       let g = in_map (record_of x.0.by) p x.0.commits at in
       held_one t h x g.0 g.1 p g.2
 
-  -- sets of tasks from t on
+  -- These are sets of the tasks from t on.
   abbrev HeldFrom : ℕ → Sets → Type 0
   HeldFrom t [] = Unit {0}
   HeldFrom t (h ∷ sets) = IsPick t h × HeldFrom (suc t) sets
@@ -179,7 +179,7 @@ module _ {w : Script} {minimum : ℕ} {s : Scene} {last : ℕ → Option ℕ} {m
       y.commit.written.key in
       (sym x.task ∙ ap (λ (v : Who). v.task) same.0 ∙ y.task, one_key j x.commit.file y.commit.file key)
 
-  -- ---- and one destination, where no two picks write one path
+  -- ---- and one destination, if no two picks write one path
 
   who_is : (t : ℕ) (p : Pending) → (x : IsOf t p) → x.commit.by ≡ attempt t x.commit.by.attempt
   who_is t p x = ap (λ n. attempt n x.commit.by.attempt) x.task
@@ -223,7 +223,7 @@ module _ {w : Script} {minimum : ℕ} {s : Scene} {last : ℕ → Option ℕ} {m
       subst (λ n. IsHeldSet w minimum m.publish_sent m.drawn n h × (picks_of sets n ≡ Some h.attempt)) z
       (reads i h e, ap (option_map (λ (v : PendingSet). v.attempt)) e))
 
-  -- each of their uploads is of a task's pick
+  -- Each of their uploads is of a task's pick.
   pub of_sets : (p : Pending) → IsIn p (all_commits sets) → (t : ℕ) × Of t p
   of_sets p i = let o = later j f (picks_of sets) 0 sets all_held p i in (o.0, o.2)
 
@@ -237,7 +237,7 @@ module _ {w : Script} {minimum : ℕ} {s : Scene} {last : ℕ → Option ℕ} {m
   destinations_uniq apart = uniq_nth (λ (p : Pending). p.destination) (all_commits sets)
       (uniq_from j f (picks_of sets) (λ (p : Pending). p.destination) (one_dest j f (picks_of sets) apart) 0 sets all_held)
 
-  -- the set of a task that was read has an upload of each file of its attempt
+  -- The set of a task that was read has an upload of each file of its attempt.
   abbrev upload_of : Who → File → Pending
   upload_of a g = file_record w a g (drawn_for (knowing (m.drawn a)) (file_key w g))
 
@@ -328,7 +328,8 @@ tried (x ∷ xs) y (inl e) some =
     ∙ ap (λ b. (b && nat_lt 0 y.missed) || is_tried xs y.number) (nat_true y.number y.number refl) ∙ ap (λ b. b || is_tried xs y.number) has
 tried (x ∷ xs) y (inr i) some = let b = nat_eq y.number x.number && nat_lt 0 x.missed in ap (λ c. b || c) (tried xs y i some) ∙ or-true b
 
--- what holds of each of the uploads, of what wore out and of what is done holds of what its requests are about
+-- What holds of each upload, of the one that ran out of retries, and of the ones that are done, holds of all that a revert's requests are
+-- about.
 pub revert_so : (P : Pending → Type 0) (all : List Pending) (worn : ℕ) (xs : List Turn) (finished : List ℕ)
     → ((p : Pending) → IsIn p all → P p) → P (nth all worn) → ((n : ℕ) → In n finished → P (nth all n)) → (r : Request)
     → IsIn r (revert all worn xs finished)
@@ -352,11 +353,11 @@ module _ (all : List Pending) (worn : ℕ) (xs : List Turn) (finished : List ℕ
   abbrev undone : List Request
   undone = undo (chosen (is_tried xs) 0 all)
 
-  -- each is of one of the uploads
+  -- Each request is about one of the uploads.
   pub revert_each : (r : Request) → IsIn r (revert all worn xs finished) → (p : Pending) × IsIn p all × ((r ≡ abort p) ⊎ (r ≡ deletion p))
   revert_each = revert_so (λ p. IsIn p all) all worn xs finished (λ p i. i) (nth_of all worn low) (λ n i. nth_of all n (within n i))
 
-  -- and there are deletions of what wore out, of what was sent and got no answer, and of what is done
+  -- There are deletions of the one that ran out of retries, of those that were sent and got no answer, and of those that are done.
   pub deletes_tried : (y : Turn) → In y xs → (y.missed ≡ 0 → ⊥) → y.number < length all
       → IsIn (deletion (nth all y.number)) (revert all worn xs finished)
   deletes_tried y i some below =
@@ -368,9 +369,9 @@ module _ (all : List Pending) (worn : ℕ) (xs : List Turn) (finished : List ℕ
   deletes_done n i = inr (inr (in_back _ undone _ (in_front _ (map deletion (in_turn all finished)) _
       (map_in deletion (nth all n) (in_turn all finished) (turn_there all finished n i)))))
 
--- ---- what holds of the driver's commit as it goes on, by what holds where its stages begin
+-- ---- what holds of the driver's commit in all stages, from what holds when its stages begin
 
--- a sending of its request is missed
+-- A send of its request got no answer.
 abbrev pub missed : Commit → Bool → Commit
 missed (Fetching sets n) lost = Fetching sets (n + 1)
 missed (Replacing sets p ps s n) lost = Replacing sets p ps s (n + 1)
@@ -379,7 +380,7 @@ missed (Marking sets n) lost = Marking sets (n + 1)
 missed (Reverting q qs n) lost = Reverting q qs (n + 1)
 missed (CommitOver end) lost = CommitOver end
 
--- and wears out
+-- Its request ran out of retries.
 abbrev pub worn : Commit → Commit
 worn (Fetching sets n) = CommitOver (ends.StoreFault stages.Read)
 worn (Replacing sets p ps s n) = CommitOver (ends.StoreFault stages.Delete)
@@ -399,12 +400,13 @@ module _ (w : Script) (P : Commit → Type 0) where
   misses_so : (c : Commit) (lost : Bool) → P (missed c lost) → P (worn c) → P (commit_misses w c lost)
   misses_so c lost h g = grind arith
 
-  -- after any outcome, by what holds after an answer, after a sending that is missed, and where it wears out
+  -- After any outcome, from what holds after an answer, after a send without one, and after a request that ran out of retries.
   pub tells_so : (c : Commit) (o : Outcome) → ((x : Reply) → o ≡ Answered x → P (commit_hears w c x)) → ((lost : Bool) → P (missed c lost))
       → P (worn c) → P (commit_tells w c o)
   tells_so c o h g e = grind (arith, misses_so)
 
--- what holds of the commit, of sets that are read so far, and of those of a commit that goes on, with the prefixes that it has yet to empty
+-- What holds of the commit, of the sets that were read so far, and of the sets of a commit that goes on, with the prefixes that it has yet
+-- to empty.
 pub record Course (w : Script) (P : Commit → Type 0) (F : Sets → Type 0) (X : Sets → List (List ℕ) → Type 0) : Type 0 where
   pub fetches : (sets : Sets) → length sets < w.tasks → F sets → P (Fetching sets 0)
   pub clashes : (sets : Sets) (end : CommitEnd) → same_path w (picks_of sets) ≡ Some end → F sets → P (CommitOver end)

@@ -1,4 +1,4 @@
--- The driver's commit keeps the facts with each of its requests, holds the sets as it read them, and goes on as it should.
+-- The driver's commit keeps the facts with each of its requests, keeps the sets as it has read them, and its state fits afterwards.
 use Rattle.basics.proofs.Members.{eq_nat, false_true, in_append, in_filter, in_map, nat_true, none_some, some_is, true_or_false}
 use Rattle.basics.specs.Members.{IsIn}
 use Rattle.job_facts.proofs.Aborting.{dropped_in, taken_in}
@@ -59,11 +59,11 @@ use Rattle.list_walk.specs.Walks as walks
 
 -- ---- the uploads that are completed are those of files
 
--- of the job's bucket its key is not below the magic directory
+-- If the upload is in the job's bucket, its key is not below the magic directory.
 abbrev Sound : Script → Pending → Type 0
 Sound w p = p.bucket ≡ w.dest.bucket → begins (magic_prefix w.dest.key w.job) p.destination ≡ false
 
--- keys that a replace mode deletes, if it goes on
+-- The keys that a replace mode deletes, if it goes on.
 abbrev FitsOption : Script → Option Sweep → Type 0
 FitsOption w None = Unit {0}
 FitsOption w (Some s) = FitsReplace w s
@@ -78,7 +78,7 @@ fits_listed w true keys all = all
 fits_listed w false keys all = fits_deleting w (filter (is_no_magic w) keys) (λ k i. let f = in_filter (is_no_magic w) k keys i in
     (f.1, all k f.0))
 
--- what begins so begins with less
+-- A text that begins with a longer text begins with the shorter one.
 pub begins_through : (a b q : List ℕ) → begins a b ≡ true → begins b q ≡ true → begins a q ≡ true
 begins_through [] b q h g = refl
 begins_through (x ∷ a) [] q h g = absurd (false≢true h)
@@ -89,7 +89,7 @@ begins_through (x ∷ a) (y ∷ b) (z ∷ q) h g =
     rw (nat_true x z (eq_nat x y p.0 ∙ eq_nat y z o.0), begins_through a b q p.1 o.1) refl
 
 module _ (w : Script) (s : Scene) (there : HasBucket s.content w.dest.bucket) where
-  -- after an answer to a listing below a prefix of the destination, or to a batch
+  -- After an answer to a listing below a prefix of the destination, or to a batch.
   pub fits_heard : (p : List ℕ) → begins (dest_prefix w) p ≡ true → (t : Sweep) → FitsReplace w t → (x : Reply)
       → x ≡ answer s (sweep_asks w.dest.bucket p t) → FitsOption w (sweep_hears (is_no_magic w) t x)
   fits_heard p under (Listing keys) h x e =
@@ -98,7 +98,7 @@ module _ (w : Script) (s : Scene) (there : HasBucket s.content w.dest.bucket) wh
       (λ k b. begins_through (dest_prefix w) p k under b) h))
   fits_heard p under (Deleting q qs) h x e = fits_deleting w (drop 1000 (q ∷ qs)) (λ k i. h k (dropped_in 1000 (q ∷ qs) k i))
 
--- what is not below the destination's magic directory is not below the job's
+-- A key that is not below the destination's magic directory is not below the job's.
 pub no_magic : (w : Script) (k : List ℕ) → is_no_magic w k ≡ true → begins (magic_prefix w.dest.key w.job) k ≡ false
 no_magic w k h = elim (true_or_false (begins (magic_prefix w.dest.key w.job) k)) [
   | inr no_so ↦ no_so
@@ -115,12 +115,12 @@ begins_self : (p : List ℕ) → begins p p ≡ true
 begins_self [] = refl
 begins_self (x ∷ p) = rw (nat_true x x refl, begins_self p) refl
 
--- what is below the destination begins with its prefix
+-- A key below the destination begins with the destination's prefix.
 pub dest_below : {w : Script} → IsLegal w → (q : List ℕ) → begins (dest_prefix w) (below w.dest.key q) ≡ true
 dest_below {w = w} j q = ap (begins (dest_prefix w)) (paths_below w.dest.key q (some_dest j)) ∙ begins_behind w.dest.key (codes "/")
     (47 ∷ q)
 
--- so much is deleted below prefixes of the destination
+-- The prefixes that are emptied are below the destination.
 prefixes_under : {w : Script} → IsLegal w → (d : Displaced) (picks : Picks)
     → AllUnder (dest_prefix w) (emptied d w.dest (partitions (wanted_paths w picks)))
 prefixes_under j Nothing picks = λ q i. absurd i
@@ -132,7 +132,7 @@ prefixes_under {w = w} j Everything picks = λ q i. elim i [
 prefixes_under {w = w} j Partitions picks = λ q i. let o = in_map (partition_prefix w) q (partitions (wanted_paths w picks)) i in ap
     (begins (dest_prefix w)) o.2 ∙ dest_below j (o.0 ++ codes "/")
 
--- a replace mode deletes below such prefixes
+-- A replace mode deletes below such prefixes.
 pub replaced_under : {w : Script} → IsLegal w → (c : Committer) (m : Mode) (picks : Picks) → AllUnder (dest_prefix w) (replaced c m w picks)
 replaced_under j c m picks = prefixes_under j (displaced c m) picks
 
@@ -192,7 +192,7 @@ module _ {w : Script} (j : IsLegal w) where
         | inr is ↦ subst (IsDriving w) (sym is) (deletion_drives o.0 o.1)
       ])
 
-  -- ---- the sets that the driver holds
+  -- ---- the sets that the driver has read
 
   pub in_sets : (sets : Sets) (p : Pending) → IsIn p (all_commits sets) → (t : ℕ)
       × ((s : PendingSet) × (slice_get sets t ≡ Some s) × IsIn p s.commits)
@@ -241,7 +241,7 @@ module _ {w : Script} (j : IsLegal w) where
     fits_reverting : (rs : List Request) → AllDriving w rs → FitsNow (reverting rs)
     fits_reverting rs h = grind arith
 
-    -- sendings without an answer
+    -- A send without an answer.
     fits_again : (c : Commit) (lost : Bool) → FitsNow c → FitsNow (missed c lost)
     fits_again (Completing sets x xs finished) lost h = completing_so FitsNow sets (xs ++ again x lost ∷ []) finished h (λ y ys. h)
     fits_again _ lost h = h
@@ -267,7 +267,7 @@ module _ (w : Script) (minimum : ℕ) (k : Times) (s : Seen) (m : Told) (n : ℕ
     paths = λ y i. absurd i;
   }
 
-  -- each of its requests ends what uploads it changes, and changes nothing else of the job's own
+  -- Each of its requests changes uploads only by ending them, and changes nothing else of the job's own.
   pub commit_drives : (c : Commit) → Fits c → (r : Request) → commit_asks w c ≡ Some r → IsDriving w r
   commit_drives (Fetching sets x) f r e = subst (IsDriving w) (some_is e) (reads_drive w (set_request w.committer w (length sets))
       (set_reads w.committer w (length sets)))
@@ -289,7 +289,7 @@ module _ (w : Script) (minimum : ℕ) (k : Times) (s : Seen) (m : Told) (n : ℕ
   commit_drives (Reverting q qs x) f r e = subst (IsDriving w) (some_is e) f.0
   commit_drives (CommitOver end) f r e = absurd cc
 
-  -- a set that was read
+  -- A set that was read.
   held_one : (sets : Sets) → length sets < w.tasks → s.scene.content.next ≤ 2 ^ 64 → (x : Reply)
       → x ≡ answer s.scene (set_request w.committer w (length sets)) → (h : PendingSet) → set_read x ≡ Some h
       → IsHeldSet w minimum m.publish_sent m.drawn (length sets) h
@@ -331,7 +331,7 @@ module _ (w : Script) (minimum : ℕ) (k : Times) (s : Seen) (m : Told) (n : ℕ
   fits_answered (Reverting q qs y) f few r e x honest = fits_reverting j minimum m.publish_sent m.drawn qs f.1
   fits_answered _ f few r e x honest = tt
 
-  -- it holds the sets as it read them, and goes on as it should
+  -- It keeps the sets as it has read them, and its state fits.
   pub commit_fits : (c : Commit) → Fits c → s.scene.content.next ≤ 2 ^ 64 → (r : Request) → commit_asks w c ≡ Some r → (o : Outcome)
       → IsHonestOutcome o (answer s.scene r) → Fits (commit_tells w c o)
   commit_fits c f few r e o honest =

@@ -1,5 +1,5 @@
--- How the facts are kept where a scene changes: where it leaves the job alone, where things are taken away, where an object or a file is
--- put at a place, and where an upload changes.
+-- How the facts are kept when a scene changes: when it leaves the job alone, when things are deleted, when an object or a file is put at a
+-- place, and when an upload changes.
 use Rattle.basics.proofs.Members.{false_true, in_map, map_in, nat_false, nat_here, nat_other, nat_true, none_some, same_or_not}
 use Rattle.basics.proofs.Members.{same_or_other, some_is, text_true}
 use Rattle.basics.specs.Members.{IsIn}
@@ -41,7 +41,7 @@ use Rattle.std.specs.FinMap as fin
 
 -- ---- what stays
 
--- where neither the store nor what is live in it changes
+-- If neither the store nor its live uploads change.
 pub facts_so : {w : Script} {minimum : ℕ} (s : Scene) (files : Files) {last more : ℕ → Option ℕ} {m n : Told} → Facts w minimum s last m
     → let u = with_files s files in
     Ids (at_id w s.content) s.content.next n.drawn → Owned w minimum (at_id w s.content) n.ended n.undone n.drawn
@@ -51,7 +51,7 @@ pub facts_so : {w : Script} {minimum : ℕ} (s : Scene) (files : Files) {last mo
     → Facts w minimum u more n
 facts_so s files h g e f p q r u = grind arith
 
--- ids are apart where others are live
+-- Each id is still drawn once, if other uploads are live.
 ids_so : {uploads more : ℕ → Option Upload} {next later : ℕ} {drawn : Who → List Drawn} → Ids uploads next drawn → later ≡ next
     → ((id : ℕ) (x : Upload) → more id ≡ Some x → id < next) → Ids more later drawn
 ids_so {more = more} {drawn = drawn} i same fresh = subst (λ n. Ids more n drawn) (sym same)
@@ -61,7 +61,7 @@ held_same : {w : Script} {minimum : ℕ} {more uploads : ℕ → Option Upload} 
     → IsHeld w minimum uploads d f → IsHeld w minimum more d f
 held_same same h = record { parts = h.parts; stands = same ∙ h.stands; blocks = h.blocks; back = h.back }
 
--- an upload is owned as it was, where it is held
+-- An upload is owned as it was, if it is held.
 pub owned_by : {w : Script} {minimum : ℕ} {uploads more : ℕ → Option Upload} {ended over : ℕ → Bool} {undone back : Who → Bool} {a : Who}
     {d : Drawn} → (o : IsOwned w minimum uploads ended undone a d)
     → (over d.upload ≡ false → back a ≡ false → IsHeld w minimum more d o.file) → IsOwned w minimum more over back a d
@@ -73,7 +73,7 @@ owned_same m same o = owned_by o (λ e u. held_same same (o.held e u))
 
 -- ---- the scene leaves the job alone
 
--- but for what is live of known uploads
+-- Except for the state of known uploads.
 scene_keep : {w : Script} {minimum : ℕ} {s u : Scene} {last : ℕ → Option ℕ} {m : Told} {ended : ℕ → Bool} → IsLegal w
     → Leaves w m.drawn ended s u → Owned w minimum (at_id w u.content) m.ended m.undone m.drawn → Facts w minimum s last m
     → Facts w minimum u last m
@@ -105,9 +105,9 @@ pub leaves_keep : {w : Script} {minimum : ℕ} {s u : Scene} {last : ℕ → Opt
 leaves_keep j l f = scene_keep j l (λ a x i. let o = f.owned a x i in owned_by o
     (λ e u. held_same (l.uploads x.upload (a, x, i, refl) e) (o.held e u))) f
 
--- ---- things are taken away
+-- ---- things are deleted
 
--- what stands stood before, and no upload changes
+-- All that exists existed before, and no upload changes.
 pub record Drops (w : Script) (s u : Scene) : Type 0 where
   pub there : HasBucket u.content w.dest.bucket
   pub least : u.content.minimum ≡ s.content.minimum
@@ -116,7 +116,7 @@ pub record Drops (w : Script) (s u : Scene) : Type 0 where
   pub uploads : (id : ℕ) → at_id w u.content id ≡ at_id w s.content id
   pub files : (p b : List ℕ) → fin.get u.files p ≡ Some b → fin.get s.files p ≡ Some b
 
--- the sets that stand are left, until the driver cleans up
+-- The sets that exist stay, until the driver cleans up.
 pub drops_keep : {w : Script} {minimum : ℕ} {s u : Scene} {last : ℕ → Option ℕ} {m : Told} → Drops w s u
     → (m.cleaned ≡ false → (t : ℕ) → t < w.tasks → sets_at w u t ≡ sets_at w s t) → Facts w minimum s last m → Facts w minimum u last m
 drops_keep {w = w} {s = s} {u = u} {m = m} d free f =
@@ -195,7 +195,7 @@ put_keep {w = w} {minimum = minimum} {s = s} {u = u} {last = last} {more = more}
 
 -- ---- an upload of the job changes
 
--- the facts but for those on uploads
+-- All facts but those about uploads.
 turn_keep : {w : Script} {minimum : ℕ} {s u : Scene} {last : ℕ → Option ℕ} {m : Told} {id : ℕ} {x : Option Upload} → IsLegal w
     → Turns w s u id x
     → ((y : Upload) → x ≡ Some y → id < s.content.next)
@@ -217,7 +217,7 @@ turn_keep {w = w} {s = s} {u = u} {id = id} j t stood owned f =
       files = λ p b. ap (λ (z : Files). fin.get z p) t.files;
     }) owned f
 
--- what a part that is sent leaves of an upload that is held
+-- What a part that is sent leaves of an upload that is held.
 part_held : {w : Script} {minimum : ℕ} {uploads more : ℕ → Option Upload} {x : Drawn} {f : File} (i number : ℕ) (bytes : List ℕ)
     → number ≡ suc i → slice_get (file_parts w minimum f) i ≡ Some bytes
     → more x.upload ≡ part_left x.key number bytes (uploads x.upload) → IsHeld w minimum uploads x f → IsHeld w minimum more x f
@@ -248,7 +248,7 @@ part_stood : (key : List ℕ) (number : ℕ) (bytes : List ℕ) (o : Option Uplo
 part_stood key number bytes None y e = absurd (none_some refl e)
 part_stood key number bytes (Some z) y e = (z, refl)
 
--- a part of a block of its file is sent for an upload that an attempt knows
+-- A part of its file is sent for an upload that an attempt knows.
 pub part_keep : {w : Script} {minimum : ℕ} {s u : Scene} {last : ℕ → Option ℕ} {m : Told} → IsLegal w
     → (a : Who) (x : Drawn) (f : File) (i number : ℕ) (bytes : List ℕ)
     → IsIn x (m.drawn a) → IsIn f (files w a) → x.key ≡ file_key w f → number ≡ suc i → slice_get (file_parts w minimum f) i ≡ Some bytes
@@ -269,7 +269,7 @@ part_keep {w = w} {minimum = minimum} {s = s} {u = u} {m = m} j a x g i number b
       | inr ne ↦ held_same (t.others y.upload ne) (o.held e r)
     ])) f
 
--- an attempt that takes back what it did ends an upload of its own
+-- An attempt that takes back what it did ends an upload of its own.
 pub abort_keep : {w : Script} {minimum : ℕ} {s u : Scene} {last : ℕ → Option ℕ} {m : Told} → IsLegal w → (a : Who) (x : Drawn)
     → IsIn x (m.drawn a) → m.undone a ≡ true
     → Turns w s u x.upload (end_left x.key (at_id w s.content x.upload)) → Facts w minimum s last m → Facts w minimum u last m
@@ -289,7 +289,7 @@ abort_keep {w = w} {minimum = minimum} {s = s} {u = u} {m = m} j a x known over 
 more_true : (f : Who → Bool) (a b : Who) → f b ≡ true → put_who f a true b ≡ true
 more_true f a b e = elim (same_or_another b a) [ inl is ↦ who_here f a true b is | inr ne ↦ who_other f a true b ne ∙ e ]
 
--- its publishing request, where it has taken nothing back
+-- It sends its publishing request, and has taken nothing back.
 pub sends_publish : {w : Script} {minimum : ℕ} {s : Scene} {last : ℕ → Option ℕ} {m : Told} (a : Who) → m.undone a ≡ false
     → Facts w minimum s last m → Facts w minimum s last (record m { publish_sent = put_who m.publish_sent a true })
 sends_publish {s = s} {m = m} a none f =
@@ -311,7 +311,7 @@ sends_publish {s = s} {m = m} a none f =
           (sym (who_other m.publish_sent a true b ne) ∙ e)
     ])
 
--- the put of its temporary file
+-- It sends the put of its temporary file.
 pub sends_put : {w : Script} {minimum : ℕ} {s : Scene} {last : ℕ → Option ℕ} {m : Told} (a : Who) → Facts w minimum s last m
     → Facts w minimum s last (record m { put_sent = put_who m.put_sent a true })
 sends_put {s = s} {m = m} a f =
@@ -322,7 +322,7 @@ sends_put {s = s} {m = m} a f =
       text = old.text;
     }) f.kept
 
--- an abort or a deletion, before its publishing request
+-- It sends an abort or a deletion, before its publishing request.
 pub sends_undo : {w : Script} {minimum : ℕ} {s : Scene} {last : ℕ → Option ℕ} {m : Told} (a : Who) → m.publish_sent a ≡ false
     → Facts w minimum s last m → Facts w minimum s last (record m { undone = put_who m.undone a true })
 sends_undo {s = s} {m = m} a unsent f =
@@ -337,7 +337,7 @@ sends_undo {s = s} {m = m} a unsent f =
 
 -- ---- what an attempt learns
 
--- a set depends on what its own attempt knows alone
+-- A set depends only on what its own attempt knows.
 set_known : {w : Script} {minimum : ℕ} {last : ℕ → Option ℕ} {sent : Who → Bool} {drawn more : Who → List Drawn} {t : ℕ} {bytes : List ℕ}
     → ((b : Who) → sent b ≡ true → drawn b ≡ more b) → IsSet w minimum last sent drawn t bytes → IsSet w minimum last sent more t bytes
 set_known {w = w} {minimum = minimum} same s =
@@ -363,7 +363,7 @@ temporary_known {w = w} {minimum = minimum} {a = a} same t =
       text = t.text ∙ ap (λ k. set_text w a (files w a) (knowing k)) e;
     }
 
--- what another attempt knows, and who has sent something that this one has not, stays
+-- What other attempts know stays, and so does who has sent something that this one has not.
 known_still : (drawn : Who → List Drawn) (flag : Who → Bool) (a : Who) (ds : List Drawn) → flag a ≡ false → (b : Who) → flag b ≡ true
     → drawn b ≡ put_who drawn a ds b
 known_still drawn flag a ds none b e = elim (same_or_another b a) [
@@ -372,7 +372,7 @@ known_still drawn flag a ds none b e = elim (same_or_another b a) [
       (who_other drawn a ds b ne)
 ]
 
--- what an attempt learns of its uploads leaves what is published and what is written
+-- What an attempt learns of its uploads changes nothing that is published or written.
 learns_keep : {w : Script} {minimum : ℕ} {s : Scene} {last : ℕ → Option ℕ} {m : Told} (a : Who) (ds : List Drawn) → m.publish_sent a ≡ false
     → m.put_sent a ≡ false → let drawn = put_who m.drawn a ds in
     Ids (at_id w s.content) s.content.next drawn → Owned w minimum (at_id w s.content) m.ended m.undone drawn
@@ -388,7 +388,7 @@ learns_keep {s = s} {m = m} a ds unsent unput ids owned known f =
     (λ t b h e. set_known (known_still m.drawn m.publish_sent a ds unsent) (f.sets t b h e)) f.standing
     (λ q b bytes d e. temporary_known (known_still m.drawn m.put_sent a ds unput b) (f.temporaries q b bytes d e)) f.kept
 
--- what holds of an attempt's new value where it held of its old one, and of others', holds of all
+-- What holds of an attempt's new value if it held of its old one, and held of the others' values, holds of all.
 put_all : {X : Type 0} (P : X → Type 0) (f : Who → X) (a : Who) (v : X) → (P (f a) → P v) → (b : Who) → P (f b) → P (put_who f a v b)
 put_all P f a v h b x = elim (same_or_another b a) [
   | inl is ↦ subst P (sym (who_here f a v b is)) (h (subst (λ c. P (f c)) is x))
@@ -396,7 +396,7 @@ put_all P f a v h b x = elim (same_or_another b a) [
       subst P (sym (who_other f a v b ne)) x
 ]
 
--- a new upload, which nobody knows and which has no part
+-- A new upload, which nobody knows and which has no part.
 abbrev pub new_drawn : List ℕ → ℕ → Drawn
 new_drawn key id = record { key = key; upload = id; tags = []; sizes = [] }
 
@@ -477,7 +477,7 @@ part_other id tag size d ne = ap (λ b. cond b (one_more tag size d) d) (nat_fal
 pub part_here : (id : ℕ) (tag : Spelled) (size : ℕ) (d : Drawn) → d.upload ≡ id → drawn_part id tag size d ≡ one_more tag size d
 part_here id tag size d is = ap (λ b. cond b (one_more tag size d) d) (nat_true d.upload id is)
 
--- the first blocks and the next one
+-- The first parts and the next one.
 take_next : (n : ℕ) (xs : List (List ℕ)) (b : List ℕ) → slice_get xs n ≡ Some b → take (suc n) xs ≡ take n xs ++ b ∷ []
 take_next n [] b e = absurd (none_some refl e)
 take_next zero (x ∷ xs) b e = ap (λ y. y ∷ []) (some_is e)
@@ -523,7 +523,7 @@ learn_part_keep {w = w} {minimum = minimum} {s = s} {m = m} j a x g bytes tag kn
     learnt : Drawn → Drawn
     learnt d = drawn_part x.upload tag (length bytes) d
 
-    -- what another attempt knows has no part more
+    -- What another attempt knows gets no further part.
     other : (b : Who) → (b ≡ a → ⊥) → (d : Drawn) → IsIn d (m.drawn b) → drawn_part x.upload tag (length bytes) d ≡ d
     other b ne d i = part_other x.upload tag (length bytes) d (λ e. ne (f.ids.apart b a d x i known e).0)
 
@@ -549,7 +549,7 @@ learn_part_keep {w = w} {minimum = minimum} {s = s} {m = m} j a x g bytes tag kn
           ∙ p.1,
     )
 
-    -- the upload itself has one part more
+    -- The upload itself gets one more part.
     grows : IsOwned w minimum (at_id w s.content) m.ended m.undone a x
         → IsOwned w minimum (at_id w s.content) m.ended m.undone a (one_more tag (length bytes) x)
     grows o =
@@ -591,7 +591,7 @@ learn_part_keep {w = w} {minimum = minimum} {s = s} {m = m} j a x g bytes tag kn
               subst (λ c. P c (learnt d)) (sym both.0) (subst (λ v. P a (learnt v)) (sym both.1) grown)
         ]
 
-    -- a file that is written has no part more
+    -- A file that is written gets no further part.
     whole : (b : Who) (h : File) → IsIn h (files w b) → (r : IsWritten w minimum (m.drawn b) h) → r.drawn.upload ≡ x.upload → ⊥
     whole b h i r is =
         let both = f.ids.apart b a r.drawn x r.known known is in
@@ -610,7 +610,7 @@ learn_part_keep {w = w} {minimum = minimum} {s = s} {m = m} j a x g bytes tag kn
 
 -- ---- an entry of an attempt
 
--- what is told then, by what it says of the attempt
+-- What a journal says then, from what it says of the attempt.
 pub told_is : (m : Told) (a : Who) (k : Known) (u : Bool) {drawn : Who → List Drawn} {put publish undone : Who → Bool}
     → put_who m.drawn a k.drawn ≡ drawn → put_who m.put_sent a k.put_sent ≡ put → put_who m.publish_sent a k.publish_sent ≡ publish
     → put_who m.undone a u ≡ undone → with_known m a k u ≡ record {
@@ -632,13 +632,13 @@ told_is m a k u d p s v = λ i. record {
   cleans_at = m.cleans_at;
 }
 
--- the last publishers, where it published nothing
+-- The last publishers, if the attempt published nothing.
 pub last_if : (task attempt : ℕ) (last : ℕ → Option ℕ) (b : Bool) → b ≡ false
     → (λ t. cond (nat_eq t task && b) (Some attempt) (last t)) ≡ last
 last_if task attempt last b e = λ i t. (ap (λ v. cond (nat_eq t task && v) (Some attempt) (last t)) e ∙ ap
     (λ v. cond v (Some attempt) (last t)) (and-false (nat_eq t task))) i
 
--- it is enough to see to what is told, and to its effect
+-- It is enough to show it for what the journal says and for the effect of the request.
 module _ (w : Script) (minimum : ℕ) (k : Times) (s : Seen) (m : Told) (a : Who) (n : ℕ) (r : Request) where
   pub attempt_by : (o : Outcome) (t : Told) → tell_attempt w m a r o ≡ t → Facts w minimum s.scene s.last t
       → Facts w minimum (apply s.scene r) (last_by w s.scene s.last a.task a.attempt r) t
@@ -647,7 +647,7 @@ module _ (w : Script) (minimum : ℕ) (k : Times) (s : Seen) (m : Told) (a : Who
   attempt_by RequestLost t e idle acts = subst (Facts w minimum s.scene s.last) (sym e) idle
   attempt_by _ t e idle acts = subst (Facts w minimum (apply s.scene r) (last_by w s.scene s.last a.task a.attempt r)) (sym e) acts
 
-  -- where it does not publish
+  -- The request does not publish.
   pub attempt_plain : is_publishing w s.scene a.task r ≡ false → (o : Outcome) (t : Told) → tell_attempt w m a r o ≡ t
       → Facts w minimum s.scene s.last t → Facts w minimum (apply s.scene r) s.last t
       → Hold w minimum (see w k s (entry a n r o)) (tell w m (entry a n r o))

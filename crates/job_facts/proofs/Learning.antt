@@ -19,11 +19,11 @@ use Rattle.s3_types.specs.declared.request.Request.{Request}
 use Rattle.s3_types.specs.declared.request.Request.TheVariants.{CreateUpload, UploadPart}
 use Rattle.std.proofs.Common.{List, ap, arith, inl, inr, length, refl, subst, sym, ℕ, ◌∙◌, ◌≡◌, ◌≤◌, ◌⊎◌}
 
--- these know an upload of this id and this key
+-- The attempt knows an upload with this id and this key.
 abbrev pub Knows : List Drawn → Drawn → Type 0
 Knows ds d = (e : Drawn) × IsIn e ds × (e.upload ≡ d.upload) × (e.key ≡ d.key)
 
--- it was begun just now
+-- The upload was just begun.
 pub record IsNew (d : Drawn) (r : Request) (o : Outcome) : Type 0 where
   pub bucket : List ℕ
   pub request : r ≡ CreateUpload bucket d.key
@@ -33,7 +33,7 @@ module _ (w : Script) (m : Told) (a : Who) (r : Request) (o : Outcome) (b : Who)
   abbrev now : Who → List Drawn
   now = (tell_attempt w m a r o).drawn
 
-  -- what was known stays known
+  -- What was known stays known.
   pub known_still : IsIn d (m.drawn b) → Knows (now b) d
   known_still i = elim (same_or_another b a) [
     | inr ne ↦ (d, subst (λ (l : List Drawn). IsIn d l) (sym (who_other m.drawn a (learn w a (known m a) r o).drawn b ne)) i, refl, refl)
@@ -52,7 +52,7 @@ module _ (w : Script) (m : Told) (a : Who) (r : Request) (o : Outcome) (b : Who)
           (with_part id tag (length bytes) d, map_in (with_part id tag (length bytes)) d (m.drawn a) i, s.0, s.1)
       learns _ o i = (d, i, refl, refl)
 
-  -- and what is known was, or was begun just now
+  -- What is known was known before, or was just begun.
   pub known_before : IsIn d (now b) → Knows (m.drawn b) d ⊎ IsNew d r o
   known_before i = elim (same_or_another b a) [
     | inr ne ↦ inl (d, subst (λ (l : List Drawn). IsIn d l) (who_other m.drawn a (learn w a (known m a) r o).drawn b ne) i, refl, refl)
@@ -76,11 +76,11 @@ module _ (w : Script) (m : Told) (a : Who) (r : Request) (o : Outcome) (b : Who)
           inl (x.0, x.1, sym s.0 ∙ ap (λ (c : Drawn). c.upload) (sym x.2), sym s.1 ∙ ap (λ (c : Drawn). c.key) (sym x.2))
       learns _ o i = inl (d, i, refl, refl)
 
--- an id that is drawn is the counter
+-- The id that is drawn is the next one of the store.
 pub drawn_is_next : (s : Scene) (n k : List ℕ) (u : ℕ) → DrawnUpload u ≡ answer s (CreateUpload n k) → u ≡ s.content.next
 drawn_is_next s n k u h = grind arith
 
--- an upload that an attempt learns of was known, or drawn just now
+-- An upload that an attempt learns of was known, or was just drawn.
 pub learnt : (w : Script) (s : Scene) (m : Told) (a : Who) (r : Request) (o : Outcome) → IsHonestOutcome o (answer s r) → (id : ℕ)
     → IsKnown (tell_attempt w m a r o).drawn id → IsKnown m.drawn id ⊎ (s.content.next ≤ id)
 learnt w s m a r o honest id (b, d, i, e) = elim (known_before w m a r o b d i) [

@@ -1,4 +1,4 @@
--- What the bounds of a script give of its attempts' files.
+-- What the bounds of a script say of the files of its attempts.
 use Rattle.basics.proofs.Members.{eq_nat, false_true, in_front, in_last, in_map, text_true}
 use Rattle.basics.specs.Members.{IsIn}
 use Rattle.basics.specs.Order.{text_eq}
@@ -59,13 +59,13 @@ apart_from before (f ∷ fs) h = (
 
 -- ---- the files of an attempt
 
--- an attempt that has files is declared
+-- An attempt that has files is declared.
 pub record IsDeclared (tasks : ℕ) (fs : List File) (a : Who) : Type 0 where
   pub task : a.task < tasks
   pub attempt : a.attempt ≤ 99
   pub files : AreFiles [] fs
 
--- its files as the script writes them
+-- Its files as the script writes them.
 abbrev pub written : Script → Who → List File
 written w a = unwrap_or (lookup (same_name a) w.attempts) []
 
@@ -88,7 +88,7 @@ pub files_are : (w : Script) (a : Who) → files w a ≡ placed w.unique w.job (
 files_are w a = elim (lookup (same_name a) w.attempts) as (λ o. unwrap_or (option_map (placed w.unique w.job) o) [] ≡ placed w.unique w.job
     (unwrap_or o [])) [ None ↦ refl | Some fs ↦ refl ]
 
--- a file of an attempt is one that the script gives it, at its path
+-- A file of an attempt is one that the script gives it, at its path.
 pub record FromScript (w : Script) (a : Who) (f : File) : Type 0 where
   pub given : File
   pub one : IsIn given (written w a)
@@ -118,7 +118,7 @@ apart_if : (fs : List File) → ((f : File) → IsIn f fs → AreFiles [] fs) �
 apart_if [] h = tt
 apart_if (f ∷ fs) h = apart_from [] (f ∷ fs) (h f (inl refl))
 
--- the paths of its files are apart
+-- The paths of its files are all different.
 pub files_apart : {w : Script} → IsLegal w → (a : Who) → ApartFiles (files w a)
 files_apart {w = w} j a =
     let raw : ApartFiles (written w a) = apart_if (written w a) (λ f i. (declared_in w.tasks [] w.attempts a f j.attempts i).files) in
@@ -131,7 +131,7 @@ one_of (x ∷ fs) h f g (inl i) (inr k) e = absurd (h.0 g k (ap (λ (y : File). 
 one_of (x ∷ fs) h f g (inr i) (inl k) e = absurd (h.0 f i (ap (λ (y : File). y.0) (sym k) ∙ sym e))
 one_of (x ∷ fs) h f g (inr i) (inr k) e = one_of fs h.1 f g i k e
 
--- two of them with one path are one
+-- Two of its files with the same path are one file.
 pub same_file : {w : Script} → IsLegal w → (a : Who) (f g : File) → IsIn f (files w a) → IsIn g (files w a) → f.0 ≡ g.0 → f ≡ g
 same_file {w = w} j a f g i k e = one_of (files w a) (files_apart j a) f g i k e
 
@@ -139,7 +139,7 @@ pub given_of : {w : Script} → IsLegal w → (a : Who) (f : File) → (i : IsIn
 given_of {w = w} j a f i = let g = from_script w a f i in given_in [] (written w a) g.given
     (declared_in w.tasks [] w.attempts a g.given j.attempts g.one).files g.one
 
--- ---- of the magic committer they are at the paths that the script gives
+-- ---- with the magic committer they are at the paths that the script gives
 
 plain_names : (c : Committer) (m : Mode) (u : Bool) → is_magic c ≡ true → FitsMagic c m u → u ≡ false
 plain_names c m u h g = grind arith

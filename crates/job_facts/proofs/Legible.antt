@@ -1,4 +1,4 @@
--- The records and sets that attempts put are within their bounds, so that what reads them gets them back.
+-- The records and sets that attempts put are within their bounds, so they are read as they were written.
 use Rattle.basics.proofs.Counts.{some_part}
 use Rattle.basics.proofs.Lists.{one_byte}
 use Rattle.basics.proofs.Members.{nat_true, same_or_other, text_false, text_true}
@@ -70,7 +70,7 @@ elements_so (e ∷ es) full h =
     let q = or_parts (begins_hidden e) (list_any begins_hidden es) h in
     rw (element_so e p.0 q.0, elements_so es p.1 q.1) refl
 
--- an element with the id is one still
+-- An element with the id is still an element.
 named_so : (id e : List ℕ) → is_full e ≡ true → begins_hidden e ≡ false → is_element (with_id id e) ≡ true
 named_so id e h g = grind arith
 
@@ -232,7 +232,7 @@ short_file {w = w} j a f i =
 
 -- ---- tags
 
--- each is a byte
+-- Each is a byte.
 abbrev Small : List ℕ → Type 0
 Small [] = Unit {0}
 Small (b ∷ bs) = (b < 256) × Small bs
@@ -296,7 +296,7 @@ drawn_is {m = m} f a x i = known_in (m.drawn a) x i (λ d k e. f.ids.once a d x 
 -- ---- records
 
 module _ {w : Script} {minimum : ℕ} {s : Scene} {last : ℕ → Option ℕ} {m : Told} (j : IsLegal w) (f : Facts w minimum s last m) where
-  -- a known upload of a file is of that file, with all its tags and sizes where it is written
+  -- A known upload of a file is of that file, and has all its tags and sizes if the file is written.
   pub written_tags : (a : Who) (g : File) → IsIn g (files w a) → (x : IsWritten w minimum (m.drawn a) g)
       → (x.drawn.tags ≡ map plain_tag (file_parts w minimum g)) × (x.drawn.sizes ≡ map length (file_parts w minimum g))
   written_tags a g i x =
@@ -310,7 +310,7 @@ module _ {w : Script} {minimum : ℕ} {s : Scene} {last : ℕ → Option ℕ} {m
             (λ v. map length (file_parts w minimum v)) same,
       )
 
-  -- which fit its record
+  -- The sizes fit the file's record.
   pub written_sizes : (a : Who) (g : File) → IsIn g (files w a) → (x : IsWritten w minimum (m.drawn a) g)
       → are_sizes (Some x.drawn.sizes) x.drawn.tags (length g.1) ≡ true
   written_sizes a g i x =
@@ -347,7 +347,7 @@ module _ {w : Script} {minimum : ℕ} {s : Scene} {last : ℕ → Option ℕ} {m
           sizes = sizes_told w.committer x.drawn.sizes x.drawn.tags (length g.1) (written_sizes a g i x);
         }
 
-    -- what is read of a record's text is the record
+    -- A record's text is read as the record.
     pub record_read : (a : Who) (g : File) → IsIn g (files w a) → (x : IsWritten w minimum (m.drawn a) g)
         → reading.pending_of (compact_text (pending_tree (file_record w a g x.drawn))) ≡ Ok (file_record w a g x.drawn)
     record_read a g i x = pending_text (file_record w a g x.drawn) (legal_record a g i x)
@@ -362,7 +362,7 @@ module _ {w : Script} {minimum : ℕ} {s : Scene} {last : ℕ → Option ℕ} {m
         let is : drawn_in (m.drawn a) (file_key w g) ≡ x.drawn = ap (drawn_in (m.drawn a)) (sym x.key) ∙ drawn_is f a x.drawn x.known in
         (subst (λ d. IsPending (file_record w a g d)) (sym is) (legal_record a g i x), all_pending a cs (λ h k. each h (inr k)) known_all)
 
-    -- and of a set's text the set
+    -- A set's text is read as the set.
     pub set_read : (a : Who) (cs : List File) → IsAttempt w a → AreCommits w minimum (m.drawn a) a cs
         → reading.set_of (compact_text (set_tree (files_set w a cs (knowing (m.drawn a))))) ≡ Ok (files_set w a cs (knowing (m.drawn a)))
     set_read a cs d are =

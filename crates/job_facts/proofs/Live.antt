@@ -68,7 +68,7 @@ ref_self r =
     let b : nat_cmp r.upload r.upload ≡ Equal = tied _ (ties r.upload r.upload ∙ nat_true r.upload r.upload refl) in
     ap (λ t. is_eq (ordering_then t (nat_cmp r.upload r.upload))) a ∙ ap is_eq b
 
--- each live upload behind the last one, of a key that begins so, is listed
+-- Each live upload that comes after the last one, with a key that begins so, is listed.
 live_listed : (p : List ℕ) (l : Option UploadRef) (m : Uploads) (id : ℕ) (x : Upload) → fin.get m id ≡ Some x → begins p x.key ≡ true
     → is_behind l (ref_at id x) ≡ true → IsIn (ref_at id x) (listed p l m)
 live_listed p l m id x e h g =
@@ -91,7 +91,7 @@ above_all R k [] q a i = absurd i
 above_all R k (x ∷ ks) q a (inl e) = ap (R k) e ∙ a.0
 above_all R k (x ∷ ks) q a (inr i) = above_all R k ks q a.1 i
 
--- one of uploads that rise is among the first n or behind the last of these
+-- Each upload of a rising list is among the first n or comes after the last of these.
 take_or : (n : ℕ) (rs : List UploadRef) (l : Option UploadRef) (r : UploadRef) → IsStrictlySortedBy ref_cmp rs → is_behind l r ≡ true
     → IsIn r rs → IsIn r (take n rs) ⊎ (is_behind (last_ref l (take n rs)) r ≡ true)
 take_or zero rs l r s h i = inr h
@@ -102,12 +102,12 @@ take_or (suc n) (q ∷ rs) l r s h (inr i) = elim (take_or n rs (Some q) r (sort
 
 module _ (p : List ℕ) (l : Option UploadRef) (m : Uploads) (id : ℕ) (x : Upload) (e : fin.get m id ≡ Some x) (h : begins p x.key ≡ true)
     (g : is_behind l (ref_at id x) ≡ true) where
-  -- a live upload behind the last one is on the page, or behind its last
+  -- A live upload that comes after the last one is on the page, or comes after the page's last one.
   pub page_covers : (n : ℕ) → IsIn (ref_at id x) (take n (listed p l m))
       ⊎ (is_behind (last_ref l (take n (listed p l m))) (ref_at id x) ≡ true)
   page_covers n = take_or n (listed p l m) l (ref_at id x) (listed_sorted p l m) g (live_listed p l m id x e h g)
 
-  -- and on the page, where no more remain
+  -- It is on the page, if no more remain.
   pub page_all : (n : ℕ) → nat_lt n (length (listed p l m)) ≡ false → IsIn (ref_at id x) (take n (listed p l m))
   page_all n few = subst (IsIn (ref_at id x)) (sym (take_all n (listed p l m) (ltb-false n (length (listed p l m)) few)))
       (live_listed p l m id x e h g)
@@ -117,7 +117,7 @@ module _ (p : List ℕ) (l : Option UploadRef) (m : Uploads) (id : ℕ) (x : Upl
 not_below : (n : ℕ) → nat_cmp n n ≡ Less → ⊥
 not_below n h = let e : nat_cmp n n ≡ Equal = tied _ (ties n n ∙ nat_true n n refl) in absurd cc
 
--- one of entries that rise is what is found at its id
+-- Each entry of a rising list is found at its id.
 found_at : (es : List (ℕ × Upload)) (e : ℕ × Upload) → IsStrictlySortedBy nat_cmp (keys_of es) → IsIn e es → find nat_cmp e.0 es ≡ Some e.1
 found_at [] e s i = absurd i
 found_at (p ∷ es) e s (inl is) = subst (λ (x : ℕ × Upload). find nat_cmp e.0 (x ∷ es) ≡ Some e.1) is (find_head e es)
@@ -126,7 +126,7 @@ found_at (p ∷ es) e s (inr i) =
     (map_in (λ (x : ℕ × Upload). x.0) e es i) in
     find_other e.0 p es (λ h. not_below p.0 (ap (nat_cmp p.0) (sym h) ∙ above)) ∙ found_at es e (sorted_tail nat_cmp p.0 (keys_of es) s) i
 
--- with its key
+-- It has its key.
 pub listed_live : (p : List ℕ) (l : Option UploadRef) (m : Uploads) (r : UploadRef) → IsIn r (listed p l m) → (x : Upload)
     × ((fin.get m r.upload ≡ Some x) × (x.key ≡ r.key))
 listed_live p l m r i =

@@ -1,4 +1,4 @@
--- The files whose records are listed, in the order of the listing, are all of them and each once.
+-- The files whose records are listed, in the order of the listing, are all files, each once.
 use Rattle.basics.proofs.Members.{filter_in, in_append, in_back, in_filter, in_front, text_is, text_true, true_or_false}
 use Rattle.basics.specs.Members.{IsIn, RisesFrom}
 use Rattle.basics.specs.Order.{text_eq}

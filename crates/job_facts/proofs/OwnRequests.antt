@@ -1,4 +1,4 @@
--- The requests of the job's actors: below the destination, and none but the driver's commit's changes what a reader is shown.
+-- The requests of the job's actors stay below the destination, and only those of the driver's commit change what readers see.
 use Rattle.basics.proofs.Members.{false_true, same_or_not, some_is, text_is, text_other, text_true}
 use Rattle.basics.specs.Members.{IsIn}
 use Rattle.basics.specs.Order.{text_eq}
@@ -67,7 +67,7 @@ use Rattle.job_protocol.specs.JobCommits as commits
 use Rattle.job_facts.proofs.Owning as Asks
 use Rattle.std.specs.FinMap as fin
 
--- ---- what a request below the destination leaves outside it: uploads
+-- ---- what a request below the destination leaves outside of it: uploads
 
 same_upload : (w : Script) (o : Option Upload) → SameOutsideUpload w o o
 same_upload w o = grind arith
@@ -75,7 +75,7 @@ same_upload w o = grind arith
 as_before : (w : Script) (o x : Option Upload) → x ≡ o → SameOutsideUpload w o x
 as_before w o x e = subst (SameOutsideUpload w o) (sym e) (same_upload w o)
 
--- a part goes to an upload with its own key alone
+-- A part goes only to an upload with its own key.
 part_outside : (w : Script) (key : List ℕ) → begins (dest_prefix w) key ≡ true → (number : ℕ) (bytes : List ℕ) (o : Option Upload)
     → SameOutsideUpload w o (part_left key number bytes o)
 part_outside w key b number bytes None = tt
@@ -97,13 +97,13 @@ end_outside w key b (Some u) = by (text_eq u.key key) refl
 
 -- ---- buckets
 
--- another bucket
+-- Another bucket.
 other_bucket : (o : Option BucketContent) (c : Content) (r : Request) (n : List ℕ) → bucket_of r ≡ n → (b : List ℕ) → text_eq b n ≡ false
     → fin.get (apply_at o c r).buckets b ≡ fin.get c.buckets b
 other_bucket None c r n e b ne = refl
 other_bucket (Some x) c r n e b ne = text_other c.buckets (bucket_of r) b _ (λ is. false_true ne (text_true b n (is ∙ e)))
 
--- where nothing changes
+-- If nothing changes.
 pub idle : (w : Script) (s : Scene) (c : Content) → c ≡ s.content → SameOutside w s.content c
 idle w s c e = subst (SameOutside w s.content) (sym e) (record
     { buckets = λ b ne. refl; objects = λ k free. refl; uploads = λ id. same_upload w (at_id w s.content id) })
@@ -112,7 +112,7 @@ module _ (w : Script) (s : Scene) (there : HasBucket s.content w.dest.bucket) wh
   abbrev Leaves : Request → Type 0
   Leaves r = SameOutside w s.content (apply s r).content
 
-  -- it is enough to see to other buckets, to the keys that it changes, and to uploads
+  -- It is enough to show it for other buckets, for the keys that the request changes, and for uploads.
   leaves_by : (r : Request) → ((b : List ℕ) → text_eq b w.dest.bucket ≡ false
       → fin.get (apply s r).content.buckets b ≡ fin.get s.content.buckets b)
       → ((k : List ℕ) → IsIn k (changed_keys r) → begins (dest_prefix w) k ≡ true)
@@ -147,7 +147,7 @@ module _ (w : Script) (s : Scene) (there : HasBucket s.content w.dest.bucket) wh
   batch_leaves keys all = let r = DeleteObjects w.dest.bucket keys in leaves_by r (others_stay r refl) all
       (λ id. as_before w (at_id w s.content id) _ ((deletes_drop w s keys there).uploads id))
 
-  -- what changes at one id
+  -- A change of the upload at one id.
   turn_leaves : (r : Request) (id : ℕ) → ((u : ℕ) → (u ≡ id → ⊥) → at_id w (apply s r).content u ≡ at_id w s.content u)
       → (x : Option Upload) → at_id w (apply s r).content id ≡ x → SameOutsideUpload w (at_id w s.content id) x
       → (u : ℕ) → SameOutsideUpload w (at_id w s.content u) (at_id w (apply s r).content u)
@@ -184,7 +184,7 @@ module _ (w : Script) (s : Scene) (there : HasBucket s.content w.dest.bucket) wh
   read_leaves : (r : Request) → only_reads r ≡ true → Leaves r
   read_leaves r h = idle w s _ (ap (λ (x : Scene). x.content) (reads_nothing s r h))
 
-  -- any request within the destination
+  -- Any request within the destination.
   pub within_leaves : ((id : ℕ) (x : Upload) → at_id w s.content id ≡ Some x → id < s.content.next) → (r : Request) → IsWithin w r
       → Leaves r
   within_leaves fresh (MakeBucket n) h = absurd h
@@ -210,7 +210,7 @@ module _ (w : Script) (s : Scene) (there : HasBucket s.content w.dest.bucket) wh
       → (o : Outcome) → SameOutside w s.content (effect s r o).content
   within_outside fresh r h o = effect_so (λ u. SameOutside w s.content u.content) s r o (idle w s s.content refl) (within_leaves fresh r h)
 
--- and it is no copy
+-- It is no copy.
 pub within_uncopied : (w : Script) (r : Request) → IsWithin w r → is_copy r ≡ false
 within_uncopied w r h = grind arith
 
@@ -263,7 +263,7 @@ attempt_changes g j s m h a d op fits r e n o =
       outside = within_outside g.script s.scene h.there h.ids.fresh r within o;
     }
 
--- of the driver what takes effect may show, or it changes no file that is shown
+-- A request of the driver may show if it takes effect, or it changes no visible file.
 driver_shows : (w : Script) (s : Scene) (r : Request) → (may_show r ≡ true) ⊎ Same (view w.dest (apply s r).content) (view w.dest s.content)
     → (n : ℕ) (o : Outcome)
     → Same (view w.dest (effect s r o).content) (view w.dest s.content)
@@ -325,7 +325,7 @@ clean_changes g j s m h t fits r e n o = clearing_changes j s m h r (clean_asked
 -- ---- the commit
 
 module _ (w : Script) (minimum : ℕ) (j : IsLegal w) (s : Seen) (m : Told) (there : HasBucket s.scene.content w.dest.bucket) where
-  -- what a request of it is
+  -- What a request of the commit is.
   record Kind (r : Request) : Type 0 where
     pub within : IsWithin w r
     pub no_data : sends_data r ≡ false

@@ -47,7 +47,7 @@ use Rattle.job_protocol.specs.TaskCommits as commits
 
 -- ---- what an attempt's operations ask for
 
--- a request of an attempt with what is known of it then; `back` says that it may take something back
+-- A request of an attempt, with what it knows then; `back` says whether it may take something back.
 pub data Asked (w : Script) (minimum : ℕ) (a : Who) (m : Told) (back : Bool) : Request → Type 0 where
   reads : (r : Request) → only_reads r ≡ true → Asked w minimum a m back r
   creates : (f : File) → IsOpen (known m a) → IsIn f (files w a) → ((d : Drawn) → IsIn d (m.drawn a) → d.key ≡ file_key w f → ⊥)
@@ -109,7 +109,7 @@ module _ (w : Script) (minimum : ℕ) (a : Who) (m : Told) where
   abort_asked (TaskAbortOver end) fits r e = absurd cc
   abort_asked _ fits r e = reads r (ap only_reads (sym (some_is e)))
 
--- whether the operation takes something back
+-- Whether the operation takes something back.
 abbrev pub takes_back : Operation → Bool
 takes_back (TheTaskAbort t) = true
 takes_back _ = false
@@ -118,12 +118,12 @@ pub operation_asked : (g : Setting) (m : Told) (a : Who) (op : Operation) → Fi
     → asks g a (known m a) op ≡ Some r → Asked g.script g.minimum a m (takes_back op) r
 operation_asked g m a op h r e = grind (arith, write_asked, commit_asked, abort_asked)
 
--- it takes nothing back, unless it may, and none of it does once the publishing request is sent
+-- The request takes nothing back, unless it may; and no request does once the publishing request is sent.
 pub asked_adds : {w : Script} {minimum : ℕ} {a : Who} {m : Told} {back : Bool} (r : Request) → Asked w minimum a m back r → (back ≡ false)
     ⊎ (m.publish_sent a ≡ true) → undoes r ≡ false
 asked_adds r h g = grind arith
 
--- the facts are kept
+-- It keeps the facts.
 pub asked_keeps : {w : Script} {minimum : ℕ} {back : Bool} (j : IsLegal w) (k : Times) (s : Seen) (m : Told) (a : Who) (n : ℕ)
     → IsAttempt w a → Hold w minimum s m → (r : Request) → Asked w minimum a m back r → (o : Outcome) → IsHonestOutcome o (answer s.scene r)
     → Hold w minimum (see w k s (entry a n r o)) (tell w m (entry a n r o))
@@ -143,7 +143,7 @@ asked_keeps {w = w} {minimum = minimum} j k s m a n d h _ (drops x b unsent i) =
 asked_keeps {w = w} {minimum = minimum} j k s m a n d h _ (sweeps keys b unsent own) = delete_keeps w minimum k s m a n h keys own unsent
 asked_keeps {w = w} {minimum = minimum} j k s m a n d h _ (removes b unsent) = remove_keeps w minimum k s m a n h j d unsent
 
--- it changes no path but that of its temporary file and that of its task's set
+-- It changes no path but those of its temporary file and of its task's set.
 pub asked_path : {w : Script} {minimum : ℕ} {a : Who} {m : Told} {back : Bool} (r : Request) → Asked w minimum a m back r → (p : List ℕ)
     → IsIn p (changed_paths r) → (p ≡ temporary_path w a) ⊎ (p ≡ staged_set_path w.job a.task)
 asked_path r h p g = grind arith
@@ -151,22 +151,22 @@ asked_path r h p g = grind arith
 -- ---- names only what is its own
 
 module _ {w : Script} (ds : List Drawn) where
-  -- it changes paths of the job's own, and nothing else that has a name
+  -- The request changes paths of the job's own, and nothing else that has a name.
   names_paths : (r : Request) → changed_keys r ≡ [] → changed_upload r ≡ None
       → ((p : List ℕ) → IsIn p (changed_paths r) → begins (cluster_prefix w.job) p ≡ true) → IsOwn w ds r
   names_paths r h g e = grind arith
 
-  -- an upload that the attempt knows
+  -- The request changes an upload that the attempt knows.
   names_upload : (r : Request) (d : Drawn) → IsIn d ds → changed_keys r ≡ [] → changed_upload r ≡ Some d.upload → changed_paths r ≡ []
       → IsOwn w ds r
   names_upload r d h g e f = grind arith
 
-  -- a key of the job's own
+  -- The request puts a key of the job's own.
   names_key : (key bytes : List ℕ) (header : Option ℕ) → begins (magic_prefix w.dest.key w.job) key ≡ true
       → IsOwn w ds (PutObject w.dest.bucket key bytes header)
   names_key key bytes header h = grind arith
 
--- an attempt's directory is below the job's magic directory
+-- An attempt's directory is below the job's magic directory.
 pub own_directory : (w : Script) (a : Who) (q : List ℕ) → begins (attempt_prefix w a) q ≡ true
     → begins (magic_prefix w.dest.key w.job) q ≡ true
 own_directory w a q h =

@@ -1,4 +1,4 @@
--- Places of a job: where they are, and that they are apart.
+-- The places of a job: where they are, and that they are all different.
 use Rattle.basics.specs.Members.{IsIn}
 use Rattle.job_facts.proofs.Legal.{is_attempt, no_record, same_file, small_attempt, small_task, some_dest}
 use Rattle.job_facts.proofs.Whose.{attempt, who_of}
@@ -46,7 +46,7 @@ own_place j magic _ h = absurd h
 own_is : (w : Script) (p : Place) → IsOwnPlace w p → is_magic_place p ≡ true
 own_is w p h = grind arith
 
--- the key of such a place is below the magic directory
+-- The key of such a place is below the magic directory.
 pub own_magic : {w : Script} → IsLegal w → is_magic w.committer ≡ true → (p : Place) → IsOwnPlace w p
     → begins (magic_prefix w.dest.key w.job) (key_at w.dest.key w.job p) ≡ true
 own_magic {w = w} j magic p h = key_magic w.dest.key w.job p (some_dest j) (own_place j magic p h) ∙ own_is w p h
@@ -59,19 +59,19 @@ pub set_magic : {w : Script} → IsLegal w → (t : ℕ) → t < w.tasks
     → begins (magic_prefix w.dest.key w.job) (key_at w.dest.key w.job (SetPlace t)) ≡ true
 set_magic {w = w} j t h = key_magic w.dest.key w.job (SetPlace t) (some_dest j) (small_task j t h)
 
--- places of the job with one key are one
+-- Two places of the job with one key are one place.
 pub one_place : {w : Script} → IsLegal w → (p q : Place) → IsPlace p → IsPlace q → key_at w.dest.key w.job p ≡ key_at w.dest.key w.job q
     → p ≡ q
 one_place {w = w} j p q g h e = keys_apart w.dest.key w.job w.job p q (some_dest j) j.job j.job g h e
 
--- files of one key are of one path
+-- Two files with one key have one path.
 pub one_key : {w : Script} → IsLegal w → (f g : File) → file_key w f ≡ file_key w g → f.0 ≡ g.0
 one_key {w = w} j f g e =
     let cut_off : 47 ∷ f.0 ≡ 47 ∷ g.0 = append_cancel_left w.dest.key (47 ∷ f.0) (47 ∷ g.0)
     (sym (below_is w.dest.key f.0 (some_dest j)) ∙ e ∙ below_is w.dest.key g.0 (some_dest j)) in
     append_cancel_left (47 ∷ []) f.0 g.0 cut_off
 
--- and of one attempt they are one
+-- Two such files of one attempt are one file.
 pub key_file : {w : Script} → IsLegal w → (a : Who) (f g : File) → IsIn f (files w a) → IsIn g (files w a) → file_key w f ≡ file_key w g
     → f ≡ g
 key_file j a f g i k e = same_file j a f g i k (one_key j f g e)
@@ -81,7 +81,7 @@ key_file j a f g i k e = same_file j a f g i k (one_key j f g e)
 behind_job : (job rest : List ℕ) → begins (cluster_prefix job) (codes "jobs/" ++ (job ++ 47 ∷ rest)) ≡ true
 behind_job job rest = begins_behind (codes "jobs/") (job ++ codes "/") (job ++ 47 ∷ rest) ∙ begins_behind job (codes "/") (47 ∷ rest)
 
--- they are below the job's directory there
+-- The places in the cluster are below the job's directory there.
 pub path_below : (w : Script) (p : ClusterPlace) → begins (cluster_prefix w.job) (path_at w.job p) ≡ true
 path_below w (TemporaryPlace t a) = behind_job w.job (codes "tmp/" ++ (decimal t ++ (codes "_" ++ (decimal a ++ codes ".pendingset"))))
 path_below w (StagedSetPlace t) = behind_job w.job (codes "sets/task_" ++ (decimal t ++ codes ".pendingset"))
@@ -90,7 +90,7 @@ pub one_path : {w : Script} → IsLegal w → (p q : ClusterPlace) → IsCluster
     → p ≡ q
 one_path {w = w} j p q g h e = (paths_apart w.job w.job p q j.job j.job g h e).0
 
--- temporary files of one path are of one attempt
+-- Temporary files with one path are of one attempt.
 pub one_temporary : {w : Script} → IsLegal w → (a b : Who) → IsAttempt w a → IsAttempt w b
     → path_at w.job (TemporaryPlace a.task a.attempt) ≡ path_at w.job (TemporaryPlace b.task b.attempt) → a ≡ b
 one_temporary j a b d e is =
@@ -100,7 +100,7 @@ one_temporary j a b d e is =
     let n : a.attempt ≡ b.attempt = cc in
     who_of a b t n
 
--- and none is a task's set
+-- None of them is a task's set.
 pub not_staged : {w : Script} → IsLegal w → (a : Who) (t : ℕ) → IsAttempt w a → t < w.tasks
     → path_at w.job (TemporaryPlace a.task a.attempt) ≡ path_at w.job (StagedSetPlace t) → ⊥
 not_staged j a t d lt is =
@@ -121,11 +121,11 @@ pub set_same : (c : Committer) (w : Script) (s u : Scene) (t : ℕ) → at_place
     → at_path w u (StagedSetPlace t) ≡ at_path w s (StagedSetPlace t) → set_at c w u t ≡ set_at c w s t
 set_same c w s u t h g = grind arith
 
--- an object that stands there, of which these are the bytes
+-- An object is there, and has these bytes.
 pub set_object : (o : Option Object) (b : List ℕ) → option_map (λ o. o.bytes) o ≡ Some b → (x : Object) × (o ≡ Some x) × (x.bytes ≡ b)
 set_object o b h = grind arith
 
--- what stands stood before
+-- The set was there before.
 pub set_stood : (c : Committer) (w : Script) (s u : Scene) (t : ℕ) (b : List ℕ)
     → ((x : Object) → at_place w u.content (SetPlace t) ≡ Some x → at_place w s.content (SetPlace t) ≡ Some x)
     → ((x : List ℕ) → at_path w u (StagedSetPlace t) ≡ Some x → at_path w s (StagedSetPlace t) ≡ Some x) → set_at c w u t ≡ Some b

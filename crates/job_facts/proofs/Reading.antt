@@ -1,4 +1,4 @@
--- The picks that are seen as the driver's commit reads the sets.
+-- The picks that the journal shows as the driver's commit reads the sets.
 use Rattle.basics.proofs.Lists.{slice_last}
 use Rattle.basics.proofs.Members.{text_false, text_true}
 use Rattle.job_facts.proofs.Agreeing.{AgreeBelow, Agrees, agrees_fetching}
@@ -28,7 +28,7 @@ use Rattle.std.specs.Cmp.Derive.{both_true}
 use Rattle.std.specs.Option.{option_map}
 use Rattle.magic_paths.specs.Layout as layout
 
--- ---- which task a read is of
+-- ---- the task of a read
 
 module _ {w : Script} (j : IsLegal w) where
   reads_by : (c : Committer) → w.committer ≡ c → (t : ℕ) → is_reading w t (set_request c w t) ≡ true
@@ -59,7 +59,7 @@ slice_front (x ∷ xs) y (suc n) l = slice_front xs y n (omega arith)
 module _ {w : Script} {minimum : ℕ} {s : Scene} {last : ℕ → Option ℕ} {m : Told} (j : IsLegal w) (f : Facts w minimum s last m)
     (few : s.content.next ≤ 2 ^ 64) (picks : Picks) (sets : Sets) (low : length sets < w.tasks)
     (agree : AgreeBelow w picks sets (length sets)) (begun : Bool) (has_begun : begun ≡ true) where
-  -- the picks after the answer
+  -- The picks after the answer.
   abbrev next : Picks
   next = picks_by w begun last picks (set_request w.committer w (length sets))
 
@@ -74,7 +74,7 @@ module _ {w : Script} {minimum : ℕ} {s : Scene} {last : ℕ → Option ℕ} {m
   still_agree : AgreeBelow w next sets (length sets)
   still_agree t l = next_other t (omega arith) (λ e. absurd (omega (arith, e))) ∙ agree t l
 
-  -- a set that was read is of the last publisher, which is the pick then
+  -- A set that was read is that of the last publisher, which becomes the pick.
   one_more : (h : PendingSet) → last (length sets) ≡ Some h.attempt → AgreeBelow w next (sets ++ h ∷ []) (length (sets ++ h ∷ []))
   one_more h latest t l =
       let long : length (sets ++ h ∷ []) ≡ length sets + 1 = length-append sets (h ∷ []) in

@@ -1,4 +1,4 @@
--- What an attempt has written stands, whatever others send, until the driver cleans up; and so it goes on.
+-- What an attempt has written stays, whatever others send, until the driver cleans up; so its operation goes on.
 use Rattle.basics.proofs.Members.{false_true, in_map, nat_true, some_is, text_here, text_true, true_or_false}
 use Rattle.basics.specs.Members.{IsIn}
 use Rattle.basics.specs.Order.{text_eq}
@@ -64,7 +64,7 @@ use Rattle.job_model.specs.declared.ends.TaskEnd.TheVariants as tasks
 use Rattle.job_protocol.specs.Writes as writes
 use Rattle.job_protocol.specs.TaskCommits as commits
 
--- ---- from one moment to another what it has written stays
+-- ---- what it has written stays from one state to another
 
 pub record Stood (w : Script) (a : Who) (s t : Seen) : Type 0 where
   pub records : (f : File) → IsIn f (files w a) → HasRecord w s a f → HasRecord w t a f
@@ -102,7 +102,7 @@ some_last : (b : Bool) (v : ℕ) (o : Option ℕ) → (n : ℕ) × (o ≡ Some n
 some_last true v o h = (v, refl)
 some_last false v o h = h
 
--- an attempt's, whose effect leaves these
+-- An entry of an attempt, whose effect leaves these.
 stood_by : (w : Script) (k : Times) (s : Seen) (a b : Who) (n : ℕ) (r : Request)
     → ((f : File) → IsIn f (files w a) → HasKey w s.scene (record_key w a f) → HasKey w (apply s.scene r) (record_key w a f))
     → (HasPath s.scene (temporary_path w a) → HasPath (apply s.scene r) (temporary_path w a)) → (o : Outcome)
@@ -135,7 +135,7 @@ other_stood g j k s m a b n there d e ne op h r x o =
 
 module _ (w : Script) (j : IsLegal w) (k : Times) (s : Seen) (a : Who) (n : ℕ) (there : HasBucket s.scene.content w.dest.bucket)
     (r : Request) where
-  -- where it changes nothing in the job's own directories
+  -- The entry changes nothing in the job's own directories.
   module _ (t : Seen) (last : (i : ℕ) → HasPublished s i → HasPublished t i) (keys : bucket_of r ≡ w.dest.bucket → (q : List ℕ) → IsIn q
       (changed_keys r) → begins (magic_prefix w.dest.key w.job) q ≡ false)
       (paths : (p : List ℕ) → IsIn p (changed_paths r) → begins (cluster_prefix w.job) p ≡ false) (o : Outcome)
@@ -159,7 +159,7 @@ module _ (w : Script) (j : IsLegal w) (k : Times) (s : Seen) (a : Who) (n : ℕ)
   pub strange_stood : (drawn : Who → List Drawn) → IsForeign w drawn r → (o : Outcome) → Stood w a s (see w k s (strange_entry n r o))
   strange_stood drawn d o = apart_stood (see w k s (strange_entry n r o)) (λ i h. h) d.keys d.paths o refl
 
--- ---- a step under retries, by whether a sending of the request was lost
+-- ---- a step under retries, by whether a send of the request was lost
 
 step_stands : {M : Type 0} (P : Outcome → Bool → M → Type 0) (retries : ℕ) (after : M → Item → M) (t : Retried M) (y : Reply) (o : Outcome)
     → IsHonestOutcome o y → ((x : Reply) → x ≡ y → P (Answered x) false (after t.operation (Got x t.repeated)))
@@ -178,7 +178,7 @@ created_there w minimum f x = grind arith
 
 module _ (w : Script) (minimum : ℕ) (s : Seen) (m : Told) (a : Who) (j : IsLegal w) (facts : Hold w minimum s m) (closed : Closed m)
     (before : m.cleaned ≡ false) (clean : m.undone a ≡ false) where
-  -- the driver has not ended an upload of an attempt that may learn of more
+  -- The driver has not ended an upload of an attempt that may learn of more.
   not_ended : m.publish_sent a ≡ false → (d : Drawn) → IsIn d (m.drawn a) → m.ended d.upload ≡ false
   not_ended unsent d i = elim (true_or_false (m.ended d.upload)) [
     | inr out ↦ out
@@ -201,7 +201,7 @@ module _ (w : Script) (minimum : ℕ) (s : Seen) (m : Told) (a : Who) (j : IsLeg
       (plain_tag p)) b.key taken) honest in
       subst (λ y. StillThere (sent_part ps y)) (sym is) (elim ps as (λ qs. StillThere (sending qs)) [ [] ↦ tt | q ∷ qs ↦ tt ])
 
--- ---- as they begin
+-- ---- the first states
 
 writing_stands : (w : Script) (s : Seen) (a : Who) (fs : List File) → HasRecords w s a fs → WriteStands w s a (writing fs)
 writing_stands w s a [] h = (tt, λ e m. h)
@@ -323,7 +323,7 @@ module _ (w : Script) (minimum : ℕ) (k : Times) (s : Seen) (m : Told) (a : Who
 
   module _ (P : Type 0) (Q : Request → Outcome → Type 0) (keeps : (r : Request) (v : Outcome) → P → Q r v)
       (published : (r : Request) → is_publishing w s.scene a.task r ≡ true → (v : Outcome) → is_effective v ≡ true → Q r v) where
-    -- all but the rename
+    -- All requests but the rename.
     commit_by : (op : TaskCommit) (r : Request) (o : Outcome) → IsHonestOutcome o (answer s.scene r)
         → ((b : Bool) (v : Outcome) → CommitStandsBy (Q r (v)) w (now r v) a b op)
         → ((x : Reply) → x ≡ answer s.scene r → CommitStandsBy (Q r (Answered x)) w (now r (Answered x)) a false
@@ -335,7 +335,7 @@ module _ (w : Script) (minimum : ℕ) (k : Times) (s : Seen) (m : Told) (a : Who
         (answer s.scene r) o honest
         heard (kept repeated Slow) (kept true RequestLost) (kept true ReplyLost) (λ v. (tt, λ y. absurd cc))
 
-    -- a page of its directory
+    -- A page of its directory.
     looks : (keys : List (List ℕ)) → CommitStandsBy P w s a repeated (Looking keys) → (r : Request)
         → task_commit_asks w a (known m a) (Looking keys) ≡ Some r → (x : Reply) → x ≡ answer s.scene r
         → CommitStandsBy (Q r (Answered x)) w (now r (Answered x)) a false (looked w a (walked keys x))
@@ -351,7 +351,7 @@ module _ (w : Script) (minimum : ℕ) (k : Times) (s : Seen) (m : Told) (a : Who
         (looked_stands (Q r (Answered x)) w t a (more_keys w s.scene there p keys) (records_now (Looking keys) r e (Answered x) h.0) _ more
         (λ few f i. all_covered w s.scene there p keys (record_key w a f) (stands f i).0 (stands f i).1 (record_own j a f) few (h.1 f i)))
 
-    -- a record that is read
+    -- A record that is read.
     reads : (cs : List File) (f : File) (fs : List File) → CommitStandsBy P w s a repeated (Reading cs f fs) → (r : Request)
         → task_commit_asks w a (known m a) (Reading cs f fs) ≡ Some r → (x : Reply) → x ≡ answer s.scene r
         → CommitStandsBy (Q r (Answered x)) w (now r (Answered x)) a false (read_record w a cs f fs x)
@@ -365,7 +365,7 @@ module _ (w : Script) (minimum : ℕ) (k : Times) (s : Seen) (m : Told) (a : Who
         subst (λ v. CommitStandsBy (Q r (Answered x)) w t a false (read_record w a cs f fs v)) (sym is)
         (reading_stands (Q r (Answered x)) w t a cs fs (records_now (Reading cs f fs) r e (Answered x) h.0) (λ g i. h.1 g (inr i)))
 
-    -- the rename
+    -- The rename.
     rename_stands : is_staging w.committer ≡ true → CommitStandsBy P w s a repeated Renaming → (r : Request)
         → task_commit_asks w a (known m a) Renaming ≡ Some r → (o : Outcome) → IsHonestOutcome o (answer s.scene r)
         → let t = step retries (task_commit_after w minimum a) (at_commit Renaming) o in CommitStandsBy (Q r (o)) w (now r o) a t.repeated
@@ -437,7 +437,7 @@ own_stands g j k s m a n facts closed before (TheTaskCommit t) fits h r e o hone
 own_stands g j k s m a n facts closed before (TheCheck t) fits h r e o honest = absurd fits
 own_stands g j k s m a n facts closed before _ fits h r e o honest = tt
 
--- ---- and as they end
+-- ---- the ends
 
 pub write_never : (w : Script) (s : Seen) (a : Who) (op : Write) (name : List ℕ) → WriteStands w s a op
     → write_over op ≡ Some (tasks.Gone name) → ⊥

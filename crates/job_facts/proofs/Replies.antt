@@ -1,4 +1,4 @@
--- The answers that are due, where the facts hold.
+-- The answers that S3 must give while the facts hold.
 use Rattle.basics.proofs.Members.{none_or_some, text_true}
 use Rattle.basics.specs.Members.{IsIn}
 use Rattle.job_facts.proofs.Cut.{held_joined, parts_few}
@@ -43,19 +43,19 @@ use Rattle.job_facts.proofs.Legible as legible
 module _ {w : Script} {minimum : ℕ} {s : Scene} {last : ℕ → Option ℕ} {m : Told} (j : IsLegal w) (f : Facts w minimum s last m) where
   -- ---- uploads
 
-  -- an upload that is known, and neither ended nor taken back, is held with the blocks of its file
+  -- An upload that is known, and neither ended nor taken back, is held with the parts of its file.
   pub held_of : (a : Who) (x : Drawn) (g : File) → IsIn x (m.drawn a) → IsIn g (files w a) → x.key ≡ file_key w g → m.ended x.upload ≡ false
       → m.undone a ≡ false → IsHeld w minimum (at_id w s.content) x g
   held_of a x g i mine key e r =
       let o = f.owned a x i in
       subst (λ v. IsHeld w minimum (at_id w s.content) x v) (key_file j a o.file g o.mine mine (sym o.key ∙ key)) (o.held e r)
 
-  -- it is live with its key
+  -- It is live with its key.
   held_live : (x : Drawn) (g : File) → (h : IsHeld w minimum (at_id w s.content) x g)
       → live f.there.0.uploads x.key x.upload ≡ Some (record { key = x.key; parts = h.parts })
   held_live x g h = grind (arith, id_before, text_true)
 
-  -- a part is taken
+  -- S3 accepts a part of it.
   pub part_taken : (a : Who) (x : Drawn) (g : File) (bytes : List ℕ) → IsIn x (m.drawn a) → IsIn g (files w a) → x.key ≡ file_key w g
       → m.ended x.upload ≡ false → m.undone a ≡ false
       → slice_get (file_parts w minimum g) (length x.tags) ≡ Some bytes
@@ -68,7 +68,7 @@ module _ {w : Script} {minimum : ℕ} {s : Scene} {last : ℕ → Option ℕ} {m
       ∙ ap (λ u. part_answer u (length x.tags + 1) bytes) (held_live x g h)
       ∙ ap (λ b. cond b (Part (plain_tag bytes)) (Refused BadPartNumber)) (number_fits (length x.tags) (omega arith))
 
-  -- the parts of an upload that has them all are joined to its file
+  -- The parts of an upload that has them all are joined to its file.
   pub file_joined : (a : Who) (g : File) → IsIn g (files w a) → (x : IsWritten w minimum (m.drawn a) g) → m.ended x.drawn.upload ≡ false
       → m.undone a ≡ false
       → joined (live f.there.0.uploads (file_key w g) x.drawn.upload) (named_from 1 x.drawn.tags) s.content.minimum ≡ Ok g.1
@@ -81,7 +81,7 @@ module _ {w : Script} {minimum : ℕ} {s : Scene} {last : ℕ → Option ℕ} {m
       ∙ ap (joined (Some (record { key = x.drawn.key; parts = h.parts })) (named_from 1 x.drawn.tags)) least
       ∙ held_joined w minimum (at_id w s.content) x.drawn g h tags x.complete
 
-  -- and so it is completed
+  -- So the upload is completed.
   pub completed : (a : Who) (g : File) → IsIn g (files w a) → (x : IsWritten w minimum (m.drawn a) g) → m.ended x.drawn.upload ≡ false
       → m.undone a ≡ false
       → answer s (CompleteUpload w.dest.bucket (file_key w g) x.drawn.upload (named_from 1 x.drawn.tags)) ≡ Completed
@@ -92,7 +92,7 @@ module _ {w : Script} {minimum : ℕ} {s : Scene} {last : ℕ → Option ℕ} {m
 
   -- ---- records
 
-  -- a record that is there is that of the upload which the attempt knows for the file
+  -- A record that is there is that of the upload which the attempt knows for the file.
   pub record_there : is_magic w.committer ≡ true → (a : Who) (g : File) → IsIn g (files w a)
       → (answer s (GetObject w.dest.bucket (record_key w a g)) ≡ Refused NoSuchKey)
       ⊎ ((header : Option ℕ) × (answer s (GetObject w.dest.bucket (record_key w a g)) ≡ Found
@@ -112,7 +112,7 @@ module _ {w : Script} {minimum : ℕ} {s : Scene} {last : ℕ → Option ℕ} {m
 
   -- ---- sets
 
-  -- a set that is there is read as that of the last publisher
+  -- A set that is there is read as that of the last publisher.
   pub bytes_read : (few : s.content.next ≤ 2 ^ 64) (t : ℕ) (bytes : List ℕ) → t < w.tasks
       → (x : IsSet w minimum last m.publish_sent m.drawn t bytes)
       → reading.set_of bytes ≡ Ok (files_set w x.by x.commits (knowing (m.drawn x.by)))
@@ -133,7 +133,7 @@ module _ {w : Script} {minimum : ℕ} {s : Scene} {last : ℕ → Option ℕ} {m
   set_reply _ t None e = inr (ap read_answer e)
   set_reply _ t (Some b) e = ap (λ x. set_read (read_answer x)) e
 
-  -- what the driver reads of a task's set: nothing where none stands, and else that of the last publisher
+  -- What the driver reads of a task's set: nothing if there is none, else the set of the last publisher.
   pub set_answered : (few : s.content.next ≤ 2 ^ 64) (t : ℕ) → t < w.tasks → SetAnswered w minimum s last m t
   set_answered few t lt = elim (none_or_some (sets_at w s t)) [
     | inl none ↦ inl (set_reply w.committer t None none)

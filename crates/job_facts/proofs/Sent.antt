@@ -50,7 +50,7 @@ use Rattle.std.proofs.lemmas.Option.{slice_get_within}
 use Rattle.store_frame.proofs.Framed.{frame}
 use Rattle.std.specs.FinMap as fin
 
--- ---- a request that neither publishes, nor puts a temporary file, nor takes anything away
+-- ---- a request that neither publishes, nor puts a temporary file, nor deletes anything
 
 pub record IsPlain (w : Script) (s : Scene) (a : Who) (k : Known) (r : Request) : Type 0 where
   pub put : (o : Outcome) → (learn w a k r o).put_sent ≡ k.put_sent
@@ -58,7 +58,7 @@ pub record IsPlain (w : Script) (s : Scene) (a : Who) (k : Known) (r : Request) 
   pub undo : undoes r ≡ false
   pub publishing : is_publishing w s a.task r ≡ false
 
--- the part is there and answered by its tag, or the answer teaches nothing
+-- The part is there and its tag is the answer, or the answer teaches nothing.
 abbrev Due : ℕ → List ℕ → Reply → Option Upload → Type 0
 Due number bytes x o = ((x ≡ Part (plain_tag bytes)) × ((u : Upload) → o ≡ Some u → fin.get u.parts number ≡ Some bytes))
     ⊎ ((ds : List Drawn) (id size : ℕ) → learn_part ds id size (Answered x) ≡ ds)
@@ -67,7 +67,7 @@ part_due : (key : List ℕ) (number : ℕ) (bytes : List ℕ) (o : Option Upload
     → Due number bytes (part_answer (with_key key o) number bytes) (part_left key number bytes o)
 part_due key number bytes o = grind (arith, nat_here)
 
--- the key of another place of the job is not that of a task's set
+-- The key of another place of the job is not that of a task's set.
 pub not_set : {w : Script} → IsLegal w → is_magic w.committer ≡ true → (t : ℕ) (p : Place) → IsOwnPlace w p → t < w.tasks
     → (p ≡ SetPlace t → ⊥) → is_set_key w t w.dest.bucket (key_at w.dest.key w.job p) ≡ false
 not_set {w = w} j magic t p own small ne =
@@ -85,7 +85,7 @@ module _ (w : Script) (minimum : ℕ) (k : Times) (s : Seen) (m : Told) (a : Who
   abbrev pub Keeps : Request → Type 0
   Keeps r = (o : Outcome) → IsHonestOutcome o (answer s.scene r) → Hold w minimum (see w k s (entry a n r o)) (tell w m (entry a n r o))
 
-  -- it knows these uploads
+  -- The attempt knows these uploads.
   abbrev learning : List Drawn → Told
   learning ds = record m { drawn = put_who m.drawn a ds }
 
@@ -97,12 +97,12 @@ module _ (w : Script) (minimum : ℕ) (k : Times) (s : Seen) (m : Told) (a : Who
   plain_told r p o = told_is m a _ _ refl (who_same m.put_sent a _ (p.put o)) (who_same m.publish_sent a _ (p.publish o))
       (who_same m.undone a _ (ap (λ b. m.undone a || b) p.undo ∙ or-false (m.undone a)))
 
-  -- it is enough to see to its effect, where it teaches nothing of uploads
+  -- It is enough to show it for the effect, if the request teaches nothing about uploads.
   quiet_keeps : (r : Request) → IsPlain w s.scene a (known m a) r → ((o : Outcome) → (learn w a (known m a) r o).drawn ≡ m.drawn a)
       → Facts w minimum (apply s.scene r) s.last m → Keeps r
   quiet_keeps r p same acts o honest = attempt_plain w minimum k s m a n r p.publishing o m (plain_told r p o ∙ no_news _ (same o)) f acts
 
-  -- and to what an answer teaches
+  -- It is enough to show it for the effect, and for what an answer teaches.
   plain_keeps : (r : Request) → IsPlain w s.scene a (known m a) r → Facts w minimum (apply s.scene r) s.last m
       → ((x : Reply) → x ≡ answer s.scene r → Facts w minimum (apply s.scene r) s.last
       (learning (learn w a (known m a) r (Answered x)).drawn)) → Keeps r
@@ -124,7 +124,7 @@ module _ (w : Script) (minimum : ℕ) (k : Times) (s : Seen) (m : Told) (a : Who
         publishing = x.publishing w s.scene a.task;
       }) (λ o. ap (λ v. v.drawn) (same o)) (reads_effect s.scene r reads f)
 
-  -- ---- CreateUpload: of a file of which it knows no upload yet
+  -- ---- CreateUpload, for a file of which the attempt knows no upload yet
 
   pub create_keeps : IsLegal w → (g : File) → IsIn g (files w a) → IsOpen (known m a)
       → ((d : Drawn) → IsIn d (m.drawn a) → d.key ≡ file_key w g → ⊥) → Keeps (CreateUpload w.dest.bucket (file_key w g))
@@ -143,7 +143,7 @@ module _ (w : Script) (minimum : ℕ) (k : Times) (s : Seen) (m : Told) (a : Who
       (λ x e. subst (λ y. Facts w minimum (apply s.scene r) s.last (learning (learn w a (known m a) r (Answered y)).drawn))
       (sym (e ∙ answer_is w s.scene f.there.0 f.there.1 r refl)) now)
 
-  -- ---- UploadPart: the next block of the file of an upload that it knows
+  -- ---- UploadPart: the next part of the file of an upload that the attempt knows
 
   pub part_keeps : IsLegal w → (g : File) (x : Drawn) (bytes : List ℕ) → IsIn g (files w a) → IsOpen (known m a) → IsIn x (m.drawn a)
       → x.key ≡ file_key w g → slice_get (file_parts w minimum g) (length x.tags) ≡ Some bytes
@@ -187,7 +187,7 @@ module _ (w : Script) (minimum : ℕ) (k : Times) (s : Seen) (m : Told) (a : Who
       (put_keep j magic p (record { bytes = bytes; header = header }) own (puts w s.scene f.there.0 f.there.1 (key_at w.dest.key w.job p)
       bytes header) of_record (λ t h e. absurd (no_set t e)) (λ t ne. refl) f)
 
-  -- the record of a file whose upload is complete
+  -- The record of a file whose upload is complete.
   pub record_keeps : IsLegal w → IsAttempt w a → is_magic w.committer ≡ true → (g : File) → IsIn g (files w a)
       → (x : IsWritten w minimum (m.drawn a) g) → Keeps (PutObject w.dest.bucket (record_key w a g) (record_text w a g x.drawn) None)
   record_keeps j d magic g mine x = other_put_keeps j magic (RecordPlace a.task a.attempt g.0) (record_text w a g x.drawn) None
@@ -207,7 +207,7 @@ module _ (w : Script) (minimum : ℕ) (k : Times) (s : Seen) (m : Told) (a : Who
 
   -- ---- the magic committer puts its set
 
-  -- it has sent its publishing request
+  -- The attempt has sent its publishing request.
   abbrev has_sent : Told
   has_sent = record m { publish_sent = put_who m.publish_sent a true }
 
@@ -257,7 +257,7 @@ module _ (w : Script) (minimum : ℕ) (k : Times) (s : Seen) (m : Told) (a : Who
       (stage_keep j staging a d (set_text w a (files w a) (known m a)) (record
       { has_put = who_here m.put_sent a true a refl; are = are; text = refl }) (sends_put a f))
 
-  -- ---- and rename it onto the task's set, where it stands
+  -- ---- and rename it onto the task's set, if it exists
 
   module _ (j : IsLegal w) (staging : is_staging w.committer ≡ true) (d : IsAttempt w a) (clean : m.undone a ≡ false) where
     abbrev publishes : Bool → Bool
@@ -284,12 +284,12 @@ module _ (w : Script) (minimum : ℕ) (k : Times) (s : Seen) (m : Told) (a : Who
         (told_is m a _ _ (who_same m.drawn a _ refl) (who_same m.put_sent a _ refl) refl (who_same m.undone a _ (or-false (m.undone a))))
         (sends_publish a clean f) (rename_by (fin.get s.scene.files (temporary_path w a)) refl)
 
-  -- ---- what takes something away, before the attempt has sent its publishing request
+  -- ---- aborts and deletions, before the attempt has sent its publishing request
 
   abbrev takes_back : Told
   takes_back = record m { undone = put_who m.undone a true }
 
-  -- it is enough to see to its effect
+  -- It is enough to show it for the effect.
   undo_keeps : m.publish_sent a ≡ false → (r : Request) → undoes r ≡ true → ((o : Outcome) → learn w a (known m a) r o ≡ known m a)
       → is_publishing w s.scene a.task r ≡ false
       → (Facts w minimum s.scene s.last takes_back → Facts w minimum (apply s.scene r) s.last takes_back) → Keeps r
@@ -300,14 +300,14 @@ module _ (w : Script) (minimum : ℕ) (k : Times) (s : Seen) (m : Told) (a : Who
       (ap (λ b. put_who m.undone a b) (ap (λ b. m.undone a || b) undo ∙ or-true (m.undone a)))) (sends_undo a unsent f)
       (acts (sends_undo a unsent f))
 
-  -- an abort of an upload that it knows
+  -- An abort of an upload that it knows.
   pub abort_keeps : IsLegal w → (x : Drawn) → IsIn x (m.drawn a) → m.publish_sent a ≡ false
       → Keeps (AbortUpload w.dest.bucket x.key x.upload)
   abort_keeps j x known_one unsent =
       undo_keeps unsent (AbortUpload w.dest.bucket x.key x.upload) refl (λ o. refl) refl
       (abort_keep j a x known_one (who_here m.undone a true a refl) (abort_turns w s.scene f.there.0 f.there.1 x.key x.upload))
 
-  -- a batch of its own directory's keys
+  -- A batch of keys of its own directory.
   pub delete_keeps : (keys : List (List ℕ)) → ((q : List ℕ) → IsIn q keys → begins (attempt_prefix w a) q ≡ true) → m.publish_sent a ≡ false
       → Keeps (DeleteObjects w.dest.bucket keys)
   delete_keeps keys own unsent =
@@ -317,7 +317,7 @@ module _ (w : Script) (minimum : ℕ) (k : Times) (s : Seen) (m : Told) (a : Who
       (drops_keep (deletes_drop w s.scene keys f.there) (λ c t lt. set_same w.committer w s.scene (apply s.scene r) t
       (g.keys (key_at w.dest.key w.job (SetPlace t)) (λ b i. false_true (set_apart w a t) (own _ i))) refl))
 
-  -- its temporary file
+  -- A deletion of its temporary file.
   pub remove_keeps : IsLegal w → IsAttempt w a → m.publish_sent a ≡ false → Keeps (ClusterDelete (temporary_path w a))
   remove_keeps j d unsent =
       let r = ClusterDelete (temporary_path w a) in

@@ -1,4 +1,4 @@
--- The driver's set-up leaves nothing in the job's magic directory, and changes nothing else but the marker of a committed job.
+-- The driver's set-up leaves nothing in the job's magic directory, and changes nothing else but the success marker.
 use Rattle.basics.proofs.Members.{false_true, none_or_some, none_some, some_is, text_left, text_other, true_or_false}
 use Rattle.basics.specs.Members.{IsIn}
 use Rattle.basics.specs.Order.{text_cmp}
@@ -54,7 +54,7 @@ use Rattle.store_frame.specs.Held.{HasBucket}
 use Rattle.std.specs.FinMap as fin
 use Rattle.job_model.specs.declared.ends.SetupEnd.TheVariants as ends
 
--- ---- as its requests are answered
+-- ---- after its requests are answered
 
 module _ (w : Script) (c : Content) (there : HasBucket c w.dest.bucket) where
   sets_cleared : (k : Committer) → w.committer ≡ k → SetsUp w c (cleared k)
@@ -122,9 +122,9 @@ module _ (w : Script) (s : Scene) where
     setup_goes op h r e o honest = step_asked (λ q v. SetsUp w (effect s q v).content) retries (setup_after w) (at op) (answer s) r e o
         honest (heard op h) (λ none. still op h o) (λ z. absurd cc)
 
--- ---- and changes nothing else
+-- ---- it changes nothing else
 
--- a file that a reader is shown is not the marker of a committed job
+-- A visible file is not the success marker.
 pub no_success : {w : Script} → IsLegal w → (p : List ℕ) → is_file_path p ≡ true → below w.dest.key p ≡ success_key w.dest.key → ⊥
 no_success {w = w} j p h e =
     let same : 47 ∷ p ≡ codes "/_SUCCESS" = append_cancel_left w.dest.key (47 ∷ p) (codes "/_SUCCESS")
@@ -184,7 +184,7 @@ module _ (w : Script) (j : IsLegal w) (s : Scene) where
   setup_alone (SetupOver end) h r e o = absurd cc
   setup_alone _ h r e o = subst (ClearsAlone w s) (sym (reads_same s r o (ap only_reads (sym (some_is e))))) (alone_same w s)
 
--- ---- among strangers, and as it ends
+-- ---- among strangers, and at its end
 
 setup_same : (w : Script) (c d : Content) → (HasBucket c w.dest.bucket → HasBucket d w.dest.bucket)
     → (HasBucket c w.dest.bucket → (k : List ℕ) → begins (magic_prefix w.dest.key w.job) k ≡ true → at_key w d k ≡ at_key w c k)
@@ -218,7 +218,7 @@ pub setup_no_file : (w : Script) → IsLegal w → (s : Scene) (t : Setup) → S
     → (o : Outcome) → NoClusterFile w s → NoClusterFile w (effect s r o)
 setup_no_file w j s t h r e o none p bytes y = none p bytes (ap (λ f. fin.get f p) (sym (setup_alone w j s t h r e o).files) ∙ y)
 
--- a file stays where a request does not name its path, also where no bucket stands
+-- A file stays if a request does not name its path, also if there is no bucket.
 renamed_left : (m : Files) (source target : List ℕ) (o : Option (List ℕ)) (p : List ℕ) → (IsIn p (source ∷ target ∷ []) → ⊥)
     → fin.get (renamed m source target o) p ≡ fin.get m p
 renamed_left m source target None p free = refl
@@ -228,7 +228,7 @@ renamed_left m source target (Some bytes) p free = text_other (fin.remove m sour
 files_left : (s : Scene) (r : Request) (p : List ℕ) → (IsIn p (changed_paths r) → ⊥) → fin.get (apply s r).files p ≡ fin.get s.files p
 files_left s r p h = grind (arith, text_other, renamed_left, text_left)
 
--- a path of the job is none that a stranger changes
+-- A stranger changes no path of the job.
 pub strange_no_file : (w : Script) (drawn : Who → List Drawn) (s : Scene) (r : Request) → IsForeign w drawn r → (o : Outcome)
     → NoClusterFile w s → NoClusterFile w (effect s r o)
 strange_no_file w drawn s r f o h = effect_so (NoClusterFile w) s r o h (λ p bytes y. elim

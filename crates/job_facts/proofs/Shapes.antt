@@ -1,4 +1,4 @@
--- What each request leaves of a store and of the cluster's files, told at keys, ids and paths.
+-- What each request leaves of a store and of the cluster's files, by keys, ids and paths.
 use Rattle.basics.proofs.Members.{in_append, in_back, in_front, nat_gone, nat_here, nat_left, nat_other, text_here, text_other}
 use Rattle.basics.specs.Members.{IsIn, last_from}
 use Rattle.basics.specs.Order.{text_cmp, text_eq}
@@ -45,7 +45,7 @@ abort_others : (key : List ℕ) (id : ℕ) (m : Uploads) (o : Option Upload) (u 
 abort_others key id m None u ne = refl
 abort_others key id m (Some v) u ne = nat_left m id u ne
 
--- the scene with this store
+-- The scene with this store.
 abbrev pub with_store : Scene → Content → Scene
 with_store s c = record { content = c; files = s.files }
 
@@ -66,7 +66,7 @@ module _ (w : Script) (s : Scene) (b : BucketContent) (there : fin.get s.content
     pub id_after : (id : ℕ) → at_id w (with_bucket s.content w.dest.bucket d next) id ≡ fin.get d.uploads id
     id_after id = ap (λ o. upload_in o id) bucket_after
 
-  -- what a request to the bucket leaves of the store
+  -- What a request to the bucket leaves of the store.
   pub store_is : (r : Request) → apply_at (fin.get s.content.buckets w.dest.bucket) s.content r ≡ apply_at (Some b) s.content r
   store_is r = ap (λ o. apply_at o s.content r) there
 
@@ -106,7 +106,7 @@ module _ (w : Script) (s : Scene) (b : BucketContent) (there : fin.get s.content
 
   -- ---- an upload's part, and its end
 
-  -- the uploads change at one id
+  -- Only the upload at one id changes.
   turns_in : (uploads : Uploads) (id : ℕ) (x : Option Upload) → fin.get uploads id ≡ x
       → ((u : ℕ) → (u ≡ id → ⊥) → fin.get uploads u ≡ fin.get b.uploads u)
       → Turns w s (with_store s (with_bucket s.content w.dest.bucket (with_uploads b uploads) s.content.next)) id x
@@ -146,9 +146,9 @@ module _ (w : Script) (s : Scene) (b : BucketContent) (there : fin.get s.content
       s.content.minimum r
   answer_is r e = ap (λ o. answer_at o s.content.next s.content.minimum r) (ap (fin.get s.content.buckets) e ∙ there)
 
--- ---- a page of the keys below a prefix: what it adds to those that were listed before
+-- ---- a page of the keys below a prefix: the keys that it adds to those that were listed before
 
--- the last of the keys, from the empty text on
+-- The last of the keys, starting from the empty text.
 pub last_so : (keys : List (List ℕ)) → last_of keys ≡ last_from [] keys
 last_so [] = refl
 last_so (k ∷ keys) = behind k keys
@@ -161,7 +161,7 @@ module _ (w : Script) (s : Scene) (there : HasBucket s.content w.dest.bucket) (p
   abbrev pub rest : List PageEntry
   rest = listed p false (last_of keys) there.0.objects
 
-  -- the keys with those of the page
+  -- The keys with those of the page.
   abbrev pub more_keys : List (List ℕ)
   more_keys = keys ++ keys_on (take 1000 rest)
 
@@ -169,7 +169,7 @@ module _ (w : Script) (s : Scene) (there : HasBucket s.content w.dest.bucket) (p
       → walked keys x ≡ walked_by (nat_lt 1000 (length rest)) more_keys
   page_is x e = ap (walked keys) (e ∙ answer_is w s there.0 there.1 (page_after w.dest.bucket p keys) refl)
 
-  -- what holds of the keys before and of those below the prefix holds of all of them
+  -- What holds of the earlier keys and of all keys below the prefix holds of all of them.
   pub page_each : (Q : List ℕ → Type 0) → ((k : List ℕ) → begins p k ≡ true → Q k) → ((k : List ℕ) → IsIn k keys → Q k) → (k : List ℕ)
       → IsIn k more_keys → Q k
   page_each Q below old k i = elim (in_append k keys (keys_on (take 1000 rest)) i) [
@@ -177,12 +177,12 @@ module _ (w : Script) (s : Scene) (there : HasBucket s.content w.dest.bucket) (p
     | inr h ↦ below k (page_begins 1000 p (last_of keys) k there.0.objects h).0
   ]
 
-  -- a key that stands below the prefix, and was listed or comes behind what was
+  -- A key below the prefix that exists, and was listed or comes after the listed ones,
   module _ (k : List ℕ) (x : Object) (e : at_key w s.content k ≡ Some x) (h : begins p k ≡ true) where
     here : fin.get there.0.objects k ≡ Some x
     here = sym (key_before w s there.0 there.1 k) ∙ e
 
-    -- is listed then, or comes behind what is
+    -- is listed then, or comes after those that are,
     pub still_covered : IsIn k keys ⊎ (is_lt (text_cmp (last_of keys) k) ≡ true) → IsIn k more_keys
         ⊎ (is_lt (text_cmp (last_of more_keys) k) ≡ true)
     still_covered (inl i) = inl (in_front k keys (keys_on (take 1000 rest)) i)
@@ -195,7 +195,7 @@ module _ (w : Script) (s : Scene) (there : HasBucket s.content w.dest.bucket) (p
           inr (ap (λ t. is_lt (text_cmp t k)) last ∙ g)
     ]
 
-    -- and is listed, where no more remain
+    -- and is listed, if no more remain.
     pub all_covered : nat_lt 1000 (length rest) ≡ false → IsIn k keys ⊎ (is_lt (text_cmp (last_of keys) k) ≡ true) → IsIn k more_keys
     all_covered few (inl i) = in_front k keys (keys_on (take 1000 rest)) i
     all_covered few (inr l) = in_back k keys (keys_on (take 1000 rest)) (page_all 1000 p (last_of keys) k there.0.objects x few here h l)

@@ -1,4 +1,4 @@
--- The requests of a check before the commit, and of an abort or clean that spares what is another job's.
+-- The requests of a check before the commit, and of an abort or clean at a shared destination.
 use Rattle.basics.specs.Members.{IsIn}
 use Rattle.job_facts.proofs.Driving.{clearing_hides, reads}
 use Rattle.job_facts.proofs.Emptying.{reads_same}
@@ -30,7 +30,7 @@ use Rattle.std.proofs.Common.{List, Some, arith, false, inl, inr, true, ℕ, ◌
 use Rattle.store_frame.specs.Frame.{changed_paths}
 use Rattle.job_protocol.specs.Sparing as sparing
 
--- ---- a request of the driver that neither ends an upload, reads a set nor puts the marker
+-- ---- a request of the driver that neither ends an upload, nor reads a set, nor puts the marker
 
 pub record Plain (w : Script) (y : Request) : Type 0 where
   pub ends_none : (u : ℕ) → ends y u ≡ false
@@ -44,7 +44,7 @@ module _ (w : Script) where
   pub check_plain : (t : Check) (r : Request) → check_asks w t ≡ Some r → Plain w r
   check_plain t r h = grind arith
 
--- a read leaves all as it is
+-- A read leaves all as it is.
 pub reads_leave : (s : Scene) (r : Request) → only_reads r ≡ true → (o : Outcome) → effect s r o ≡ s
 reads_leave s r h o = reads_same s r o h
 
@@ -69,7 +69,7 @@ module _ (g : Setting) (j : IsLegal g.script) where
       → sparing_asks v c ≡ Some r → (n : ℕ) (o : Outcome) → IsZeroRename v (driver_entry n r o) s.scene.content (effect s.scene r o).content
   sparing_changes s m h c fits r e n o = clearing_changes j s m h r (sparing_asked v m.drawn c r e) (aborts_below j h c fits) fits n o
 
--- ---- what a sparing clean knows stays known
+-- ---- what such an abort or clean knows stays known
 
 pub sparing_still : (w : Script) (m : Told) (a : Who) (r : Request) (o : Outcome) (c : Sparing) → FitsSparing w m.drawn c
     → FitsSparing w (tell_attempt w m a r o).drawn c

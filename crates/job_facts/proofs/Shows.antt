@@ -1,4 +1,4 @@
--- What is changed below the magic directory alone, no reader of the destination sees.
+-- Readers of the destination do not see what is changed only below the magic directory.
 use Rattle.basics.proofs.Members.{false_true, true_or_false}
 use Rattle.basics.specs.Members.{IsIn}
 use Rattle.job_facts.proofs.Going.{effect_so}
@@ -31,7 +31,7 @@ begins_front [] b q h = refl
 begins_front (x ∷ a) b [] h = absurd (false≢true h)
 begins_front (x ∷ a) b (y ∷ q) h = let p = and_parts (nat_eq x y) (begins (a ++ b) q) h in rw (p.0, begins_front a b q p.1) refl
 
--- a file's path is not below the magic directory
+-- A file's path is not below the magic directory.
 pub shown_key : {w : Script} → IsLegal w → (p : List ℕ) → is_file_path p ≡ true
     → begins (magic_prefix w.dest.key w.job) (below w.dest.key p) ≡ false
 shown_key {w = w} j p h = elim (true_or_false (begins (magic_prefix w.dest.key w.job) (below w.dest.key p))) [
@@ -54,7 +54,7 @@ view_by w c d same p = by (is_file_path p) refl
         (option_map (λ (o : Object). o.bytes) (at_key w c (below w.dest.key p))) None
     by b h = grind arith
 
--- a request that changes no key of the job's bucket but below the magic directory
+-- In the job's bucket the request changes only keys below the magic directory.
 abbrev pub HidesAll : Script → Request → Type 0
 HidesAll w r = bucket_of r ≡ w.dest.bucket → (k : List ℕ) → IsIn k (changed_keys r) → begins (magic_prefix w.dest.key w.job) k ≡ true
 

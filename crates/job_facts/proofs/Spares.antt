@@ -1,4 +1,4 @@
--- A sparing abort or clean keeps the job's facts with each of its requests, and aborts only uploads that the job knows.
+-- An abort or clean at a shared destination keeps the job's facts with each of its requests, and aborts only uploads that the job knows.
 use Rattle.basics.proofs.Members.{false_true, in_append, in_filter, in_map, none_or_some, same_or_other, some_is}
 use Rattle.basics.specs.Members.{IsIn}
 use Rattle.job_facts.proofs.Aborting.{dropped_in, taken_in}
@@ -56,7 +56,7 @@ use Rattle.store_frame.specs.Held.{HasBucket}
 use Rattle.std.specs.FinMap as fin
 use Rattle.pending_json.specs.Reading as reading
 
--- ---- what stands below the job's directory in the cluster
+-- ---- the files below the job's directory in the cluster
 
 pub in_or_not : (p : List ℕ) (l : List (List ℕ)) → IsIn p l ⊎ (IsIn p l → ⊥)
 in_or_not p [] = inr (λ i. i)
@@ -65,7 +65,7 @@ in_or_not p (q ∷ l) = elim (same_or_other p q) [
   | inr ne ↦ elim (in_or_not p l) [ inl i ↦ inl (inr i) | inr out ↦ inr (λ i. elim i [ inl is ↦ ne is | inr more ↦ out more ]) ]
 ]
 
--- where what a request changes there is such a path, it stays so
+-- If a request changes only such paths there, all files there still have such paths.
 pub filed_keeps : (w : Script) (s : Scene) → HasBucket s.content w.dest.bucket → (r : Request) (o : Outcome)
     → ((p : List ℕ) → IsIn p (changed_paths r) → begins (cluster_prefix w.job) p ≡ true → IsOwnPath w p) → Filed w s
     → Filed w (effect s r o)
@@ -74,9 +74,9 @@ filed_keeps w s there r o own h = effect_so (Filed w) s r o h (λ z p bytes b e.
   | inr out ↦ h z p bytes b (sym ((frame s w.dest.bucket r there).files p out) ∙ e)
 ])
 
--- ---- the facts are kept
+-- ---- it keeps the facts
 
--- where it has begun to clean up
+-- The driver has begun to clean up.
 abbrev cleaned_so : Bool → Told → Told
 cleaned_so b m = record m { cleaned = b }
 
@@ -90,7 +90,7 @@ pub record_reads : {w : Script} {minimum : ℕ} (j : IsLegal w) (s : Seen) (m : 
     → only_reads (record_request c w p) ≡ true
 record_reads {w = w} j s m h c p = record_only c w p
 
--- an upload that it aborts is below the destination
+-- An upload that it aborts is below the destination.
 abbrev pub AbortsBelow : Script → Sparing → Type 0
 AbortsBelow w (Aborting u us all) = begins (dest_prefix w) u.key ≡ true
 AbortsBelow w _ = Unit {0}
@@ -101,7 +101,7 @@ aborts_below {w = w} j h (Aborting u us all) f = let x = f.0 u (inl refl) in let
     (sym x.4 ∙ own.key) ∙ dest_below j own.file.0
 aborts_below j h _ f = tt
 
--- what it sends
+-- What it sends.
 pub sparing_asked : (w : Script) (drawn : Who → List Drawn) (c : Sparing) (r : Request) → sparing_asks w c ≡ Some r
     → IsClearing w true (AbortsBelow w c) (FitsSparing w drawn c) r
 sparing_asked w drawn (Reading named p ps all) r e = reads r (ap only_reads (sym (some_is e)) ∙ record_only w.committer w p)
@@ -113,7 +113,7 @@ sparing_asked w drawn (SparingOver end) r e = absurd cc
 sparing_asked w drawn _ r e = reads r (ap only_reads (sym (some_is e)))
 
 module _ {w : Script} {minimum : ℕ} (j : IsLegal w) (s : Seen) (m : Told) (h : Hold w minimum s m) where
-  -- the facts are kept, with an entry of its event or of a later one
+  -- It keeps the facts, with an entry of its event or of a later one.
   pub sparing_keeps : (n : ℕ) → is_begun m.cleans_at n ≡ true → (c : Sparing) → (r : Request) → sparing_asks w c ≡ Some r → (o : Outcome)
       → Facts w minimum (effect s.scene r o) s.last (at_event n (tell_driver m r o))
   sparing_keeps n timely c r e o = subst (Facts w minimum (effect s.scene r o) s.last) (sym same)
@@ -145,7 +145,7 @@ module _ {w : Script} {minimum : ℕ} {s : Scene} {last : ℕ → Option ℕ} {m
     | inr none ↦ absurd none
   ]
 
-  -- an upload that the set of an attempt names is that of one of its files
+  -- An upload that the set of an attempt names is that of one of its files.
   pub set_file : (a : Who) (cs : List File) → AreCommits w minimum (m.drawn a) a cs → (bytes : List ℕ)
       → reading.set_of bytes ≡ Ok (files_set w a cs (knowing (m.drawn a))) → (u : UploadRef) → IsIn u (set_names (reading.set_of bytes))
       → (g : File) × IsIn g (files w a) × (x : IsWritten w minimum (m.drawn a) g) × (u ≡ ref_of (file_record w a g x.drawn))
@@ -164,7 +164,7 @@ module _ {w : Script} {minimum : ℕ} {s : Scene} {last : ℕ → Option ℕ} {m
       → reading.set_of bytes ≡ Ok (files_set w a cs (knowing (m.drawn a))) → Known (set_names (reading.set_of bytes))
   set_known a cs are bytes e u i = let x = set_file a cs are bytes e u i in one_known a x.0 x.2 u (inl x.3)
 
-  -- of a place that is a record's
+  -- The place of a record.
   record_known : is_magic w.committer ≡ true → (p : List ℕ) → is_record p ≡ true → (q : Place) → IsOwnPlace w q
       → p ≡ key_at w.dest.key w.job q → (x : Object) → at_key w s.content p ≡ Some x → Known (record_names (reading.pending_of x.bytes))
   record_known magic p h (FilePlace v) own e x there = absurd own
@@ -190,7 +190,7 @@ module _ {w : Script} {minimum : ℕ} {s : Scene} {last : ℕ → Option ℕ} {m
             x.0 x.1)
       ])
 
-  -- of a file of the job in the cluster
+  -- The place of a file of the job in the cluster.
   path_known : is_staging w.committer ≡ true → Filed w s → (p : List ℕ) → begins (cluster_prefix w.job) p ≡ true
       → Known (names (answer s (ClusterGet p)))
   path_known staging filed p b = elim (none_or_some (fin.get s.files p)) [
@@ -206,7 +206,7 @@ module _ {w : Script} {minimum : ℕ} {s : Scene} {last : ℕ → Option ℕ} {m
     ])
   ]
 
--- ---- how it goes on
+-- ---- its state afterwards
 
 module _ (w : Script) (drawn : Who → List Drawn) where
   abbrev Fit : Sparing → Type 0

@@ -1,4 +1,4 @@
--- How the facts of a staging job are kept where a file of the cluster is put, moved onto a task's set, or taken away.
+-- How the facts of a staging job are kept when a file of the cluster is put, moved onto a task's set, or deleted.
 use Rattle.basics.proofs.Members.{none_some, same_or_not, same_or_other, some_is, text_gone, text_here, text_left, text_other}
 use Rattle.job_facts.proofs.Keep.{Drops, facts_so}
 use Rattle.job_facts.proofs.Legal.{small_task}
@@ -99,7 +99,7 @@ module _ {w : Script} (j : IsLegal w) (staging : is_staging w.committer ≡ true
       ])
       (λ g b x e h. f.temporaries g b x e (moved_stood b x e h)) f.kept
     where
-      -- a temporary file that stands afterwards stood before
+      -- A temporary file that exists after the move existed before.
       moved_stood : (b : Who) (x : List ℕ) → IsAttempt w b
           → fin.get (moved s.files bytes) (path_at w.job (TemporaryPlace b.task b.attempt)) ≡ Some x
           → at_path w s (TemporaryPlace b.task b.attempt) ≡ Some x
@@ -110,7 +110,7 @@ module _ {w : Script} (j : IsLegal w) (staging : is_staging w.committer ≡ true
             | inr ne ↦ sym (moved_other s.files bytes _ ne no_target) ∙ h
           ]
 
--- ---- a file is taken away
+-- ---- a file is deleted
 
 pub removed_stood : (m : Files) (p q b : List ℕ) → fin.get (fin.remove m p) q ≡ Some b → fin.get m q ≡ Some b
 removed_stood m p q b h = grind (arith, same_or_other, text_gone, text_left)

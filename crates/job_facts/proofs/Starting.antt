@@ -1,4 +1,4 @@
--- The facts begin where the set-up is done; and what only reads keeps them, whoever sends it.
+-- The facts begin when the set-up is done; and a request that only reads keeps them, whoever sends it.
 use Rattle.basics.proofs.Members.{none_some}
 use Rattle.job_facts.proofs.Driving.{driving_keeps, reads_drive}
 use Rattle.job_facts.proofs.Foreign.{reads_effect}
@@ -26,7 +26,7 @@ use Rattle.s3_types.specs.declared.request.Committer.{Committer}
 use Rattle.std.proofs.Common.{List, None, Option, Some, arith, refl, true, ℕ, ◌<◌, ◌≡◌}
 use Rattle.store_frame.specs.Held.{HasBucket}
 
--- where nothing of the job's own stands, no set does
+-- If nothing of the job's own exists, no set does.
 no_set : (c : Committer) (w : Script) (s : Scene) (t : ℕ) (b : List ℕ) → (is_magic c ≡ true → at_place w s.content (SetPlace t) ≡ None)
     → (is_staging c ≡ true → at_path w s (StagedSetPlace t) ≡ None) → set_at c w s t ≡ Some b → ⊥
 no_set c w s t b h g e = grind arith
@@ -49,7 +49,7 @@ facts_begin w minimum s last j there least fresh bare none v = record {
   kept = λ a e. refl;
 }
 
--- ---- what only reads
+-- ---- requests that only read
 
 pub idle_keeps : (w : Script) (minimum : ℕ) (k : Times) (s : Seen) (m : Told) (e : Entry) → IsLegal w → only_reads e.request ≡ true
     → IsHonestOutcome e.outcome (answer s.scene e.request) → Hold w minimum s m → Hold w minimum (see w k s e) (tell w m e)

@@ -1,4 +1,4 @@
--- Of the keys below a job's magic directory exactly those of records end as records do.
+-- Of the keys below a job's magic directory, exactly those of records end as records do.
 use Rattle.basics.proofs.Members.{false_true, text_is}
 use Rattle.basics.specs.Order.{text_eq, text_equiv}
 use Rattle.magic_paths.proofs.Tails.{below_is}
@@ -14,7 +14,7 @@ use Rattle.std.specs.Fmt.{decimal}
 abbrev ending : List ℕ
 ending = codes ".pending"
 
--- what ends so is something before it, and it
+-- A key with this ending is some text followed by the ending.
 record_ends : (k : List ℕ) → is_record k ≡ true → (q : List ℕ) × (k ≡ q ++ ending)
 record_ends k h = let n = length k - length ending in (
   take n k,
@@ -27,7 +27,7 @@ ends_record p r e =
     let long : length (r ++ ending) ≡ length r + length ending = length-append r ending in
     ap is_record e ∙ ap (text_eq ending) (drop_at r ending (length (r ++ ending) - length ending) (omega arith)) ∙ text_equiv.refl ending
 
--- ---- a slash in what two ends share
+-- ---- a slash in what two endings share
 
 tails : {x y : ℕ} {xs ys : List ℕ} → x ∷ xs ≡ y ∷ ys → xs ≡ ys
 tails e = cc
@@ -46,7 +46,7 @@ slash_in : (r p : List ℕ) → has_slash (r ++ 47 ∷ p) ≡ true
 slash_in [] p = refl
 slash_in (x ∷ r) p = ap (λ b. nat_eq 47 x || b) (slash_in r p) ∙ or-true (nat_eq 47 x)
 
--- a path below a directory ends so only where it does itself
+-- A path below a directory has this ending only if it has it by itself.
 pub below_record : (a p : List ℕ) → is_record p ≡ false → is_record (a ++ 47 ∷ p) ≡ true → ⊥
 below_record a p h g =
     let x = record_ends (a ++ 47 ∷ p) g in

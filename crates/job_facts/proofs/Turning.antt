@@ -1,4 +1,5 @@
--- While the driver's commit completes: the uploads of its sets are apart, and an upload that is ended is done or had a sending lost.
+-- While the driver's commit completes, the uploads of its sets are all different, and an upload that is ended is done or a send of it was
+-- lost.
 use Rattle.basics.proofs.Members.{eq_nat, false_true, in_front, in_last, nat_true, some_is, true_or_false}
 use Rattle.basics.specs.Members.{IsIn}
 use Rattle.job_facts.proofs.Foreign.{reads_name, set_reads}
@@ -38,7 +39,7 @@ module _ (w : Script) (minimum : ℕ) (s : Seen) (m : Told) (j : IsLegal w) (f :
       → n < length (all_commits sets) → (nth (all_commits sets) i).upload ≡ (nth (all_commits sets) n).upload → i ≡ n
   uploads_apart sets reads = uploads_uniq j f sets reads
 
-  -- a completion of which no sending was lost
+  -- A completion of which no send was lost.
   pub turn_answered : (sets : Sets) (x : Turn) (xs : List Turn) (finished : List ℕ) → Reads w minimum m.publish_sent m.drawn sets
       → Tabled w (Completing sets x xs finished) → Turns m (Completing sets x xs finished) → x.lost ≡ false
       → let p = nth (all_commits sets) x.number in answer s.scene (completion p) ≡ Completed
@@ -80,7 +81,7 @@ module _ (w : Script) (m : Told) (none : NoneEnded m) where
   pub turns_start : (missing : Option ℕ) → Turns m (commit_start w missing)
   turns_start missing = grind arith
 
--- what ends nothing
+-- A request that ends nothing.
 pub still_none : (m : Told) (r : Request) (o : Outcome) → ((id : ℕ) → ends r id ≡ false) → NoneEnded m → NoneEnded (tell_driver m r o)
 still_none m r o no_end h id = ap (λ b. b || (is_effective o && ends r id)) (h id) ∙ ap (λ b. is_effective o && b) (no_end id) ∙ and-false
     (is_effective o)
@@ -89,7 +90,7 @@ pub sweep_none : (w : Script) (p : List ℕ) (s : Sweep) (id : ℕ) → ends (sw
 sweep_none w p s id = grind arith
 
 module _ (w : Script) (minimum : ℕ) (s : Seen) (m : Told) (j : IsLegal w) (f : Hold w minimum s m) where
-  -- a completion of the turn's upload
+  -- A completion of the turn's upload.
   module _ (sets : Sets) (x : Turn) (xs : List Turn) (finished : List ℕ) (reads : Reads w minimum m.publish_sent m.drawn sets)
       (t : Tabled w (Completing sets x xs finished)) (turns : Turns m (Completing sets x xs finished)) where
     abbrev r : Request
@@ -98,7 +99,7 @@ module _ (w : Script) (minimum : ℕ) (s : Seen) (m : Told) (j : IsLegal w) (f :
     abbrev told : Outcome → Told
     told o = tell_driver m r o
 
-    -- what is ended then was ended before, or it is this one
+    -- What is ended then was ended before, or it is this one.
     ended_by : (o : Outcome) (n : ℕ) → n < length (all_commits sets) → (told o).ended (nth (all_commits sets) n).upload ≡ true
         → (m.ended (nth (all_commits sets) n).upload ≡ true) ⊎ ((is_effective o ≡ true) × (x.number ≡ n))
     ended_by o n low e = elim (true_or_false (m.ended (nth (all_commits sets) n).upload)) [

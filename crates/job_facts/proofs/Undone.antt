@@ -1,4 +1,4 @@
--- What deletions leave: what stands stood before, and no upload changes.
+-- What deletions leave: all that exists existed before, and no upload changes.
 use Rattle.basics.proofs.Members.{none_some}
 use Rattle.basics.specs.Order.{text_cmp, text_total}
 use Rattle.job_facts.proofs.Keep.{Drops}
@@ -45,7 +45,7 @@ deletes_drop w s keys there =
       files = λ p b e. e;
     })
 
--- a task's set is in no attempt's directory
+-- A task's set is in no attempt's directory.
 pub set_apart : (w : Script) (a : Who) (t : ℕ) → begins (attempt_prefix w a) (key_at w.dest.key w.job (SetPlace t)) ≡ false
 set_apart w a t =
     let rest = decimal a.task ++ (codes "_" ++ (decimal a.attempt ++ codes "/__base")) in

@@ -1,4 +1,4 @@
--- How a file's upload goes on, of any committer: what it asks keeps the facts, and it comes as far as it says.
+-- How a file's upload goes on, with any committer: what it asks keeps the facts, and its state fits afterwards.
 use Rattle.basics.proofs.Members.{in_map, map_in}
 use Rattle.basics.specs.Members.{IsIn}
 use Rattle.job_facts.proofs.Cut.{parts_few}
@@ -35,10 +35,10 @@ use Rattle.std.proofs.Common.{List, Option, Some, ap, arith, drop, inl, inr, len
 use Rattle.std.proofs.Common.{true, zero, ℕ, [], ◌++◌, ◌+◌, ◌-◌, ◌<◌, ◌∙◌, ◌∷◌, ◌≡◌, ◌≤◌, ◌⊎◌}
 use Rattle.std.proofs.lemmas.Bool.Decides.{nat_tests}
 
--- ---- what is begun, and what is written
+-- ---- uploads that are begun, and files that are written
 
 module _ (w : Script) (minimum : ℕ) (a : Who) where
-  -- what is begun with no part left is written
+  -- A file whose upload has no part left to send is written.
   pub all_sent : (ds : List Drawn) (f : File) (fs : List File) → (b : Begun w minimum a ds f fs [])
       → length b.latest.tags ≡ length (file_parts w minimum f)
   all_sent ds f fs b =
@@ -68,7 +68,7 @@ module _ (w : Script) (minimum : ℕ) (a : Who) where
   pub todo_none : (ds : List Drawn) → Todo w minimum a ds [] → AllWritten w minimum a ds
   todo_none ds t f i = elim (t.others f i) [ inl h ↦ absurd h | inr h ↦ h ]
 
-  -- all its files in the script's order, which are written
+  -- All its files in the script's order, which are written.
   pub all_commits : IsLegal w → (ds : List Drawn) → AllWritten w minimum a ds → AreCommits w minimum ds a (files w a)
   all_commits j ds h = record { each = λ f i. i; all = λ f i. i; once = files_apart j a; written = h }
 
@@ -83,7 +83,7 @@ module _ (w : Script) (minimum : ℕ) (a : Who) where
       → FitsUploaded k f fs (sending ps)
   fits_sending k f fs ps h = grind arith
 
-  -- an upload was begun
+  -- An upload was begun.
   begun_now : IsLegal w → (k : Known) (f : File) (fs : List File) → Todo w minimum a k.drawn (f ∷ fs) → (id : ℕ)
       → Begun w minimum a (new_drawn (file_key w f) id ∷ k.drawn) f fs (file_parts w minimum f)
   begun_now j k f fs t id = record {
@@ -158,7 +158,7 @@ module _ (w : Script) (minimum : ℕ) (a : Who) where
           (part_other b.latest.upload tag (length p) h.drawn other) (map_in (with_part b.latest.upload tag (length p)) h.drawn
           (m.drawn a) h.known)
 
-  -- ---- what is asked, by the upload that was drawn last
+  -- ---- what it asks, by the upload that was drawn last
 
   pub asks_part : {ds : List Drawn} {f : File} {fs : List File} {p : List ℕ} {ps : List (List ℕ)} → (b : Begun w minimum a ds f fs (p ∷ ps))
       → UploadPart w.dest.bucket (file_key w f) (first_drawn ds).upload (length (first_drawn ds).tags + 1) p ≡ UploadPart w.dest.bucket
@@ -166,12 +166,12 @@ module _ (w : Script) (minimum : ℕ) (a : Who) where
   asks_part {f = f} {p = p} b = ap (λ (d : Drawn). UploadPart w.dest.bucket (file_key w f) d.upload (length d.tags + 1) p)
       (ap first_drawn b.is)
 
--- ---- and after an answer it is as far as it says
+-- ---- its state fits after an answer
 
 pub number_fits : (n : ℕ) → n < 10000 → is_part_number (n + 1) ≡ true
 number_fits n h = grind (arith, nat_tests)
 
--- an answer to a part is its tag, or that the upload is not there
+-- The answer to a part is its tag, or that the upload does not exist.
 pub record IsPartAnswer (bytes : List ℕ) (x : Reply) : Type 0 where
   pub either : (x ≡ Part (plain_tag bytes)) ⊎ (x ≡ Refused NoSuchUpload)
 
@@ -218,7 +218,7 @@ module _ (w : Script) (minimum : ℕ) (s : Seen) (m : Told) (a : Who) (j : IsLeg
           | inr gone ↦ subst Q (sym gone) tt
         ]) honest
 
--- its flags stay, and what was not answered teaches nothing
+-- Its flags stay, and a request without an answer teaches nothing.
 pub upload_flags : (w : Script) (a : Who) (k : Known) (f : File) (u : Uploading) (o : Outcome) → IsOpen k
     → IsOpen (learn w a k (upload_asks w k f u) o)
 upload_flags w a k f u o h = grind arith

@@ -1,4 +1,4 @@
--- The files that picks want, by task and attempt.
+-- The files that the picks want, by task and attempt.
 use Rattle.basics.proofs.Members.{false_true, in_append, in_back, in_front, none_or_some, none_some, same_or_not, some_is, text_is}
 use Rattle.basics.proofs.Members.{true_or_false}
 use Rattle.basics.specs.Members.{IsIn}
@@ -76,7 +76,7 @@ module _ (w : Script) (picks : Picks) where
     | inr ne ↦ in_front g (wanted_below w picks n) (files_picked w n (picks n)) (wanted_in n t g (omega arith) i)
   ]
 
-  -- what is wanted at a path is the file of a pick
+  -- What is wanted at a path is the file of a pick.
   pub record IsWanted (q b : List ℕ) : Type 0 where
     pub file : File
     pub from : IsPicked w.tasks file
@@ -95,7 +95,7 @@ module _ (w : Script) (picks : Picks) where
   picked_files : (t n : ℕ) (g : File) → picks t ≡ Some n → IsIn g (files w (attempt t n)) → IsIn g (files_picked w t (picks t))
   picked_files t n g e i = subst (λ o. IsIn g (files_picked w t o)) (sym e) i
 
-  -- and such a file is wanted, where no two picks write one path
+  -- Such a file is wanted, if no two picks write one path.
   pub wanted_here : IsLegal w → same_path w picks ≡ None → (t n : ℕ) → t < w.tasks → picks t ≡ Some n → (g : File)
       → IsIn g (files w (attempt t n)) → wanted_at w picks g.0 ≡ Some g.1
   wanted_here j apart t n low e g i =
@@ -135,7 +135,7 @@ module _ (w : Script) (picks more : Picks) where
     same_mark = ap (λ l. compact_text (success_tree (record { job = w.job; committer = w.committer; files = paths_of l; stamp = w.stamp })))
         same_wanted
 
-    -- where no two of the one write one path, no two of the other do
+    -- If no two picks of the one write one path, no two of the other do.
     pub still_apart : same_path w picks ≡ None → same_path w more ≡ None
     still_apart e = elim (none_or_some (same_path w more)) [
       | inl none ↦ none

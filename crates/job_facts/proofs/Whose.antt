@@ -28,14 +28,14 @@ who_here f a v b e = ap (λ t. cond t v (f b)) (who_true b a e)
 pub who_other : {X : Type 0} (f : Who → X) (a : Who) (v : X) (b : Who) → (b ≡ a → ⊥) → put_who f a v b ≡ f b
 who_other f a v b ne = ap (λ t. cond t v (f b)) (who_false b a ne)
 
--- what was there is put again
+-- Putting the value that was there changes nothing.
 pub who_same : {X : Type 0} (f : Who → X) (a : Who) (v : X) → v ≡ f a → put_who f a v ≡ f
 who_same {X = X} f a v e = λ i b. at b i
   where
     at : (b : Who) → put_who f a v b ≡ f b
     at b = elim (same_or_another b a) [ inl h ↦ who_here f a v b h ∙ e ∙ ap f (sym h) | inr ne ↦ who_other f a v b ne ]
 
--- what is so of one attempt's new value and of the others' old ones is so of all
+-- If a property holds of the new value of one attempt and of the old values of the others, it holds of all.
 pub put_at : {X : Type 0} (P : Who → X → Type 0) (f : Who → Option X) (a : Who) (x : X) → P a x → ((b : Who) (v : X) → f b ≡ Some v → P b v)
     → (b : Who) (v : X) → put_who f a (Some x) b ≡ Some v → P b v
 put_at P f a x h g b v e = grind arith

@@ -1,4 +1,4 @@
--- How far the driver's abort or clean of the job has come with what is to go, while nobody else sends.
+-- What the driver's abort or clean of the job has still to remove, while nobody else sends.
 use Rattle.basics.specs.Members.{IsIn}
 use Rattle.job_facts.specs.Driver.{FitsSweep}
 use Rattle.job_facts.specs.Emptying.{Empties}
@@ -25,24 +25,24 @@ use Rattle.store_frame.specs.Held.{HasBucket}
 use Rattle.std.specs.FinMap as fin
 use Rattle.job_model.specs.declared.ends.CleanEnd.TheVariants as ends
 
--- an upload as a listing has it
+-- An upload as a listing shows it.
 abbrev pub ref_at : ℕ → Upload → UploadRef
 ref_at id u = record { key = u.key; upload = id }
 
--- the live uploads below the destination are among these
+-- Each live upload below the destination is among these.
 abbrev pub LiveIn : Script → Content → List UploadRef → Type 0
 LiveIn w c found = (id : ℕ) (u : Upload) → at_id w c id ≡ Some u → begins (dest_prefix w) u.key ≡ true → IsIn (ref_at id u) found
 
--- the live uploads below the destination are among these, or come behind the last of them
+-- Each live upload below the destination is among these, or a later page lists it.
 abbrev pub LiveOrBehind : Script → Content → List UploadRef → Type 0
 LiveOrBehind w c found = (id : ℕ) (u : Upload) → at_id w c id ≡ Some u → begins (dest_prefix w) u.key ≡ true → IsIn (ref_at id u) found
     ⊎ (is_behind (last_ref None found) (ref_at id u) ≡ true)
 
--- the job's files in the cluster are among these
+-- Each file of the job in the cluster is among these.
 abbrev pub FilesIn : Script → Scene → List (List ℕ) → Type 0
 FilesIn w s paths = (p bytes : List ℕ) → fin.get s.files p ≡ Some bytes → begins (cluster_prefix w.job) p ≡ true → IsIn p paths
 
--- what is left is found, or comes behind what is found; and where it ends Done nothing is left
+-- Each upload and file that is still to go is already found or yet to be found. If the operation ended Done, nothing is left.
 abbrev pub Clears : Script → Scene → Clean → Type 0
 Clears w s (Walking found) = HasBucket s.content w.dest.bucket × LiveOrBehind w s.content found
 Clears w s (Aborting u us) = HasBucket s.content w.dest.bucket × LiveIn w s.content (u ∷ us)
@@ -52,7 +52,7 @@ Clears w s Naming = (is_staging w.committer ≡ true) × NoneLive w s.content
 Clears w s (Removing p ps) = (is_staging w.committer ≡ true) × NoneLive w s.content × FilesIn w s (p ∷ ps)
 Clears w s (CleanOver end) = end ≡ ends.Done → NothingLeft w.committer w s
 
--- an abort or clean of the job, for every committer, from any store that has the bucket
+-- An abort or clean of the job keeps this, for every committer, from any store that has the bucket.
 pub record CleanClears : Type 0 where
   pub begins : (w : Script) (s : Scene) → HasBucket s.content w.dest.bucket → Clears w s clean_start
   pub goes : (w : Script) (s : Scene) (retries : ℕ) (t : Retried Clean) → Clears w s t.operation → (r : Request)

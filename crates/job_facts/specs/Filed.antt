@@ -1,4 +1,4 @@
--- The uploads of the sets that the driver holds, and what stands where their files go while its commit runs.
+-- The uploads of the sets that the driver has read, and what exists at the paths of their files while its commit runs.
 use Rattle.basics.specs.Members.{IsIn}
 use Rattle.job_facts.specs.Facts.{IsWritten}
 use Rattle.job_facts.specs.Stores.{at_id}
@@ -29,7 +29,7 @@ use Rattle.job_model.specs.declared.ends.Stage.TheVariants as stages
 
 -- ---- uploads
 
--- an upload of a set that was read: of a written file of an attempt that has sent its publishing request
+-- An upload of a set that was read: that of a written file of an attempt that has sent its publishing request.
 pub record IsCommit (w : Script) (minimum : ℕ) (sent : Who → Bool) (drawn : Who → List Drawn) (p : Pending) : Type 0 where
   pub by : Who
   pub file : File
@@ -38,35 +38,35 @@ pub record IsCommit (w : Script) (minimum : ℕ) (sent : Who → Bool) (drawn : 
   pub has_sent : sent by ≡ true
   pub is : p ≡ file_record w by file written.drawn
 
--- each upload that the driver has ended is gone, and its id was drawn
+-- Each upload that the driver has ended is gone, and its id was drawn.
 abbrev pub Gone : Script → Content → Told → Type 0
 Gone w c m = (id : ℕ) → m.ended id ≡ true → (id < c.next) × (at_id w c id ≡ None)
 
--- an upload that was found has the key that it was found with as long as it lives
+-- An upload that was found has the key with which it was found, as long as it lives.
 abbrev pub HasItsKey : Script → Content → UploadRef → Type 0
 HasItsKey w c r = (r.upload < c.next) × ((u : Upload) → at_id w c r.upload ≡ Some u → u.key ≡ r.key)
 
--- each upload that was found has the key that it was found with, as long as it lives
+-- Each upload that was found has the key with which it was found, as long as it lives.
 abbrev pub AllHaveKeys : Script → Content → List UploadRef → Type 0
 AllHaveKeys w c found = (r : UploadRef) → IsIn r found → HasItsKey w c r
 
--- what an abort or clean of the job found, and has yet to abort
+-- Each upload that an abort or clean of the job has found and not yet aborted has the key with which it was found.
 abbrev pub FoundWithKeys : Script → Content → Clean → Type 0
 FoundWithKeys w c (Walking found) = AllHaveKeys w c found
 FoundWithKeys w c (Aborting u us) = AllHaveKeys w c (u ∷ us)
 FoundWithKeys w c _ = Unit {0}
 
--- each of these requests aborts such an upload, or deletes its file's key
+-- Each of these requests aborts an upload of a set, or deletes its file's key.
 abbrev pub AreReverts : Script → ℕ → (Who → Bool) → (Who → List Drawn) → List Request → Type 0
 AreReverts w minimum sent drawn rs = (r : Request) → IsIn r rs → (p : Pending) × IsCommit w minimum sent drawn p
     × ((r ≡ abort p) ⊎ (r ≡ deletion p))
 
--- all sets are read, and no two of their attempts write one path
+-- All sets are read, and no two of their attempts write one path.
 pub record AreDecided (w : Script) (sets : Sets) : Type 0 where
   pub all : length sets ≡ w.tasks
   pub apart : same_path w (picks_of sets) ≡ None
 
--- a commit that goes on with its sets has decided so, and a revert names their uploads alone
+-- A commit that goes on with its sets has read all of them, and no two share a path. A revert names only uploads of the sets.
 abbrev pub Decides : Script → ℕ → (Who → Bool) → (Who → List Drawn) → Commit → Type 0
 Decides w minimum sent drawn (Fetching sets n) = length sets < w.tasks
 Decides w minimum sent drawn (Replacing sets p ps s n) = AreDecided w sets
@@ -77,46 +77,46 @@ Decides w minimum sent drawn (CommitOver end) = Unit {0}
 
 -- ---- files
 
--- the object that a completed file is
+-- The object of a completed file.
 abbrev pub whole_of : List ℕ → Object
 whole_of bytes = record { bytes = bytes; header = None }
 
--- what stood there as the commit began, or nothing, which a replace mode and a revert leave
+-- The object is the one that was there as the commit began, or there is none, as a replace mode and a revert leave it.
 abbrev pub IsBefore : Option Object → Option Object → Type 0
 IsBefore first now = (now ≡ first) ⊎ (now ≡ None)
 
--- the request that deletes what stands at a path
+-- The request that deletes the object at a path.
 abbrev pub deletes : Script → List ℕ → Request
 deletes w q = DeleteObject w.dest.bucket (below w.dest.key q)
 
--- these bytes are wanted at the path, where the commit goes on with its sets
+-- These bytes are wanted at the path, if the commit goes on with its sets.
 abbrev pub Wants : Script → List ℕ → List ℕ → Commit → Type 0
 Wants w q b (Replacing sets p ps s n) = wanted_at w (picks_of sets) q ≡ Some b
 Wants w q b (Completing sets x xs finished) = wanted_at w (picks_of sets) q ≡ Some b
 Wants w q b (Marking sets n) = wanted_at w (picks_of sets) q ≡ Some b
 Wants w q b _ = Unit {0}
 
--- how a commit that is over leaves it
+-- What a commit that is over leaves at a path where these bytes are wanted.
 abbrev pub FileLeft : Script → List ℕ → List ℕ → Option Object → List Entry → Option Object → CommitEnd → Type 0
 FileLeft w q b first es now ends.Committed = now ≡ Some (whole_of b)
 FileLeft w q b first es now (ends.StoreFault stages.Success) = now ≡ Some (whole_of b)
--- a file of the job is left only where its deletion wore out
+-- A file of the job is left only if its deletion ran out of retries.
 FileLeft w q b first es now (ends.StoreFault stages.Complete) = IsBefore first now
     ⊎ ((now ≡ Some (whole_of b)) × IsWorn w.retries (deletes w q) es)
 FileLeft w q b first es now (ends.StoreFault stages.Delete) = IsBefore first now
 FileLeft w q b first es now _ = now ≡ first
 
--- What stands now at a path where these bytes are wanted and `first` stood as the commit began, by how far the commit has come,
--- by its entries and by the uploads that the driver has ended.
+-- The object at a path where these bytes are wanted and `first` was as the commit began, by the state of the commit, its entries and the
+-- uploads that the driver has ended.
 abbrev pub FileStands : Script → List ℕ → List ℕ → Option Object → List Entry → Option Object → (ℕ → Bool) → Commit → Type 0
 FileStands w q b first es now ended (Fetching sets n) = now ≡ first
 FileStands w q b first es now ended (Replacing sets p ps s n) = IsBefore first now
--- the whole file, where its upload is ended, and else what was there before
+-- The whole file if its upload is ended, else the old object or none.
 FileStands w q b first es now ended (Completing sets x xs finished) = (p : Pending) → IsIn p (all_commits sets)
     → p.destination ≡ below w.dest.key q → ((ended p.upload ≡ true → now ≡ Some (whole_of b))
     × (ended p.upload ≡ false → IsBefore first now))
 FileStands w q b first es now ended (Marking sets n) = now ≡ Some (whole_of b)
--- a whole file is still to be deleted, or its deletion wore out
+-- A whole file is still to be deleted, or its deletion ran out of retries.
 FileStands w q b first es now ended (Reverting r rs n) = (n ≤ streak r es)
     × (IsBefore first now ⊎ ((now ≡ Some (whole_of b)) × (IsIn (deletes w q) (r ∷ rs) ⊎ IsWorn w.retries (deletes w q) es)))
 FileStands w q b first es now ended (CommitOver end) = FileLeft w q b first es now end

@@ -1,4 +1,4 @@
--- How far an attempt's operation has come, by what the attempt knows and has sent.
+-- The states of an attempt's operations that fit what the attempt knows and has sent.
 use Rattle.basics.specs.Members.{IsIn, RisesFrom}
 use Rattle.job_facts.specs.Facts.{ApartFiles, AreCommits, IsWritten}
 use Rattle.job_facts.specs.Told.{Told, known}
@@ -24,14 +24,14 @@ use Rattle.job_model.specs.declared.ends.TaskEnd.TheVariants as tasks
 use Rattle.job_protocol.specs.Writes as writes
 use Rattle.job_protocol.specs.TaskCommits as commits
 
--- these files are left to upload: no upload of them is known, and all others are written
+-- These files are left to upload: the attempt knows no upload of them, and all its other files are written.
 pub record Todo (w : Script) (minimum : ℕ) (a : Who) (ds : List Drawn) (fs : List File) : Type 0 where
   pub each : (f : File) → IsIn f fs → IsIn f (files w a)
   pub once : ApartFiles fs
   pub unknown : (f : File) → IsIn f fs → (d : Drawn) → IsIn d ds → d.key ≡ file_key w f → ⊥
   pub others : (f : File) → IsIn f (files w a) → IsIn f fs ⊎ IsWritten w minimum ds f
 
--- the upload of this file was drawn last, these parts of it are left, and then these files
+-- The attempt drew the upload of this file last. These parts of it are left to send, and then these files.
 pub record Begun (w : Script) (minimum : ℕ) (a : Who) (ds : List Drawn) (f : File) (fs : List File) (parts : List (List ℕ)) : Type 0 where
   pub latest : Drawn
   pub before : List Drawn
@@ -44,29 +44,29 @@ pub record Begun (w : Script) (minimum : ℕ) (a : Who) (ds : List Drawn) (f : F
   pub unknown : (g : File) → IsIn g fs → (d : Drawn) → IsIn d ds → d.key ≡ file_key w g → ⊥
   pub others : (g : File) → IsIn g (files w a) → IsIn g (f ∷ fs) ⊎ IsWritten w minimum ds g
 
--- the upload of each of the attempt's files is known, with all its parts
+-- The attempt knows the upload of each of its files, with all parts.
 abbrev pub AllWritten : Script → ℕ → Who → List Drawn → Type 0
 AllWritten w minimum a ds = (f : File) → IsIn f (files w a) → IsWritten w minimum ds f
 
--- it has sent neither the put of its temporary file nor its publishing request, and may still learn of uploads
+-- The attempt has sent neither the put of its temporary file nor its publishing request, so it may still learn of uploads.
 abbrev pub IsOpen : Known → Type 0
 IsOpen k = (k.publish_sent ≡ false) × (k.put_sent ≡ false)
 
 -- ---- uploads, of any committer
 
--- how far the upload of a file has come, by what the attempt knows
+-- The state of the upload of a file fits what the attempt knows.
 abbrev pub FitsUpload : Script → ℕ → Who → Known → File → List File → Uploading → Type 0
 FitsUpload w minimum a k f fs Creating = Todo w minimum a k.drawn (f ∷ fs)
 FitsUpload w minimum a k f fs (Sending p ps) = Begun w minimum a k.drawn f fs (p ∷ ps)
 
 -- ---- a write
 
--- what a write that is done has done: of the magic committer all, of the others nothing yet
+-- What a write has done when it is done: with the magic committer it has written all files, with the others nothing yet.
 abbrev pub Wrote : Committer → Script → ℕ → Who → List Drawn → Type 0
 Wrote Magic w minimum a ds = AllWritten w minimum a ds
 Wrote _ w minimum a ds = Todo w minimum a ds (files w a)
 
--- how far a write has come, by what the attempt knows
+-- The state of a write fits what the attempt knows.
 abbrev pub FitsWrite : Script → ℕ → Who → Known → Write → Type 0
 FitsWrite w minimum a k (writes.Uploads f fs u) = (is_magic w.committer ≡ true) × IsOpen k × FitsUpload w minimum a k f fs u
 FitsWrite w minimum a k (Marking f fs) = (is_magic w.committer ≡ true) × IsOpen k × Begun w minimum a k.drawn f fs []
@@ -75,7 +75,7 @@ FitsWrite w minimum a k (WriteOver end) = end ≡ tasks.Done → IsOpen k × Wro
 
 -- ---- a task's commit
 
--- how far a task's commit has come, by what the attempt knows
+-- The state of a task's commit fits what the attempt knows.
 abbrev pub FitsCommit : Script → ℕ → Who → Known → TaskCommit → Type 0
 FitsCommit w minimum a k (Looking keys) = (is_magic w.committer ≡ true) × AllWritten w minimum a k.drawn × RisesFrom [] keys
 FitsCommit w minimum a k (Reading cs f fs) = (is_magic w.committer ≡ true) × AreCommits w minimum k.drawn a cs
@@ -88,26 +88,26 @@ FitsCommit w minimum a k (TaskCommitOver end) = end ≡ tasks.Done → k.publish
 
 -- ---- a task's abort
 
--- keys of the attempt's own directory
+-- All keys are in the attempt's own directory.
 abbrev pub AllOwn : Script → Who → List (List ℕ) → Type 0
 AllOwn w a keys = (q : List ℕ) → IsIn q keys → begins (attempt_prefix w a) q ≡ true
 
--- a sweep of an attempt's directory deletes keys of that alone
+-- A sweep of an attempt's directory deletes only keys in it.
 abbrev pub FitsSweep : Script → Who → Sweep → Type 0
 FitsSweep w a (Listing keys) = AllOwn w a keys
 FitsSweep w a (Deleting q qs) = AllOwn w a (q ∷ qs)
 
--- how far a task's abort has come, by what the attempt knows
+-- The state of a task's abort fits what the attempt knows.
 abbrev pub FitsAbort : Script → Who → Known → TaskAbort → Type 0
 FitsAbort w a k (Dropping d ds sent) = (k.publish_sent ≡ false) × ((e : Drawn) → IsIn e (d ∷ ds) → IsIn e k.drawn)
 FitsAbort w a k (Sweeping s) = (k.publish_sent ≡ false) × FitsSweep w a s
 FitsAbort w a k Removing = k.publish_sent ≡ false
--- it is kept exactly where the attempt has sent its publishing request
+-- It ends Kept exactly if the attempt has sent its publishing request.
 FitsAbort w a k (TaskAbortOver end) = (end ≡ tasks.Kept → k.publish_sent ≡ true) × (k.publish_sent ≡ true → end ≡ tasks.Kept)
 
 -- ---- all operations of an attempt
 
--- how far an attempt's operation has come, by what it knows and has sent
+-- The state of an attempt's operation fits what the attempt knows and has sent.
 abbrev pub Fits : Script → ℕ → Who → Told → Operation → Type 0
 Fits w minimum a m (TheWrite t) = (m.undone a ≡ false) × FitsWrite w minimum a (known m a) t.operation
 Fits w minimum a m (TheTaskCommit t) = (m.undone a ≡ false) × FitsCommit w minimum a (known m a) t.operation

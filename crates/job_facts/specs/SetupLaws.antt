@@ -24,8 +24,8 @@ use Rattle.store_frame.specs.Held.{HasBucket}
 use Rattle.std.specs.FinMap as fin
 use Rattle.job_model.specs.declared.ends.SetupEnd.TheVariants as ends
 
--- of the job's bucket and of the cluster nothing changes from one scene to another but the job's magic directory and the marker of a
--- committed job: no file that a reader is shown, no live upload, no cluster file
+-- From one scene to the other only the job's magic directory and the success marker change. Visible files, live uploads and cluster files
+-- stay.
 pub record ClearsAlone (w : Script) (s t : Scene) : Type 0 where
   pub shows : Same (view w.dest t.content) (view w.dest s.content)
   pub keys : (k : List ℕ) → begins (magic_prefix w.dest.key w.job) k ≡ false → (k ≡ success_key w.dest.key → ⊥)
@@ -33,7 +33,7 @@ pub record ClearsAlone (w : Script) (s t : Scene) : Type 0 where
   pub uploads : (id : ℕ) → at_id w t.content id ≡ at_id w s.content id
   pub files : t.files ≡ s.files
 
--- a set-up, for every committer and conflict mode
+-- What a set-up does, for every committer and conflict mode.
 pub record SetupGoes : Type 0 where
   pub begins : (w : Script) (s : Scene) → SetsUp w s.content setup_start
   pub goes : (w : Script) (s : Scene) (retries : ℕ) (t : Retried Setup) → SetsUp w s.content t.operation → (r : Request)
@@ -41,15 +41,15 @@ pub record SetupGoes : Type 0 where
       → SetsUp w (effect s r o).content (step retries (setup_after w) t o).operation
   pub alone : (w : Script) → IsLegal w → (s : Scene) (t : Setup) → SetsUp w s.content t → (r : Request) → setup_asks w t ≡ Some r
       → (o : Outcome) → ClearsAlone w s (effect s r o)
-  -- what a stranger sends leaves it as it is
+  -- No request of a stranger changes whether the state of the set-up fits.
   pub beside : (w : Script) (drawn : Who → List Drawn) (s : Scene) (t : Setup) → SetsUp w s.content t → (r : Request) → IsForeign w drawn r
       → (o : Outcome) → SetsUp w (effect s r o).content t
-  -- a cluster without files has none of the job's, and neither a set-up nor a stranger puts one there
+  -- A cluster without files has none of the job's, and neither a set-up nor a stranger puts one there.
   pub empty : (w : Script) (s : Scene) → s.files ≡ fin.empty → NoClusterFile w s
   pub no_file : (w : Script) → IsLegal w → (s : Scene) (t : Setup) → SetsUp w s.content t → (r : Request) → setup_asks w t ≡ Some r
       → (o : Outcome) → NoClusterFile w s → NoClusterFile w (effect s r o)
   pub no_file_beside : (w : Script) (drawn : Who → List Drawn) (s : Scene) → HasBucket s.content w.dest.bucket → (r : Request)
       → IsForeign w drawn r → (o : Outcome) → NoClusterFile w s → NoClusterFile w (effect s r o)
-  -- where it ends Done the job's facts can begin; of the staging committers it is for the cluster to have had no file of the job
+  -- If the set-up ended Done, the job's facts can begin. With a staging committer the cluster must have no file of the job.
   pub done : (w : Script) (s : Scene) → SetsUp w s.content (SetupOver ends.Done) → (is_staging w.committer ≡ true → NoClusterFile w s)
       → HasBucket s.content w.dest.bucket × IsBare w s

@@ -1,4 +1,4 @@
--- How far an abort or clean has come that spares what is another job's, and what stands in the job's directory of the cluster.
+-- The states of an abort or clean at a shared destination, and the files in the job's directory in the cluster.
 use Rattle.basics.specs.Members.{IsIn}
 use Rattle.job_facts.specs.Driver.{AllCluster, AllMagic}
 use Rattle.job_facts.specs.Facts.{IsAttempt}
@@ -16,16 +16,16 @@ use Rattle.s3_types.specs.declared.request.UploadRef.{UploadRef}
 use Rattle.std.specs.Prelude.{List, Some, true, ℕ, ◌<◌, ◌∷◌, ◌≡◌, ◌⊎◌}
 use Rattle.std.specs.FinMap as fin
 
--- each is an upload that an attempt of the job knows, with its key
+-- Each is an upload that an attempt of the job knows, with its key.
 abbrev pub AllKnown : (Who → List Drawn) → List UploadRef → Type 0
 AllKnown drawn us = (u : UploadRef) → IsIn u us → (a : Who) × (d : Drawn) × IsIn d (drawn a) × (d.upload ≡ u.upload) × (d.key ≡ u.key)
 
--- places where the committer keeps what it needs
+-- All places are where the job's committer keeps its own: in the magic directory or in the cluster.
 pub record AllOwn (w : Script) (places : List (List ℕ)) : Type 0 where
   pub keys : is_magic w.committer ≡ true → AllMagic w places
   pub paths : is_staging w.committer ≡ true → AllCluster w places
 
--- how far a sparing clean has come: all that it aborts is known to an attempt of the job, and all that it deletes is the job's own
+-- The state of such an abort or clean fits: an attempt of the job knows all that it aborts, and all that it deletes is the job's own.
 abbrev pub FitsSparing : Script → (Who → List Drawn) → Sparing → Type 0
 FitsSparing w drawn (Walking keys) = (is_magic w.committer ≡ true) × AllMagic w keys
 FitsSparing w drawn Naming = is_staging w.committer ≡ true
@@ -36,11 +36,11 @@ FitsSparing w drawn (Deleting k ks) = AllMagic w (k ∷ ks)
 FitsSparing w drawn (Removing p ps) = AllCluster w (p ∷ ps)
 FitsSparing w drawn (SparingOver end) = Unit {0}
 
--- a path of an attempt's temporary file, or of a task's set
+-- The path is that of an attempt's temporary file or of a task's set.
 abbrev pub IsOwnPath : Script → List ℕ → Type 0
 IsOwnPath w p = ((a : Who) × IsAttempt w a × (p ≡ temporary_path w a)) ⊎ ((t : ℕ) × (t < w.tasks) × (p ≡ staged_set_path w.job t))
 
--- of the staging committers each file below the job's directory in the cluster stands at such a path
+-- With a staging committer each file below the job's directory in the cluster has such a path.
 abbrev pub Filed : Script → Scene → Type 0
 Filed w s = is_staging w.committer ≡ true → (p bytes : List ℕ) → begins (cluster_prefix w.job) p ≡ true → fin.get s.files p ≡ Some bytes
     → IsOwnPath w p

@@ -1,4 +1,4 @@
--- What a store and the cluster have at the places of a job, and how a request may change it.
+-- What is in a store and in the cluster at the places of a job, and how a request may change it.
 use Rattle.basics.specs.Members.{IsIn}
 use Rattle.basics.specs.Order.{text_eq}
 use Rattle.job_model.specs.Attempts.{Who}
@@ -19,39 +19,39 @@ use Rattle.std.specs.Prelude.{Bool, List, None, Option, Some, cond, false, true,
 use Rattle.store_frame.specs.Held.{HasBucket}
 use Rattle.std.specs.FinMap as fin
 
--- what stands at a key of the job's bucket, and at a place
+-- The object at a key of the job's bucket, or none.
 abbrev pub at_key : Script → Content → List ℕ → Option Object
 at_key w c k = object_at c w.dest.bucket k
 
--- the object at a place of the job, or none
+-- The object at a place of the job, or none.
 abbrev pub at_place : Script → Content → Place → Option Object
 at_place w c p = at_key w c (key_at w.dest.key w.job p)
 
--- the live upload of an id
+-- The live upload with an id, or none.
 abbrev pub at_id : Script → Content → ℕ → Option Upload
 at_id w c id = upload_at c w.dest.bucket id
 
--- what stands at a place in the cluster
+-- The bytes of the file at a place in the cluster, or none.
 abbrev pub at_path : Script → Scene → ClusterPlace → Option (List ℕ)
 at_path w s p = fin.get s.files (path_at w.job p)
 
--- the bytes of a task's set where its committer keeps it: in the store or in the cluster
+-- The bytes of a task's set where this committer keeps it, in the store or in the cluster, or none.
 abbrev pub set_at : Committer → Script → Scene → ℕ → Option (List ℕ)
 set_at Magic w s t = option_map (λ o. o.bytes) (at_place w s.content (SetPlace t))
 set_at _ w s t = at_path w s (StagedSetPlace t)
 
--- the bytes of the set that stands for a task, where the committer keeps it
+-- The bytes of a task's set where the job's committer keeps it, or none.
 abbrev pub sets_at : Script → Scene → ℕ → Option (List ℕ)
 sets_at w s t = set_at w.committer w s t
 
--- some attempt knows the upload
+-- Some attempt knows the upload.
 abbrev pub IsKnown : (Who → List Drawn) → ℕ → Type 0
 IsKnown drawn id = (a : Who) × (d : Drawn) × IsIn d (drawn a) × (d.upload ≡ id)
 
 -- ---- how a scene may change
 
--- Nothing changes below the job's magic directory, below its directory in the cluster, nor at an upload that an attempt knows and the
--- driver has not ended.
+-- Nothing changes below the job's magic directory, below its directory in the cluster, or at an upload that an attempt knows and the driver
+-- has not ended.
 pub record Leaves (w : Script) (drawn : Who → List Drawn) (ended : ℕ → Bool) (s t : Scene) : Type 0 where
   pub there : HasBucket t.content w.dest.bucket
   pub least : t.content.minimum ≡ s.content.minimum
@@ -71,7 +71,7 @@ pub record Puts (w : Script) (s t : Scene) (key : List ℕ) (x : Object) : Type 
   pub uploads : (id : ℕ) → at_id w t.content id ≡ at_id w s.content id
   pub files : t.files ≡ s.files
 
--- What stands at the id of an upload changes, and nothing else.
+-- Only the upload at this id changes.
 pub record Turns (w : Script) (s t : Scene) (id : ℕ) (x : Option Upload) : Type 0 where
   pub there : HasBucket t.content w.dest.bucket
   pub least : t.content.minimum ≡ s.content.minimum
@@ -91,12 +91,12 @@ pub record Draws (w : Script) (s t : Scene) (key : List ℕ) : Type 0 where
   pub objects : (k : List ℕ) → at_key w t.content k ≡ at_key w s.content k
   pub files : t.files ≡ s.files
 
--- what a part that is sent leaves at an upload's id
+-- The upload at an id after a part was sent to it with this key, number and bytes.
 abbrev pub part_left : List ℕ → ℕ → List ℕ → Option Upload → Option Upload
 part_left key number bytes None = None
 part_left key number bytes (Some u) = cond (text_eq u.key key && is_part_number number) (Some (with_part u number bytes)) (Some u)
 
--- what an end leaves there
+-- The upload at an id after a completion or abort with this key.
 abbrev pub end_left : List ℕ → Option Upload → Option Upload
 end_left key None = None
 end_left key (Some u) = cond (text_eq u.key key) None (Some u)

@@ -1,4 +1,4 @@
--- While the driver's commit completes the uploads of the sets that it holds: which of them it has ended.
+-- Which uploads the driver has ended, while its commit completes the uploads of the sets that it has read.
 use Rattle.basics.specs.Members.{IsIn}
 use Rattle.job_facts.specs.Driver.{FitsJobCommit, Reads}
 use Rattle.job_facts.specs.Facts.{Hold}
@@ -20,32 +20,32 @@ use Rattle.s3_types.specs.declared.reply.Reply.TheVariants.{Completed}
 use Rattle.s3_types.specs.declared.request.Request.{Request}
 use Rattle.std.specs.Prelude.{Bool, List, Option, Some, false, length, map, true, ℕ, ◌<◌, ◌∷◌, ◌≡◌, ◌⊎◌}
 
--- the driver has ended no upload
+-- The driver has ended no upload.
 abbrev pub NoneEnded : Told → Type 0
 NoneEnded m = (id : ℕ) → m.ended id ≡ false
 
--- each upload of the sets that is ended is done, or in turn with a sending of it lost; and each that is done is ended
+-- Each upload of the sets that is ended is done, or is in turn and a send of it was lost. Each upload that is done is ended.
 pub record Turned (ended : ℕ → Bool) (sets : Sets) (waiting : List Turn) (finished : List ℕ) : Type 0 where
   pub only : (n : ℕ) → n < length (all_commits sets) → ended (nth (all_commits sets) n).upload ≡ true → IsIn n finished
       ⊎ ((y : Turn) × IsIn y waiting × (y.number ≡ n) × (y.lost ≡ true))
   pub done : (n : ℕ) → IsIn n finished → ended (nth (all_commits sets) n).upload ≡ true
 
--- none is ended before the first completion
+-- The state of the commit fits the uploads that are ended: none is ended before the first completion.
 abbrev pub Turns : Told → Commit → Type 0
 Turns m (Fetching sets n) = NoneEnded m
 Turns m (Replacing sets p ps s n) = NoneEnded m
 Turns m (Completing sets x xs finished) = Turned m.ended sets (x ∷ xs) finished
 Turns m _ = Unit {0}
 
--- with every number of lanes (`Tabled`, which `job_protocol` keeps)
+-- What holds while the commit completes, with every number of lanes (`Tabled`, which `job_protocol` keeps).
 pub record CommitTurns : Type 0 where
-  -- the uploads of the sets that it holds are apart
+  -- The uploads of the sets that it has read are all different.
   pub apart : (w : Script) (minimum : ℕ) (s : Seen) (m : Told) → IsLegal w → Hold w minimum s m → (sets : Sets)
       → Reads w minimum m.publish_sent m.drawn sets
       → (i n : ℕ) → i < length (all_commits sets) → n < length (all_commits sets)
       → (nth (all_commits sets) i).upload ≡ (nth (all_commits sets) n).upload → i ≡ n
-  -- before the commit the driver ends none, and nobody else does: so none is ended as it begins, where no abort or clean of the job came
-  -- before it
+  -- Before the commit the driver ends no upload, and nobody else does. So none is ended as the commit begins, if no abort or clean of the
+  -- job came before it.
   pub first : (c : Option ℕ) → NoneEnded (nothing_told c)
   pub others : (w : Script) (m : Told) → NoneEnded m → (a : Who) (n : ℕ) (r : Request) (o : Outcome) → NoneEnded (tell w m (entry a n r o))
       × NoneEnded (tell w m (strange_entry n r o))
@@ -54,7 +54,7 @@ pub record CommitTurns : Type 0 where
       → FitsJobCommit g.script g.minimum m.publish_sent m.drawn c → Tabled g.script c → Turns m c
       → (r : Request) → commit_asks g.script c ≡ Some r → (n : ℕ) (o : Outcome)
       → Turns (tell g.script m (driver_entry n r o)) (commit_tells g.script c o)
-  -- a completion of which no sending was lost is answered with the joined tag of the file's parts
+  -- A completion of which no send was lost is answered with the joined tag of the file's parts.
   pub answered : (w : Script) (minimum : ℕ) (s : Seen) (m : Told) → IsLegal w → Hold w minimum s m
       → (sets : Sets) (x : Turn) (xs : List Turn) (finished : List ℕ)
       → let c = Completing sets x xs finished in FitsJobCommit w minimum m.publish_sent m.drawn c → Tabled w c → Turns m c → x.lost ≡ false

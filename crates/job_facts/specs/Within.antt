@@ -1,4 +1,4 @@
--- Requests that leave all that is outside the destination as it is, and that no operation of the job sends others.
+-- Requests that change nothing outside the destination; no operation of the job sends any other.
 use Rattle.basics.specs.Members.{IsIn}
 use Rattle.job_facts.specs.Driver.{FitsClean}
 use Rattle.job_facts.specs.Emptying.{SetsUp}
@@ -24,11 +24,11 @@ use Rattle.s3_types.specs.declared.request.Request.TheVariants.{AbortUpload, Com
 use Rattle.s3_types.specs.declared.request.Request.TheVariants.{DeleteObjects, MakeBucket, PutObject, UploadPart}
 use Rattle.std.specs.Prelude.{List, Some, true, ℕ, ◌≡◌}
 
--- a key below the destination, in its bucket
+-- The key is below the destination, in its bucket.
 abbrev pub IsBelow : Script → List ℕ → List ℕ → Type 0
 IsBelow w bucket key = (bucket ≡ w.dest.bucket) × (begins (dest_prefix w) key ≡ true)
 
--- what it names in the store is below the destination; it copies nothing and makes no bucket
+-- Each key that the request may change is below the destination; it copies nothing and makes no bucket.
 abbrev pub IsWithin : Script → Request → Type 0
 IsWithin w (MakeBucket n) = ⊥
 IsWithin w (CopyObject n source target) = ⊥
@@ -41,8 +41,8 @@ IsWithin w (CompleteUpload n k id parts) = IsBelow w n k
 IsWithin w (AbortUpload n k id) = IsBelow w n k
 IsWithin w _ = Unit {0}
 
--- Each request of the job's actors leaves what is outside the destination, copies nothing, is no data of the driver's, and changes
--- what a reader is shown only where it is a completion or a deletion of the driver's commit that takes effect.
+-- No request of the job's actors copies anything or changes what is outside the destination, and the driver sends no data. A request
+-- changes what readers see only if it is a completion or a deletion of the driver's commit that takes effect.
 pub record OwnChange : Type 0 where
   pub setup : (w : Script) → IsLegal w → (s : Scene) (t : Setup) → SetsUp w s.content t → (r : Request) → setup_asks w t ≡ Some r
       → (n : ℕ) (o : Outcome) → IsZeroRename w (driver_entry n r o) s.content (effect s r o).content

@@ -14,13 +14,13 @@ added_to : (before : List Declared) (name : Who) (fs : List File) (path bytes : 
 added_to (b ∷ c ∷ before) name fs path bytes = ap (λ (l : List Declared). b ∷ l) (added_to (c ∷ before) name fs path bytes)
 added_to _ name fs path bytes = refl
 
--- those in front were added, and the rest are to be
+-- Holds if the files so far are added, and the rest are left.
 pub record IsAdding (old : List Declared) (name : Who) (files : List File) (now : List Declared) (rest : List File) : Type 0 where
   pub done : List File
   pub all : files ≡ done ++ rest
   pub so_far : now ≡ old ++ (name, done) ∷ []
 
--- the path of a file behind others
+-- The path of a file after others.
 first_here : (before done rest : List File) (f : File) → AreFiles before (done ++ f ∷ rest) → has_path (before ++ done) f.0 ≡ false
 first_here before [] rest f h = subst (λ (l : List File). has_path l f.0 ≡ false) (sym (append-nil before)) h.1
 first_here before (d ∷ done) rest f h = subst (λ (l : List File). has_path l f.0 ≡ false) (append_assoc before (d ∷ []) done)

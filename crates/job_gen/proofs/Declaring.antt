@@ -12,13 +12,13 @@ use Rattle.std.specs.Map.{lookup}
 
 -- ---- which attempts are declared
 
--- an attempt that is declared behind others
+-- An attempt that is declared after others.
 pub later : (xs ys : List Declared) (m : Who) → declares ys m ≡ true → declares (xs ++ ys) m ≡ true
 later [] ys m h = h
 later (x ∷ xs) ys m h = elim (same_name m x.0) as (λ b. is_some (cond b (Some x.1) (lookup (same_name m) (xs ++ ys))) ≡ true)
     [ true ↦ refl | false ↦ later xs ys m h ]
 
--- one that is declared neither before nor behind
+-- An attempt that is declared neither before nor after.
 pub neither : (xs ys : List Declared) (m : Who) → declares xs m ≡ false → declares ys m ≡ false → declares (xs ++ ys) m ≡ false
 neither [] ys m h k = k
 neither (x ∷ xs) ys m h k = elim (same_name m x.0) as (λ b. is_some (cond b (Some x.1) (lookup (same_name m) xs)) ≡ false → is_some
@@ -33,24 +33,24 @@ same_own t k = rw (eq-eqb t t refl, eq-eqb k k refl) refl
 second_new : (t : ℕ) → same_name (attempt_of t 1) (attempt_of t 0) ≡ false
 second_new t = rw (eq-eqb t t refl) refl
 
--- the attempts of a task that has two of them, or one
+-- The attempts of a task: two or one.
 abbrev pub one_or_two : Bool → List File → ℕ → List Declared
 one_or_two b fs a = cond b ((attempt_of a 0, fs) ∷ (attempt_of a 1, fs) ∷ []) ((attempt_of a 0, fs) ∷ [])
 
 not_of : (fs : List File) (t a k : ℕ) → (t ≡ a → ⊥) → declares (attempts_of fs a) (attempt_of t k) ≡ false
 not_of fs t a k h = grind arith
 
--- attempts of the tasks from a on, by the files of each task
+-- The attempts of the n tasks from a on, by the files of each task.
 abbrev pub attempts_from : (ℕ → List File) → ℕ → ℕ → List Declared
 attempts_from g a n = flat_map (λ t. attempts_of (g t) t) (range_with_len a n)
 
--- an attempt of a later task is not declared yet
+-- An attempt of a later task is not declared yet.
 pub new_task : (g : ℕ → List File) (a n t k : ℕ) → a + n ≤ t → declares (attempts_from g a n) (attempt_of t k) ≡ false
 new_task g a zero t k h = refl
 new_task g a (suc n) t k h = neither (attempts_of (g a) a) (attempts_from g (a + 1) n) (attempt_of t k)
     (not_of (g a) t a k (λ e. omega arith)) (new_task g (a + 1) n t k (omega arith))
 
--- the first attempt of each task is declared, and the second one of each that has two
+-- The first attempt of each task is declared, and so is the second one of each task that has two.
 pub has_first : (fs : List File) (rest : List Declared) (a : ℕ) → declares (attempts_of fs a ++ rest) (attempt_of a 0) ≡ true
 has_first fs rest a = elim (is_twice a) as (λ b. declares (one_or_two b fs a ++ rest) (attempt_of a 0) ≡ true)
     [ true ↦ rw (same_own a 0) refl | false ↦ rw (same_own a 0) refl ]
@@ -69,7 +69,7 @@ known g k a (suc n) t has h l = elim (cases_lt a t) [
       e (has (attempts_from g (a + 1) n))
 ]
 
--- ---- they are such as a script may declare
+-- ---- a script may declare them
 
 behind : (tasks : ℕ) (before rest : List Declared) (fs : List File) (a : ℕ) (b : Bool) → a < tasks
     → declares before (attempt_of a 0) ≡ false → declares before (attempt_of a 1) ≡ false → AreFiles [] fs
@@ -99,7 +99,7 @@ attempts_fit g tasks a (suc n) fit h =
     (subst (λ (l : List Declared). AreAttempts tasks l (attempts_from g (a + 1) n)) (flat_map_next (λ t. attempts_of (g t) t) a)
     (attempts_fit g tasks (a + 1) n fit (omega arith)))
 
--- a second attempt is not declared by the first
+-- The first attempt does not declare the second one.
 pub second_free : (before : List Declared) (fs : List File) (t : ℕ) → declares before (attempt_of t 1) ≡ false
     → declares (before ++ (attempt_of t 0, fs) ∷ []) (attempt_of t 1) ≡ false
 second_free before fs t h = neither before ((attempt_of t 0, fs) ∷ []) (attempt_of t 1) h (rw (second_new t) refl)

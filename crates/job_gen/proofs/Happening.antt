@@ -12,7 +12,7 @@ use Rattle.std.proofs.Common.{ℕ, [], ◌%◌, ◌*◌, ◌++◌, ◌+◌, ◌<
 use Rattle.std.proofs.lemmas.List.FromFn.{length-map-range_with_len}
 use Rattle.std.specs.List.{flat_map, range_with_len}
 
--- ---- they are such as a script may say
+-- ---- a script may have these events
 
 both_fit : (attempts : List Declared) (xs ys : List Event) → AreEvents attempts xs → AreEvents attempts ys → AreEvents attempts (xs ++ ys)
 both_fit attempts [] ys h k = k
@@ -61,7 +61,7 @@ events_fit attempts seed tasks first second =
     both_fit attempts ((told ++ took) ++ gave) (Do Driver Commit ∷ Do Driver Clean ∷ [])
     (both_fit attempts (told ++ took) gave (both_fit attempts told took begins seconds) last) ends
 
--- ---- how many they are
+-- ---- the number of events
 
 seconds_count : (a n : ℕ) → length (flat_map second_writes (filter is_twice (range_with_len a n))) ≤ 2 * n
 seconds_count a zero = omega arith
@@ -76,7 +76,7 @@ events_count seed tasks =
     let commits = length-map-range_with_len start_commit 0 tasks in
     simp length-append (omega (arith, writes, seconds, commits))
 
--- ---- they are appended one after another
+-- ---- the events are appended one after another
 
 appended : (s w m k c e f : List Event) → ((((((s ++ w) ++ m) ++ k) ++ c) ++ m) ++ e) ++ f ≡ (((s ++ (w ++ m)) ++ k) ++ (c ++ m)) ++
     (e ++ f)

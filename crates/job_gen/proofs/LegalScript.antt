@@ -17,13 +17,13 @@ use Rattle.std.specs.Prelude.{codes}
 use Rattle.std.specs.FinMap as fin
 use Rattle.job_gen.proofs.PartFiles as made
 
--- ---- how many attempts, files and bytes it has
+-- ---- the numbers of its attempts, files and bytes
 
--- one attempt, or two of every fifth task
+-- A task has one attempt; every fifth task has two.
 two_or_one : (fs : List File) (a m : ℕ) → 5 * length (attempts_of fs a) + (a + 1) % 5 ≡ 6 + a % 5
 two_or_one fs a m = grind arith
 
--- six attempts of each five tasks
+-- Every five tasks have six attempts.
 attempts_count : (g : ℕ → List File) (a n : ℕ) → 5 * length (attempts_from g a n) + (a + n) % 5 ≡ 6 * n + a % 5
 attempts_count g a zero = let e : a + 0 ≡ a = omega arith in ap (λ x. 0 + x % 5) e
 attempts_count g a (suc n) =
@@ -34,7 +34,7 @@ attempts_count g a (suc n) =
     let left : (a + suc n) % 5 ≡ (a + 1 + n) % 5 = ap (λ x. x % 5) same in
     omega (arith, here, rest, both, left)
 
--- at most fifty files an attempt, of at most 4,095 bytes each
+-- Holds if the attempt has at most fifty files, of at most 4,095 bytes each.
 abbrev pub IsFew : Declared → Type 0
 IsFew d = (length d.1 ≤ 50) × (bytes_of d.1 ≤ 204750)
 

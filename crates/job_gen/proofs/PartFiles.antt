@@ -18,7 +18,7 @@ same_bytes (suc n) b h = rw (below_so b 256 h) (same_bytes n b h)
 file_fits : (seed files t j : ℕ) → t < 1000 → j < 100 → IsFile (part_file seed files t j)
 file_fits seed files t j h g = grind (arith, path_given, same_bytes)
 
--- files from one on, behind those before it
+-- The files from one on, after those before it.
 fits_from : (seed files t a n : ℕ) (before : List File) → t < 1000 → a + n ≤ 100 → map (λ f. f.0) before ≡ map (part_path t) (below a)
     → AreFiles before (map (part_file seed files t) (range_with_len a n))
 fits_from seed files t a zero before small few e = tt
@@ -29,7 +29,7 @@ fits_from seed files t a (suc n) before small few e = (
       (map-append (λ f. f.0) before (part_file seed files t a ∷ []) ∙ ap (λ l. l ++ part_path t a ∷ []) e ∙ sym (map_more (part_path t) a)),
 )
 
--- a task's files are such as a script may give it
+-- A script may give these files to a task.
 pub files_fit : (seed files t : ℕ) → t < 1000 → files ≤ 100 → AreFiles [] (part_files seed files t)
 unfolding part_files
 files_fit seed files t small few = fits_from seed files t 0 files [] small (omega arith) refl

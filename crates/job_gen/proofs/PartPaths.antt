@@ -18,7 +18,7 @@ use Rattle.std.specs.List.{list_all, range_with_len}
 use Rattle.std.specs.Map.{lookup}
 use Rattle.std.specs.Str.{IsAscii, is_utf8}
 
--- a test that holds of the letters and of each digit holds of the whole path
+-- A test that holds for the letters and for each digit holds for the whole path.
 all_part : (p : ℕ → Bool) (t j : ℕ) → t < 1000 → j < 100 → list_all p (codes "part-") ≡ true → p 45 ≡ true
     → ((d : ℕ) → d < 10 → p (48 + d) ≡ true) → list_all p (part_path t j) ≡ true
 all_part p t j h g e f q = grind arith
@@ -30,7 +30,7 @@ all_small (b ∷ bs) h = let p = and_parts (nat_lt b 128) _ h in IsAscii-cons b 
 pub text_fits : (bs : List ℕ) → list_all (λ b. nat_lt b 128) bs ≡ true → is_utf8 bs ≡ true
 text_fits bs h = is_utf8-from_IsUtf8 bs (IsUtf8-from_ascii bs (all_small bs h))
 
--- such a path is one that a script may give
+-- A script may give such a path.
 pub path_given : (t j : ℕ) → t < 1000 → j < 100 → IsGiven (part_path t j)
 path_given t j small few =
     let alone = one_part 47 (part_path t j) (all_part (is_other 47) t j small few refl refl (λ d h. grind (arith, nat_tests))) in
@@ -44,11 +44,11 @@ path_given t j small few =
       );
     }
 
--- paths of two files of a task differ
+-- The paths of two files of a task differ.
 path_other : (t i j : ℕ) → i < j → j < 100 → part_path t j ≡ part_path t i → ⊥
 path_other t i j h g e = grind arith
 
--- a path that no earlier file of the task has
+-- No earlier file of the task has the path.
 pub path_free : (t j a n : ℕ) (fs : List File) → map (λ f. f.0) fs ≡ map (part_path t) (range_with_len a n) → a + n ≤ j → j < 100
     → has_path fs (part_path t j) ≡ false
 path_free t j a n [] e less few = refl

@@ -13,14 +13,14 @@ range_more a (suc n) =
     let e : a + 1 + n ≡ a + suc n = omega arith in
     ap (λ (l : List ℕ). a ∷ l) (range_more (a + 1) n ∙ ap (λ (x : ℕ). range_with_len (a + 1) n ++ x ∷ []) e)
 
--- the numbers below n, and n
+-- The numbers below n, and n.
 pub below_more : (n : ℕ) → below (n + 1) ≡ below n ++ n ∷ []
 below_more n =
     let one : n + 1 ≡ suc n = omega arith in
     let here : 0 + n ≡ n = omega arith in
     ap (range_with_len 0) one ∙ range_more 0 n ∙ ap (λ (x : ℕ). below n ++ x ∷ []) here
 
--- a list of one value for each number, and the next value
+-- A list with one value for each number, and the next value.
 pub map_more : {X : Type 0} (f : ℕ → X) (n : ℕ) → map f (below (n + 1)) ≡ map f (below n) ++ f n ∷ []
 map_more f n = ap (map f) (below_more n) ∙ map-append f (below n) (n ∷ [])
 
@@ -28,7 +28,7 @@ pub flat_map_next : {X : Type 0} (f : ℕ → List X) (n : ℕ) → flat_map f (
 flat_map_next f n = ap (flat_map f) (below_more n) ∙ flat_map-append f (below n) (n ∷ []) ∙ ap (λ l. flat_map f (below n) ++ l)
     (append-nil (f n))
 
--- the same behind other values
+-- The same after other values.
 behind : {X : Type 0} (front x y z now next : List X) → z ≡ x ++ y → now ≡ front ++ x → next ≡ now ++ y → next ≡ front ++ z
 behind front x y z now next k e h = h ∙ ap (λ l. l ++ y) e ∙ append_assoc front x y ∙ ap (λ l. front ++ l) (sym k)
 
@@ -39,7 +39,7 @@ mapped_on f n front now next = behind front (map f (below n)) (f n ∷ []) (map 
 filter_next : (p : ℕ → Bool) (n : ℕ) → filter p (below (n + 1)) ≡ filter p (below n) ++ filter p (n ∷ [])
 filter_next p n = ap (filter p) (below_more n) ∙ filter-append p (below n) (n ∷ [])
 
--- the same of the numbers that pass a test
+-- The same for the numbers that pass a test.
 pub taken_on : {X : Type 0} (p : ℕ → Bool) (f : ℕ → List X) (n : ℕ) (front now next : List X) → p n ≡ true
     → now ≡ front ++ flat_map f (filter p (below n)) → next ≡ now ++ f n → next ≡ front ++ flat_map f (filter p (below (n + 1)))
 taken_on p f n front now next pass =

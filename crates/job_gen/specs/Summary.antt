@@ -1,4 +1,4 @@
--- The line that tells of a made job's run.
+-- The line that sums up the run of a made job.
 use Rattle.job_model.specs.Attempts.{Who}
 use Rattle.job_model.specs.JobScript.{Script}
 use Rattle.job_model.specs.Legal.{bytes_of}
@@ -8,19 +8,19 @@ use Rattle.job_spec.specs.ReportText.{line}
 use Rattle.std.specs.Fmt.{decimal}
 use Rattle.std.specs.Prelude.{List, codes, if◌then◌else◌, sum_by, ℕ, [], ◌*◌, ◌==◌, ◌∷◌}
 
--- the attempt that was picked
+-- The name of the chosen attempt.
 abbrev pub picked : Pick → Who
 picked p = record { task = p.task; attempt = p.attempt }
 
--- the number of bytes of a picked attempt's files
+-- The number of bytes of a chosen attempt's files.
 abbrev pub pick_bytes : Script → Pick → ℕ
 pick_bytes w p = bytes_of (files w (picked p))
 
--- the number of bytes of the picked attempts' files, or 0 where the status is not 0
+-- The number of bytes of the chosen attempts' files, or 0 if the status is not 0.
 abbrev pub shown_bytes : (due : ℕ) → List Pick → Script → ℕ
 shown_bytes due picks w = if due == 0 then sum_by (pick_bytes w) picks else 0
 
--- the line that sums up a made job: its tasks and files, the bytes shown, the requests sent and the status that was due
+-- The line that sums up a made job: its tasks and files, the bytes published, the number of sends, and the status.
 unfoldable pub summary : (tasks files due sent : ℕ) → List Pick → Script → List ℕ
 summary tasks files due sent picks w = line (
     codes "tasks" ∷ decimal tasks

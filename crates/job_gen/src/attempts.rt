@@ -8,7 +8,7 @@ use crate::numbers::Numbers;
 use job_model::{AttemptName, Attempts, FileList};
 use std::alloc::{AllocError, Global};
 
-/// Declares an attempt behind the others, with these files, whose paths and bytes are shared.
+/// Declares one more attempt with these files, whose paths and contents it shares.
 fn declare_with(
     alloc: Global,
     attempts: &mut Attempts,
@@ -26,14 +26,14 @@ fn declare_with(
     Ok(())
 }
 
-/// Whether a task has a second attempt.
+/// True if a task has a second attempt.
 pub fn is_twice(task: u32) -> bool
     ensures { result ≡ is_twice task }
 {
     task % 5 == 4
 }
 
-/// Declares the attempts of a task behind those of other tasks, with these files.
+/// Declares the attempts of a task with these files, after those of other tasks.
 fn declare_task(
     alloc: Global,
     attempts: &mut Attempts,

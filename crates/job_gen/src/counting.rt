@@ -6,7 +6,7 @@ ghost use Rattle.job_gen.specs.Summary.{pick_bytes};
 use job_model::{AttemptName, FileList, Pick, Script};
 use s3_types::MOST_SCRIPT_BYTES;
 
-/// How many bytes files have together.
+/// The number of bytes of all these files.
 fn file_bytes(files: &FileList) -> u64
     requires { bytes_of files.now ≤ MOST_SCRIPT_BYTES }
     ensures { result ≡ bytes_of files.now }
@@ -18,7 +18,7 @@ fn file_bytes(files: &FileList) -> u64
     sum
 }
 
-/// How many bytes the files of a picked attempt have together.
+/// The number of bytes of all files of a chosen attempt.
 fn pick_bytes(script: &Script, pick: Pick) -> u64
     ensures bytes { result ≡ pick_bytes script.now pick }
     ensures most { result ≤ MOST_SCRIPT_BYTES }
@@ -33,7 +33,7 @@ fn pick_bytes(script: &Script, pick: Pick) -> u64
     }
 }
 
-/// How many bytes the files of picked attempts have together.
+/// The number of bytes of all files of the chosen attempts.
 pub fn picked_bytes(script: &Script, picks: &[Pick]) -> u128
     ensures { result ≡ sum_by (pick_bytes script.now) picks.now }
 {

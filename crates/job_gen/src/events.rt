@@ -8,7 +8,7 @@ use job_model::{Event, EventList, Op};
 use s3_types::Actor;
 use std::alloc::{AllocError, Global};
 
-/// The first attempt of each task begins to write.
+/// Appends the events that start the writes of the first attempts.
 fn push_writes(events: &mut EventList, tasks: u32) -> Result<(), AllocError>
     ensures { OnOk result (events.new ≡ events.old ++ map start_write (below tasks)) }
 {
@@ -20,7 +20,7 @@ fn push_writes(events: &mut EventList, tasks: u32) -> Result<(), AllocError>
     Ok(())
 }
 
-/// The first attempt of a task dies, and the second one writes.
+/// Appends the events that kill the first attempt of a task and run the write of the second one.
 fn push_second(events: &mut EventList, task: u32) -> Result<(), AllocError>
     ensures { OnOk result (events.new ≡ events.old ++ second_writes task) }
 {
@@ -33,7 +33,7 @@ fn push_second(events: &mut EventList, task: u32) -> Result<(), AllocError>
     })
 }
 
-/// The second attempt of each task that has two takes the first one's place.
+/// Appends such events for each task that has two attempts.
 fn push_seconds(events: &mut EventList, tasks: u32) -> Result<(), AllocError>
     ensures { OnOk result (events.new ≡ events.old ++ flat_map second_writes (filter is_twice (below tasks))) }
 {
@@ -45,7 +45,7 @@ fn push_seconds(events: &mut EventList, tasks: u32) -> Result<(), AllocError>
     Ok(())
 }
 
-/// The attempt of a task that is to commit: its last.
+/// The attempt of a task that commits: its last one.
 fn committer_of(task: u32) -> Actor
     ensures { result ≡ committer_of task }
 {
@@ -53,7 +53,7 @@ fn committer_of(task: u32) -> Actor
     Actor::Attempt { task, attempt }
 }
 
-/// The last attempt of each task begins to commit.
+/// Appends the events that start the commits of the tasks' last attempts.
 fn push_commits(events: &mut EventList, tasks: u32) -> Result<(), AllocError>
     ensures { OnOk result (events.new ≡ events.old ++ map start_commit (below tasks)) }
 {
@@ -65,7 +65,7 @@ fn push_commits(events: &mut EventList, tasks: u32) -> Result<(), AllocError>
     Ok(())
 }
 
-/// The driver goes through an operation.
+/// Appends the event that runs an operation of the driver.
 fn push_driver(events: &mut EventList, op: Op) -> Result<(), AllocError>
     ensures { OnOk result (events.new ≡ events.old ++ Event.Do Actor.Driver op ∷ []) }
 {

@@ -16,7 +16,8 @@ fn made_path(alloc: Global, task: u32, file: u32) -> Result<Text, AllocError>
     Text::new(alloc, format!(in alloc; "part-{task:03}-{file:02}")?)
 }
 
-/// The bytes of the next file: one number tells how many they are, and one which byte they all are.
+/// The contents of the next file. The next number gives its length, and the one after that the byte
+/// that it repeats.
 fn next_bytes(alloc: Global, numbers: &mut Numbers) -> Result<Bytes, AllocError>
     ensures goes_on { (seed i : ℕ) → numbers.old ≡ draw seed i → numbers.new ≡ draw seed (i + 2) }
     ensures bytes { (seed i : ℕ) → numbers.old ≡ draw seed i → IfOk result (λ bytes. bytes ≡ content seed i) }
@@ -26,7 +27,7 @@ fn next_bytes(alloc: Global, numbers: &mut Numbers) -> Result<Bytes, AllocError>
     Bytes::new(alloc, vec![in alloc; byte as u8; length as usize]?)
 }
 
-/// The files of a task, which take two numbers each.
+/// The files of a task. Each takes two numbers.
 pub fn task_files(
     alloc: Global,
     numbers: &mut Numbers,

@@ -4,7 +4,7 @@ ghost use Rattle.job_gen.specs.Made.{number};
 
 use std::marker::Model;
 
-/// The sequence of a seed, seen as the state that it is in.
+/// The random sequence of a seed. Contracts see its current state.
 #[derive(Drop)]
 pub struct Numbers {
     state: u64,

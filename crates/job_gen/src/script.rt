@@ -23,12 +23,18 @@ fn dest(alloc: Global) -> Result<S3Path, AllocError>
     }
 }
 
-/// Makes the script of a magic job of so many tasks, each with so many files, whose lengths and bytes are the numbers of
-/// a seed's sequence. After the set-up the first attempt of each task writes; of every fifth task it is killed then, and
-/// a second attempt writes the same files; then one attempt of each task commits, and so does the driver, which cleans
-/// up at last. The first writes, and the commits, are mixed by the seed, modulo 2^31. What the head does not say is as
-/// where a script says nothing of it. Two attempts of a task share the bytes of their files. AllocError comes where
-/// memory ran out alone.
+/// Makes the script of a magic job of `tasks` tasks with `files` files each. The numbers of the
+/// seed's sequence give the lengths and contents of the files. The events are, in order:
+///
+/// 1. the set-up
+/// 2. the writes of the first attempt of each task
+/// 3. for every fifth task: its first attempt is killed, and a second one writes the same files
+/// 4. the commits of one attempt of each task
+/// 5. the driver's commit and its clean
+///
+/// The first writes are mixed by the seed, modulo 2^31, and so are the commits of attempts. Other
+/// head lines have their defaults. Two attempts of a task share the contents of their files. Fails
+/// with AllocError only if memory runs out.
 pub fn make_script(alloc: Global, seed: u32, tasks: u32, files: u32) -> Result<Script, AllocError>
     requires some_tasks { 1 ≤ tasks }
     requires few_tasks { tasks ≤ 200 }

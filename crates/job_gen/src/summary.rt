@@ -5,7 +5,8 @@ use crate::counting::picked_bytes;
 use job_model::{PickList, Script};
 use std::alloc::{AllocError, Global};
 
-/// How many bytes the job's commit has shown: those of the picked attempts' files, and none where the status is not 0.
+/// The number of bytes that the job's commit has published: those of the files of the chosen
+/// attempts, or 0 if the status is not 0.
 fn shown_bytes(due: u8, picks: &PickList, script: &Script) -> u128
     ensures { result ≡ shown_bytes due picks.now script.now }
 {
@@ -16,9 +17,10 @@ fn shown_bytes(due: u8, picks: &PickList, script: &Script) -> u128
     }
 }
 
-/// The line `tasks T files F bytes B sent N status S` with its LF, of a job of so many tasks with so many files each:
-/// F is the number of all files, B that of the bytes of the picked attempts' files, which is 0 where the status is not 0,
-/// N that of the sendings, and S the status that was due. AllocError comes where memory ran out alone.
+/// Returns the line `tasks T files F bytes B sent N status S` with its LF, for a job of `tasks`
+/// tasks with `files` files each. F is the number of all files. B is the number of bytes of the
+/// chosen attempts' files, or 0 if the status is not 0. N is the number of sends, and S the status.
+/// Fails with AllocError only if memory runs out.
 pub fn summary_text(
     alloc: Global,
     tasks: u32,

@@ -1,4 +1,4 @@
--- One more part of the upload that was drawn last.
+-- One more part of the newest upload.
 use Rattle.job_model.specs.Known.{Drawn, Known, with_last}
 use Rattle.job_model.specs.declared.known.DrawnPart.{DrawnPart}
 use Rattle.s3_types.specs.Tags.{Spelled}
@@ -45,7 +45,7 @@ map_more : {X Y : Type 0} (f : X → Y) (xs : List X) (x : X) → map f (xs ++ x
 map_more f [] x = refl
 map_more f (y ∷ xs) x = ap (λ l. f y ∷ l) (map_more f xs x)
 
--- an upload by its parts
+-- An upload with these parts.
 abbrev pub by_parts : List ℕ → ℕ → List DrawnPart → Drawn
 by_parts key upload ps = record { key = key; upload = upload; tags = map (λ p. p.tag) ps; sizes = map (λ p. p.size) ps }
 

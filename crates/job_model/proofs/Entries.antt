@@ -1,4 +1,4 @@
--- New entries of an IndexMap, and the last one.
+-- New entries of an IndexMap, and its last entry.
 use Rattle.basics.proofs.Options.{none_is}
 use Rattle.indexmap.proofs.CallerLemmas.{insert_entry-new}
 use Rattle.indexmap.specs.IndexMap.{IndexMap, insert_entry, set_value_at}
@@ -73,7 +73,7 @@ same_at [] i fs h = refl
 same_at (a ∷ rest) zero fs h = ap (λ (l : List File). (a.0, l) ∷ rest) (sym (same_Some _ _ h))
 same_at (a ∷ rest) (suc i) fs h = ap (λ (l : List Declared). a ∷ l) (same_at rest i fs h)
 
--- the last files as they were leave the attempts as they were
+-- If the files of the last attempt are unchanged, so are the attempts.
 pub kept_known : (es now : List Declared) (fs more : List File) → es ≡ now → Some fs ≡ slice_get (values_of es) (length es - 1) → more ≡ fs
     → set_value_at es (length es - 1) more ≡ now
 kept_known es now fs more e h m = ap (set_value_at es (length es - 1)) m ∙ same_at es (length es - 1) fs (sym h) ∙ e

@@ -1,4 +1,4 @@
--- A path that is made unique to a job tells the path.
+-- A path that is made unique to a job determines the original path.
 use Rattle.basics.proofs.Counts.{some_part}
 use Rattle.basics.proofs.Cuts.{cut_once}
 use Rattle.basics.proofs.Pieces.{join_parts, one_part, parts_append}
@@ -115,7 +115,7 @@ lasts_same id (e ∷ d ∷ es) (f ∷ g ∷ fs) h same =
     let others : with_id_last id (d ∷ es) ≡ with_id_last id (g ∷ fs) = cc in
     ap (λ (x : List ℕ). x ∷ d ∷ es) first ∙ ap (λ (l : List (List ℕ)). f ∷ l) (lasts_same id (d ∷ es) (g ∷ fs) h others)
 
--- elements without a slash
+-- Holds if no element has a slash.
 abbrev AreParts : List (List ℕ) → Type 0
 AreParts [] = Unit {0}
 AreParts (e ∷ es) = (list_all (is_other 47) e ≡ true) × AreParts es
@@ -146,7 +146,7 @@ lasts_clean id [] h p = tt
 lasts_clean id (e ∷ []) h p = (with_id_clean id e h p.0, tt)
 lasts_clean id (e ∷ f ∷ es) h p = (p.0, lasts_clean id (f ∷ es) h p.1)
 
--- elements that are joined are the parts again
+-- Joined elements are split into the same elements.
 joined_parts : (e : List ℕ) (es : List (List ℕ)) → AreParts (e ∷ es) → parts_of 47 (join_with_byte 47 (e ∷ es)) ≡ e ∷ es
 joined_parts e [] p = one_part 47 e p.0
 joined_parts e (f ∷ es) p = parts_append 47 e (join_with_byte 47 (f ∷ es)) ∙ rw (one_part 47 e p.0)

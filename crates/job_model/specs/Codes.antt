@@ -1,4 +1,4 @@
--- The parts of a script as numbers and pairs, by which proofs tell scripts apart.
+-- Scripts as numbers and pairs, by which proofs tell scripts apart.
 use Rattle.job_model.specs.Attempts.{Declared, Who}
 use Rattle.job_model.specs.JobScript.{Script}
 use Rattle.job_model.specs.declared.events.Event.{Event}
@@ -17,24 +17,24 @@ use Rattle.std.specs.Prelude.{Bool, List, Option, refl, suc, zero, ℕ, ◌≡�
 use Rattle.job_model.specs.declared.events.Op.TheVariants as op
 use Rattle.job_model.specs.declared.events.Event.TheVariants as event
 
--- conflict modes by number
+-- The number of a conflict mode.
 abbrev pub mode_number : Mode → ℕ
 mode_number Fail = 0
 mode_number Append = 1
 mode_number Replace = 2
 
--- the conflict mode of a number
+-- The conflict mode with this number.
 abbrev pub numbered_mode : ℕ → Mode
 numbered_mode zero = Fail
 numbered_mode (suc zero) = Append
 numbered_mode (suc (suc n)) = Replace
 
--- a mode's number gives the mode again
+-- The mode with the number of `m` is `m`.
 abbrev pub mode_again : (m : Mode) → numbered_mode (mode_number m) ≡ m
 mode_again Fail = refl
 mode_again _ = refl
 
--- operations by number
+-- The number of an operation.
 abbrev pub op_number : Op → ℕ
 op_number op.Setup = 0
 op_number op.Write = 1
@@ -42,7 +42,7 @@ op_number op.Commit = 2
 op_number op.Abort = 3
 op_number op.Clean = 4
 
--- the operation of a number
+-- The operation with this number.
 abbrev pub numbered_op : ℕ → Op
 numbered_op zero = op.Setup
 numbered_op (suc zero) = op.Write
@@ -50,38 +50,38 @@ numbered_op (suc (suc zero)) = op.Commit
 numbered_op (suc (suc (suc zero))) = op.Abort
 numbered_op (suc (suc (suc (suc n)))) = op.Clean
 
--- an operation's number gives the operation again
+-- The operation with the number of `o` is `o`.
 abbrev pub op_again : (o : Op) → numbered_op (op_number o) ≡ o
 op_again op.Setup = refl
 op_again _ = refl
 
--- actors by kind and numbers
+-- An actor as its kind and its numbers.
 abbrev pub actor_numbers : Actor → ℕ × (ℕ × ℕ)
 actor_numbers Driver = (0, (0, 0))
 actor_numbers (Attempt task attempt) = (1, (task, attempt))
 actor_numbers Shell = (2, (0, 0))
 
--- the actor of a kind and numbers
+-- The actor of a kind with these numbers.
 abbrev pub numbered_actor : ℕ → ℕ → ℕ → Actor
 numbered_actor zero task attempt = Driver
 numbered_actor (suc zero) task attempt = Attempt task attempt
 numbered_actor (suc (suc n)) task attempt = Shell
 
--- an actor's numbers give the actor again
+-- The actor with the kind and numbers of `a` is `a`.
 abbrev pub actor_again : (a : Actor) → numbered_actor (actor_numbers a).0 (actor_numbers a).1.0 (actor_numbers a).1.1 ≡ a
 actor_again Driver = refl
 actor_again _ = refl
 
--- the code of an actor
+-- The code of an actor.
 abbrev pub coded_actor : Coded Actor
 coded_actor = code_by (ℕ × (ℕ × ℕ)) (coded× coded_ℕ (coded× coded_ℕ coded_ℕ)) actor_numbers (λ p. numbered_actor p.0 p.1.0 p.1.1)
     actor_again
 
--- the code of an operation
+-- The code of an operation.
 abbrev pub coded_op : Coded Op
 coded_op = code_by ℕ coded_ℕ op_number numbered_op op_again
 
--- events by kind, actor, operation and number
+-- An event as its kind, actor, operation and number.
 abbrev pub event_parts : Event → ℕ × (Actor × (Op × ℕ))
 event_parts (event.Do actor op) = (0, (actor, (op, 0)))
 event_parts (event.Start actor op) = (1, (actor, (op, 0)))
@@ -92,7 +92,7 @@ event_parts (event.Mix seed) = (5, (Driver, (op.Setup, seed)))
 event_parts event.Restart = (6, (Driver, (op.Setup, 0)))
 event_parts (event.Recover actor) = (7, (actor, (op.Setup, 0)))
 
--- the event of a kind, an actor, an operation and a number
+-- The event of a kind with this actor, operation and number.
 abbrev pub event_of : ℕ → Actor → Op → ℕ → Event
 event_of zero actor op number = event.Do actor op
 event_of (suc zero) actor op number = event.Start actor op
@@ -103,30 +103,30 @@ event_of (suc (suc (suc (suc (suc zero))))) actor op number = event.Mix number
 event_of (suc (suc (suc (suc (suc (suc zero)))))) actor op number = event.Restart
 event_of (suc (suc (suc (suc (suc (suc (suc n))))))) actor op number = event.Recover actor
 
--- an event's parts give the event again
+-- The event with the parts of `e` is `e`.
 abbrev pub event_again : (e : Event) → event_of (event_parts e).0 (event_parts e).1.0 (event_parts e).1.1.0 (event_parts e).1.1.1 ≡ e
 event_again (event.Do actor op) = refl
 event_again _ = refl
 
--- the code of an event
+-- The code of an event.
 abbrev pub coded_event : Coded Event
 coded_event = code_by (ℕ × (Actor × (Op × ℕ))) (coded× coded_ℕ (coded× coded_actor (coded× coded_op coded_ℕ))) event_parts
     (λ p. event_of p.0 p.1.0 p.1.1.0 p.1.1.1) event_again
 
--- the code of an attempt's name
+-- The code of an attempt's name.
 abbrev pub coded_name : Coded Who
 coded_name = code_by (ℕ × ℕ) (coded× coded_ℕ coded_ℕ) (λ n. (n.task, n.attempt)) (λ p. record { task = p.0; attempt = p.1 }) (λ _. refl)
 
--- the code of an attempt with its files
+-- The code of an attempt with its files.
 abbrev pub coded_declared : Coded Declared
 coded_declared = coded× coded_name (coded_list (coded× coded_text coded_text))
 
--- the code of a path of a bucket and a key
+-- The code of a path: a bucket and a key.
 abbrev pub coded_path : Coded Path
 coded_path = code_by (List ℕ × List ℕ) (coded× coded_text coded_text) (λ p. (p.bucket, p.key)) (λ p. record { bucket = p.0; key = p.1 })
     (λ _. refl)
 
--- the code of a script
+-- The code of a script.
 abbrev pub coded_script : Coded Script
 coded_script =
     code_by (List ℕ × (Path × (Committer × (Mode × (Bool ×

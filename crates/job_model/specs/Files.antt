@@ -3,10 +3,10 @@ use Rattle.basics.specs.Order.{text_eq}
 use Rattle.std.specs.Map.{lookup}
 use Rattle.std.specs.Prelude.{Bool, List, is_some, ℕ}
 
--- a file of an attempt: its path and its bytes
+-- A file of an attempt: its path and its bytes.
 abbrev pub File : Type 0
 File = List ℕ × List ℕ
 
--- some file has this path
+-- True if some file has this path.
 abbrev pub has_path : List File → List ℕ → Bool
 has_path files path = is_some (lookup (text_eq path) files)

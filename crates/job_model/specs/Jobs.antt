@@ -1,4 +1,4 @@
--- What a job is, and what an attempt of it knows.
+-- The data of a job, and what an attempt of it knows.
 use Rattle.job_model.specs.Files.{File}
 use Rattle.job_model.specs.Known.{Known}
 use Rattle.path_keys.specs.Paths.{Path}
@@ -7,7 +7,7 @@ use Rattle.s3_types.specs.declared.request.Mode.{Mode}
 use Rattle.std.specs.List.{list_any}
 use Rattle.std.specs.Prelude.{Bool, List, Option, nat_eq, ℕ}
 
--- a job's head
+-- The head of a job.
 pub record Job : Type 0 where
   pub job : List ℕ
   pub dest : Path
@@ -18,18 +18,18 @@ pub record Job : Type 0 where
   pub lanes : ℕ
   pub stamp : Option ℕ
 
--- what an attempt knows and has done
+-- What an attempt knows and has done.
 pub record Task : Type 0 where
   pub job : Job
   pub task : ℕ
   pub attempt : ℕ
   pub files : List File
-  -- the length in bytes of a part; 0 is the store's least size
+  -- The length in bytes of a part; 0 means the store's minimum.
   pub block : ℕ
-  -- the store's least size in bytes of a part
+  -- The store's minimum length in bytes of a part.
   pub minimum : ℕ
   pub known : Known
 
--- a task is one of these
+-- True if the task is among these.
 abbrev pub has_task : List ℕ → ℕ → Bool
 has_task tasks t = list_any (nat_eq t) tasks

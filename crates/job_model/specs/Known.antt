@@ -1,28 +1,28 @@
--- What an attempt knows by its own sendings.
+-- What an attempt knows from its own requests.
 use Rattle.s3_types.specs.Tags.{Spelled}
 use Rattle.std.specs.Prelude.{Bool, List, false, ℕ, [], ◌++◌, ◌∷◌}
 
--- an upload whose id came back: its key, its id, and of its parts that came back the tags and the sizes
+-- An upload whose id the attempt received: its key, its id, and the tags and sizes of its acknowledged parts.
 pub record Drawn : Type 0 where
   pub key : List ℕ
   pub upload : ℕ
   pub tags : List Spelled
   pub sizes : List ℕ
 
--- what an attempt knows
+-- What an attempt knows.
 pub record Known : Type 0 where
-  -- the drawn uploads, the last one first
+  -- The uploads whose ids it received, the newest one first.
   pub drawn : List Drawn
-  -- the put of its temporary file was sent
+  -- True if it has sent the put of its temporary file.
   pub put_sent : Bool
-  -- its publishing request was sent, whatever became of it
+  -- True if it has sent its publishing request, with or without success.
   pub publish_sent : Bool
 
--- what an attempt knows before it has sent anything
+-- The knowledge of an attempt that has sent nothing.
 abbrev pub nothing_known : Known
 nothing_known = record { drawn = []; put_sent = false; publish_sent = false }
 
--- one more part of the upload that was drawn last
+-- The uploads, where the newest one has one more part.
 abbrev pub with_last : Spelled → ℕ → List Drawn → List Drawn
 with_last tag size [] = []
 with_last tag size (d ∷ ds) = record { key = d.key; upload = d.upload; tags = d.tags ++ tag ∷ []; sizes = d.sizes ++ size ∷ [] } ∷ ds

@@ -1,4 +1,4 @@
--- The bounds of what a script says.
+-- The bounds of a script.
 use Rattle.basics.specs.Words.{IsBare}
 use Rattle.job_model.specs.Attempts.{Declared, declares, is_known}
 use Rattle.job_model.specs.Files.{File, has_path}
@@ -24,68 +24,68 @@ use Rattle.s3_types.specs.declared.request.Mode.TheVariants as mode
 use Rattle.job_model.specs.declared.events.Op.TheVariants as op
 use Rattle.job_model.specs.declared.events.Event.TheVariants as event
 
--- a word of a script: UTF-8 without blank and LF
+-- Holds if this may be a word of a script: UTF-8 without blank and LF.
 abbrev pub IsScriptWord : List ℕ → Type 0
 IsScriptWord w = (is_utf8 w ≡ true) × IsBare w
 
--- a destination: a bucket, and a key below it
+-- Holds if this may be a destination: a bucket, and a key that is allowed for a destination and is one word.
 pub record IsDest (dest : Path) : Type 0 where
   pub bucket : is_bucket dest.bucket ≡ true
   pub key : is_key dest.key ≡ true
   pub below : is_dest_key dest.key ≡ true
   pub word : IsScriptWord dest.key
 
--- what `magic` allows: `append`, and names as they are
+-- With the committer `magic` the mode is `append`, and names are not made unique.
 abbrev pub FitsMagic : Committer → Mode → Bool → Type 0
 FitsMagic committer.Magic m unique = (m ≡ mode.Append) × (unique ≡ false)
 FitsMagic _ m unique = Unit {0}
 
--- only sendings from 1 to 1,000,000,000 have a fate, and it is never that they are answered
+-- Only sends 1 to 1,000,000,000 have a fate, and none of these fates is an answer.
 abbrev pub AreFates : FateMap → Type 0
 AreFates fates = (n : ℕ) (fate : Fate) → map.get fates n ≡ Some fate → (1 ≤ n) × (n ≤ 1000000000) × (is_answer fate ≡ false)
 
--- each is below 256
+-- True if each number is below 256.
 abbrev pub are_bytes : List ℕ → Bool
 are_bytes bytes = list_all (λ b. nat_lt b 256) bytes
 
--- a path that a script may give a file: a word that shows no hidden element
+-- Holds if a script may give this path to a file: it is one word, and none of its elements is hidden.
 pub record IsGiven (path : List ℕ) : Type 0 where
   pub stated : is_path path ≡ true
   pub shown : is_hidden path ≡ false
   pub word : IsScriptWord path
 
--- a file: such a path, and bytes
+-- Holds if the file has an allowed path, and its contents are bytes.
 pub record IsFile (f : File) : Type 0 where
   pub path : IsGiven f.0
   pub bytes : are_bytes f.1 ≡ true
 
--- files behind others: each path stands once
+-- Holds if each file is allowed and each path occurs once, also among the files `before`.
 abbrev pub AreFiles : List File → List File → Type 0
 AreFiles before [] = Unit {0}
 AreFiles before (f ∷ fs) = IsFile f × (has_path before f.0 ≡ false) × AreFiles (before ++ f ∷ []) fs
 
--- attempts of so many tasks behind others: each name is in its range and stands once
+-- Holds if each name is in its range and occurs once, also among the attempts `before`, and each attempt's files are allowed.
 abbrev pub AreAttempts : ℕ → List Declared → List Declared → Type 0
 AreAttempts tasks before [] = Unit {0}
 AreAttempts tasks before (a ∷ more) = (a.0.task < tasks) × (a.0.attempt ≤ 99) × (declares before a.0 ≡ false) × AreFiles [] a.1
     × AreAttempts tasks (before ++ a ∷ []) more
 
--- the number of files of attempts
+-- The number of files of these attempts.
 abbrev pub files_in : List Declared → ℕ
 files_in [] = 0
 files_in (a ∷ more) = length a.1 + files_in more
 
--- the number of bytes of files
+-- The number of bytes of these files.
 abbrev pub bytes_of : List File → ℕ
 bytes_of [] = 0
 bytes_of (f ∷ fs) = length f.1 + bytes_of fs
 
--- the number of bytes of the files of attempts
+-- The number of bytes of all files of these attempts.
 abbrev pub bytes_in : List Declared → ℕ
 bytes_in [] = 0
 bytes_in (a ∷ more) = bytes_of a.1 + bytes_in more
 
--- an operation of this actor: all but `write` are the driver's, an attempt's are `write`, `commit` and `abort`
+-- Holds if the actor has this operation: the driver has all but `write`, an attempt has `write`, `commit` and `abort`.
 abbrev pub HasOp : Actor → Op → Type 0
 HasOp actor.Driver op.Setup = Unit {0}
 HasOp actor.Driver op.Write = ⊥
@@ -99,12 +99,12 @@ HasOp (actor.Attempt task attempt) op.Abort = Unit {0}
 HasOp (actor.Attempt task attempt) op.Clean = ⊥
 HasOp actor.Shell op = ⊥
 
--- a declared attempt
+-- Holds if the actor is a declared attempt.
 abbrev pub IsRecovered : List Declared → Actor → Type 0
 IsRecovered attempts (actor.Attempt task attempt) = declares attempts (record { task = task; attempt = attempt }) ≡ true
 IsRecovered attempts _ = ⊥
 
--- an event of the driver or a declared attempt, with its numbers in their ranges
+-- Holds if the actor of the event is the driver or a declared attempt, and has the operation, and the event's numbers are in their ranges.
 abbrev pub IsEvent : List Declared → Event → Type 0
 IsEvent attempts (event.Do actor op) = (is_known attempts actor ≡ true) × HasOp actor op
 IsEvent attempts (event.Start actor op) = (is_known attempts actor ≡ true) × HasOp actor op
@@ -115,12 +115,12 @@ IsEvent attempts (event.Mix seed) = seed ≤ 2147483647
 IsEvent attempts event.Restart = Unit {0}
 IsEvent attempts (event.Recover actor) = IsRecovered attempts actor
 
--- all events are so
+-- Holds if all events are allowed.
 abbrev pub AreEvents : List Declared → List Event → Type 0
 AreEvents attempts [] = Unit {0}
 AreEvents attempts (e ∷ es) = IsEvent attempts e × AreEvents attempts es
 
--- the bounds of each part of a script
+-- Holds if each part of the script keeps its bounds.
 pub record IsLegal (s : Script) : Type 0 where
   pub job : is_job_id s.job ≡ true
   pub dest : IsDest s.dest

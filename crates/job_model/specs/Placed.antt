@@ -8,30 +8,30 @@ use Rattle.std.specs.Map.{lookup}
 use Rattle.std.specs.Option.{option_map}
 use Rattle.std.specs.Prelude.{Bool, List, Option, false, if◌then◌else◌, map, true, ℕ, [], ◌++◌, ◌==◌, ◌∷◌}
 
--- a name with `-` and the job's id before its first dot, or at its end
+-- The name with `-` and the job's id before its first dot, or at its end if it has no dot.
 abbrev pub with_id : List ℕ → List ℕ → List ℕ
 with_id id [] = 45 ∷ id
 with_id id (x ∷ name) = if x == 46 then 45 ∷ (id ++ x ∷ name) else x ∷ with_id id name
 
--- a path's elements, with the job's id in the last one
+-- The elements of a path, with the job's id in the last one.
 abbrev pub with_id_last : List ℕ → List (List ℕ) → List (List ℕ)
 with_id_last id [] = []
 with_id_last id (e ∷ []) = with_id id e ∷ []
 with_id_last id (e ∷ f ∷ es) = e ∷ with_id_last id (f ∷ es)
 
--- a path made unique to a job (Hadoop, S3A committers: fs.s3a.committer.staging.unique-filenames)
+-- The path with the job's id in its last element (Hadoop, S3A committers: fs.s3a.committer.staging.unique-filenames).
 abbrev pub unique_name : List ℕ → List ℕ → List ℕ
 unique_name path id = join_with_byte 47 (with_id_last id (parts_of 47 path))
 
--- a file's path below the destination: unique to the job, or as the script writes it
+-- The path of a file below the destination: made unique to the job, or as the script writes it.
 abbrev pub path_of : Bool → List ℕ → List ℕ → List ℕ
 path_of true id path = unique_name path id
 path_of false id path = path
 
--- files at their paths below the destination
+-- The files at their paths below the destination.
 abbrev pub placed : Bool → List ℕ → List File → List File
 placed unique id files = map (λ f. (path_of unique id f.0, f.1)) files
 
--- the files of an attempt at their paths below the destination; none where it is not declared
+-- The files of an attempt at their paths below the destination; `None` if the attempt is not declared.
 abbrev pub files_of : Script → Who → Option (List File)
 files_of w a = option_map (placed w.unique w.job) (lookup (same_name a) w.attempts)

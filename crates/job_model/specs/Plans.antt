@@ -1,4 +1,4 @@
--- The bounds of what a job's driver and attempts know.
+-- The bounds of the plans of a job's driver and attempts.
 use Rattle.job_model.specs.Files.{File, has_path}
 use Rattle.job_model.specs.Jobs.{Job, Task}
 use Rattle.job_model.specs.Legal.{FitsMagic, IsDest, IsGiven, are_bytes, bytes_of}
@@ -7,7 +7,7 @@ use Rattle.s3_types.specs.Names.{is_job_id}
 use Rattle.s3_types.specs.declared.limits.TheConstants.{MOST_MINIMUM, MOST_SCRIPT_BYTES}
 use Rattle.std.specs.Prelude.{IfSome, List, false, length, true, ℕ, [], ◌++◌, ◌<◌, ◌^◌, ◌∷◌, ◌≡◌, ◌≤◌, ◌⊎◌}
 
--- the bounds of a job's head, as a script gives them
+-- Holds if the head of a job keeps the bounds of a script.
 pub record IsJob (j : Job) : Type 0 where
   pub job : is_job_id j.job ≡ true
   pub dest : IsDest j.dest
@@ -18,16 +18,16 @@ pub record IsJob (j : Job) : Type 0 where
   pub few_lanes : j.lanes ≤ 8
   pub stamp : IfSome j.stamp (λ n. n < 10 ^ 18)
 
--- a path in the destination: as a script gives it, or made unique to the job
+-- Holds if the path is one that a script may give, or such a path made unique to the job.
 abbrev pub IsPlaced : List ℕ → List ℕ → Type 0
 IsPlaced id path = IsGiven path ⊎ ((given : List ℕ) × IsGiven given × (path ≡ unique_name given id))
 
--- files behind others: each path is so and stands once
+-- Holds if each path is allowed (`IsPlaced`) and occurs once, also among the files `before`, and the contents are bytes.
 abbrev pub ArePlaced : List ℕ → List File → List File → Type 0
 ArePlaced id before [] = Unit {0}
 ArePlaced id before (f ∷ fs) = IsPlaced id f.0 × (are_bytes f.1 ≡ true) × (has_path before f.0 ≡ false) × ArePlaced id (before ++ f ∷ []) fs
 
--- the bounds of an attempt: its task is one of the job's, and its files are as many and as long as a script's may be
+-- Holds if the task is one of the job's, and the attempt's files and numbers keep the bounds of a script.
 pub record IsTask (t : Task) : Type 0 where
   pub task : t.task < t.job.tasks
   pub attempt : t.attempt ≤ 99

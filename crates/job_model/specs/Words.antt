@@ -1,4 +1,4 @@
--- The words by which events, ends, faults and states are written.
+-- The words for events, ends, faults and states.
 use Rattle.job_model.specs.declared.ends.CheckEnd.{CheckEnd}
 use Rattle.job_model.specs.declared.ends.CleanEnd.{CleanEnd}
 use Rattle.job_model.specs.declared.ends.CommitEnd.{CommitEnd}
@@ -28,13 +28,13 @@ use Rattle.job_model.specs.declared.ends.EventFault.TheVariants as faults
 use Rattle.job_model.specs.declared.states.Life.TheVariants as lives
 use Rattle.job_model.specs.declared.states.ActorStage.TheVariants as stage
 
--- words with one blank between each two
+-- The words, joined by single blanks.
 abbrev pub spaced : List (List ℕ) → List ℕ
 spaced words = join_with_byte 32 words
 
 -- ---- operations and events
 
--- an operation's word
+-- The word of an operation.
 abbrev pub op_word : Op → List ℕ
 op_word ops.Setup = codes "setup"
 op_word ops.Write = codes "write"
@@ -42,7 +42,7 @@ op_word ops.Commit = codes "commit"
 op_word ops.Abort = codes "abort"
 op_word ops.Clean = codes "clean"
 
--- an event as scripts write it
+-- The text of an event, as scripts write it.
 abbrev pub event_text : Event → List ℕ
 event_text (Do actor op) = spaced (codes "do" ∷ actor_text actor ∷ op_word op ∷ [])
 event_text (Start actor op) = spaced (codes "start" ∷ actor_text actor ∷ op_word op ∷ [])
@@ -55,7 +55,7 @@ event_text (Recover actor) = spaced (codes "recover" ∷ actor_text actor ∷ []
 
 -- ---- outcomes of operations
 
--- how a set-up ended
+-- The text for how a set-up ended.
 abbrev pub setup_text : SetupEnd → List ℕ
 setup_text setups.Done = codes "done"
 setup_text (setups.Conflict path) = spaced (codes "conflict" ∷ path ∷ [])
@@ -64,14 +64,14 @@ setup_text setups.NoSuchBucket = codes "no-such-bucket"
 setup_text setups.StoreFault = codes "store-fault"
 setup_text setups.NoMemory = codes "no-memory"
 
--- how the look for files before a commit ended
+-- The text for how the conflict check before a commit ended.
 abbrev pub check_text : CheckEnd → List ℕ
 check_text checks.Clear = codes "clear"
 check_text (checks.Conflict path) = spaced (codes "conflict" ∷ path ∷ [])
 check_text checks.StoreFault = codes "store-fault"
 check_text checks.NoMemory = codes "no-memory"
 
--- how an attempt's operation ended
+-- The text for how an operation of an attempt ended.
 abbrev pub task_text : TaskEnd → List ℕ
 task_text tasks.Done = codes "done"
 task_text (tasks.Conflict path) = spaced (codes "conflict" ∷ path ∷ [])
@@ -80,14 +80,14 @@ task_text (tasks.Gone name) = spaced (codes "gone" ∷ name ∷ [])
 task_text tasks.StoreFault = codes "store-fault"
 task_text tasks.NoMemory = codes "no-memory"
 
--- the part of a job's commit in which a request wore out
+-- The word for the stage of a job's commit in which a request ran out of retries.
 abbrev pub part_word : Stage → List ℕ
 part_word parts.Read = codes "read"
 part_word parts.Delete = codes "delete"
 part_word parts.Complete = codes "complete"
 part_word parts.Success = codes "success"
 
--- how a job's commit ended
+-- The text for how a job's commit ended.
 abbrev pub commit_text : CommitEnd → List ℕ
 commit_text commits.Committed = codes "committed"
 commit_text (commits.Missing task) = spaced (codes "missing" ∷ decimal task ∷ [])
@@ -95,13 +95,13 @@ commit_text (commits.SamePath path first second) = spaced (codes "same-path" ∷
 commit_text (commits.StoreFault part) = spaced (codes "store-fault" ∷ part_word part ∷ [])
 commit_text commits.NoMemory = codes "no-memory"
 
--- how a job's clean or abort ended
+-- The text for how a job's clean or abort ended.
 abbrev pub clean_text : CleanEnd → List ℕ
 clean_text cleans.Done = codes "done"
 clean_text cleans.StoreFault = codes "store-fault"
 clean_text cleans.NoMemory = codes "no-memory"
 
--- how an operation ended
+-- The text for how an operation ended.
 abbrev pub outcome_text : OpEnd → List ℕ
 outcome_text (ends.Setup end) = setup_text end
 outcome_text (ends.Check end) = check_text end
@@ -112,7 +112,7 @@ outcome_text ends.NoMemory = codes "no-memory"
 
 -- ---- refusals
 
--- why an event was refused
+-- The word for why an event was refused.
 abbrev pub fault_word : EventFault → List ℕ
 fault_word faults.Dead = codes "dead"
 fault_word faults.Busy = codes "busy"
@@ -124,13 +124,13 @@ fault_word faults.NoRecovery = codes "no-recovery"
 
 -- ---- lives and stages
 
--- a life's word
+-- The word of a life.
 abbrev pub life_word : Life → List ℕ
 life_word lives.Idle = codes "idle"
 life_word lives.Busy = codes "busy"
 life_word lives.Dead = codes "dead"
 
--- a stage's word
+-- The word of a stage.
 abbrev pub stage_word : ActorStage → List ℕ
 stage_word stage.New = codes "new"
 stage_word stage.Set = codes "set"

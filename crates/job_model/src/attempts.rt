@@ -8,14 +8,14 @@ use s3_types::{Bytes, Text};
 use std::alloc::{AllocError, Global};
 use std::marker::Model;
 
-/// An attempt by its task's number and its own.
+/// The name of an attempt: the number of its task, and its own number.
 #[derive(Clone, Copy, PartialEq, Eq, Hash)]
 pub struct AttemptName {
     pub task: u32,
     pub attempt: u32,
 }
 
-/// The declared attempts in script order, each with its files.
+/// The declared attempts in script order, each with its files. Each name occurs once.
 #[derive(Drop)]
 pub struct Attempts {
     declared: IndexMap<AttemptName, FileList>,
@@ -31,7 +31,7 @@ impl Model for Attempts {
 }
 
 impl Attempts {
-    /// No attempts. Takes no memory.
+    /// An empty list of attempts. Takes no memory.
     pub fn new(alloc: Global) -> Attempts
         ensures { result ≡ [] }
     {
@@ -40,22 +40,22 @@ impl Attempts {
         }
     }
 
-    /// How many attempts are declared.
+    /// The number of declared attempts.
     pub fn len(&self) -> usize
         ensures { result ≡ length self.now }
     {
         self.declared.len()
     }
 
-    /// Whether this attempt is declared.
+    /// True if this attempt is declared.
     pub fn declares(&self, name: AttemptName) -> bool
         ensures { result ≡ declares self.now name }
     {
         self.declared.contains_key(&name)
     }
 
-    /// Declares another attempt behind the others, with no file yet. After want of memory the attempts are
-    /// as before.
+    /// Declares one more attempt, at the end and with no files yet. The name must not be declared.
+    /// If memory runs out, the attempts stay as they were.
     pub fn declare(&mut self, alloc: Global, name: AttemptName) -> Result<(), AllocError>
         requires { declares self.old name ≡ false }
         ensures ok { OnOk result (self.new ≡ self.old ++ (name, []) ∷ []) }
@@ -67,7 +67,7 @@ impl Attempts {
         }
     }
 
-    /// Whether the last attempt has a file with this path.
+    /// True if the last attempt has a file with this path. False if there is no attempt.
     pub fn last_has(&self, path: &Text) -> bool
         ensures { result ≡ has_path (last_files self.now) path.now }
     {
@@ -77,7 +77,10 @@ impl Attempts {
         }
     }
 
-    /// Adds a file to the last attempt, where there is one. After want of memory the attempts are as before.
+    /// Adds a file to the last attempt, after its other files. If there is no attempt, nothing
+    /// changes.
+    /// The last attempt must not have this path. If memory runs out, the attempts stay as they
+    /// were.
     pub fn add_file(&mut self, path: Text, bytes: Bytes) -> Result<(), AllocError>
         requires { has_path (last_files self.old) path ≡ false }
         ensures ok { OnOk result (self.new ≡ with_file self.old path bytes) }
@@ -89,7 +92,7 @@ impl Attempts {
         files.add(path, bytes)
     }
 
-    /// The attempts' names and files.
+    /// The names of the attempts with their files.
     pub fn held(&self) -> &IndexMap<AttemptName, FileList>
         ensures { result.now.entries ≡ self.now }
     {

@@ -1,10 +1,10 @@
-/// What a job's conflict mode deletes of the files that stood at the destination. (Hadoop, S3A committers:
+/// Which files at the destination the job deletes, by its conflict mode. (Hadoop, S3A committers:
 /// fs.s3a.committer.staging.conflict-mode.)
 #[derive(Clone, Copy)]
 pub enum Displaced {
     Nothing,
-    /// All of the destination.
+    /// All files at the destination.
     Everything,
-    /// The partitions that the job writes.
+    /// The files in the partitions that the job writes.
     Partitions,
 }

@@ -8,12 +8,13 @@ use std::fmt;
 #[derive(Drop)]
 pub enum SetupEnd {
     Done,
-    /// The mode is fail and the destination shows a file; this is the least of their paths.
+    /// The conflict mode is fail, and readers see files at the destination. The least of their
+    /// paths.
     Conflict(Text),
-    /// An object stands at the destination's own key.
+    /// An object exists at the destination's own key.
     DestIsFile,
     NoSuchBucket,
-    /// A request was lost past its retries.
+    /// A request ran out of retries.
     StoreFault,
     NoMemory,
 }
@@ -36,14 +37,15 @@ impl fmt::Display for SetupEnd {
     }
 }
 
-/// How the look for files before the commit of a job at a shared destination ended.
+/// How the second conflict check ended. It runs before the commit of a job whose destination is
+/// shared with another job.
 #[derive(Drop)]
 pub enum CheckEnd {
-    /// Nothing stands there, and the commit goes on.
+    /// No file is in the way, and the commit goes on.
     Clear,
-    /// A reader of the destination is shown a file at this path, or a key stands below this partition.
+    /// Readers see a file at this path of the destination, or a key exists below this partition.
     Conflict(Text),
-    /// A request was lost past its retries.
+    /// A request ran out of retries.
     StoreFault,
     NoMemory,
 }
@@ -64,17 +66,17 @@ impl fmt::Display for CheckEnd {
     }
 }
 
-/// How an attempt's operation ended.
+/// How an operation of a task attempt ended.
 #[derive(Drop)]
 pub enum TaskEnd {
     Done,
-    /// A file stands in this partition, and the mode is fail. Of a commit alone.
+    /// The conflict mode is fail, and a file exists in this partition. Only a commit ends so.
     Conflict(Text),
-    /// The attempt has sent its publishing request. Of an abort alone.
+    /// The attempt has sent its publishing request, and keeps its uploads. Only an abort ends so.
     Kept,
-    /// The attempt's own upload, record or temporary file of this name is not there.
+    /// The attempt's own upload, record or temporary file with this name does not exist.
     Gone(Text),
-    /// A request was lost past its retries.
+    /// A request ran out of retries.
     StoreFault,
     NoMemory,
 }
@@ -100,16 +102,16 @@ impl fmt::Display for TaskEnd {
     }
 }
 
-/// Which requests of a job's commit a lost one was among.
+/// The stage of a job's commit that a request belongs to.
 #[derive(Clone, Copy, PartialEq, Eq)]
 pub enum Stage {
-    /// The reads of the tasks' sets.
+    /// Reads of the tasks' sets of pending commits.
     Read,
-    /// The deletion of what the mode does not keep.
+    /// Deletion of the files that the conflict mode does not keep.
     Delete,
-    /// The completions of the uploads.
+    /// Completions of the uploads.
     Complete,
-    /// The put of `_SUCCESS`.
+    /// Put of `_SUCCESS`.
     Success,
 }
 
@@ -131,11 +133,11 @@ impl fmt::Display for Stage {
 #[derive(Drop)]
 pub enum CommitEnd {
     Committed,
-    /// No attempt of this task, the least such one, reported that it committed.
+    /// No attempt of this task reported a successful commit. The lowest such task.
     Missing(u32),
-    /// Two tasks would write one path: the least such path, with its two least tasks.
+    /// Two tasks write the same path: the least such path, with the two lowest tasks that write it.
     SamePath { path: Text, first: u32, second: u32 },
-    /// A request was lost past its retries.
+    /// A request of this stage ran out of retries.
     StoreFault(Stage),
     NoMemory,
 }
@@ -165,7 +167,7 @@ impl fmt::Display for CommitEnd {
 #[derive(Clone, Copy, PartialEq, Eq)]
 pub enum CleanEnd {
     Done,
-    /// A request was lost past its retries.
+    /// A request ran out of retries.
     StoreFault,
     NoMemory,
 }
@@ -183,16 +185,16 @@ impl fmt::Display for CleanEnd {
     }
 }
 
-/// How an operation ended, by whose it was.
+/// How an operation ended, by the kind of operation.
 #[derive(Drop)]
 pub enum OpEnd {
     Setup(SetupEnd),
-    /// Of the look for files before a commit, which then does not go on.
+    /// The conflict check before a commit, which then does not go on.
     Check(CheckEnd),
     Commit(CommitEnd),
     Clean(CleanEnd),
     Task(TaskEnd),
-    /// The operation could not be begun.
+    /// Memory ran out before the operation began.
     NoMemory,
 }
 
@@ -218,10 +220,10 @@ pub struct ActorEnd {
     pub end: OpEnd,
 }
 
-/// Ends in the order in which they came.
+/// The ends of operations, in the order in which they ended.
 pub type ActorEndList = Sequence<ActorEnd>;
 
-/// Why an event was refused, in the order of the checks.
+/// Why an event was refused. The variants are in the order in which they are checked.
 #[derive(Clone, Copy, PartialEq, Eq)]
 pub enum EventFault {
     Dead = 1,
@@ -253,24 +255,24 @@ impl fmt::Display for EventFault {
 /// How an event ended.
 #[derive(Drop)]
 pub enum EventEnd {
-    /// It ended no operation.
+    /// The event ended no operation.
     Done,
     Ended(OpEnd),
-    /// The ends of a mix.
+    /// The ends of the operations of a mix.
     Mixed(ActorEndList),
-    /// It changed nothing.
+    /// The event was refused and changed nothing.
     Refused(EventFault),
 }
 
-/// Ends of events in order.
+/// The ends of events, in the order of the events.
 pub type EndList = Sequence<EventEnd>;
 
-/// The attempt of a task whose files a job's commit publishes.
+/// The chosen attempt of a task: the job's commit publishes its files.
 #[derive(Clone, Copy, PartialEq, Eq)]
 pub struct Pick {
     pub task: u32,
     pub attempt: u32,
 }
 
-/// Picks in order of tasks.
+/// The chosen attempts, in the order of their tasks.
 pub type PickList = Sequence<Pick>;

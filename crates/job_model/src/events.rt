@@ -4,7 +4,8 @@ ghost use Rattle.job_model.specs.Words.{op_word, event_text};
 use s3_types::{Actor, Sequence};
 use std::fmt;
 
-/// An operation. The driver's are all but `Write`; an attempt's are `Write`, `Commit` and `Abort`.
+/// An operation of an actor. The driver has all but `Write`; an attempt has `Write`, `Commit` and
+/// `Abort`.
 #[derive(Clone, Copy, PartialEq, Eq)]
 pub enum Op {
     Setup,
@@ -29,24 +30,25 @@ impl fmt::Display for Op {
     }
 }
 
-/// What happens next in a run.
+/// The next step of a run.
 #[derive(Clone, Copy, PartialEq, Eq)]
 pub enum Event {
-    /// The actor begins an operation and goes on until it ends.
+    /// The actor begins an operation, and sends requests until it ends.
     Do { actor: Actor, op: Op },
     /// The actor begins an operation.
     Start { actor: Actor, op: Op },
-    /// The actor sends up to so many requests, 1 to 1,000,000.
+    /// The actor sends at most `count` requests, 1 to 1,000,000.
     Step { actor: Actor, count: u32 },
-    /// The actor goes on until its operation ends.
+    /// The actor sends requests until its operation ends.
     Run { actor: Actor },
     /// The actor dies.
     Kill { actor: Actor },
-    /// The busy actors send in turns that the seed chooses, below 2^31, until none is busy.
+    /// The busy actors send requests until none is busy. The seed, below 2^31, decides whose turn
+    /// it is.
     Mix { seed: u32 },
-    /// A new driver takes the place of a dead one.
+    /// A new driver replaces a dead one.
     Restart,
-    /// The actor, an attempt, is asked for what an earlier one of its task has done.
+    /// Recovery of this attempt: it is asked for the work of an earlier attempt of its task.
     Recover { actor: Actor },
 }
 

@@ -6,7 +6,7 @@ use s3_types::{Bytes, Text};
 use std::alloc::{AllocError, Global};
 use std::marker::Model;
 
-/// Files in script order, each path once: paths with their bytes.
+/// The files of an attempt in script order: paths with their bytes. Each path occurs once.
 #[derive(Drop)]
 pub struct FileList {
     files: IndexMap<Text, Bytes>,
@@ -21,7 +21,7 @@ impl Model for FileList {
 }
 
 impl FileList {
-    /// No files. Takes no memory.
+    /// An empty list of files. Takes no memory.
     pub fn new(alloc: Global) -> FileList
         ensures { result ≡ [] }
     {
@@ -30,21 +30,23 @@ impl FileList {
         }
     }
 
-    /// How many files there are.
+    /// The number of files.
     pub fn len(&self) -> usize
         ensures { result ≡ length self.now }
     {
         self.files.len()
     }
 
-    /// Whether a file has this path.
+    /// True if a file has this path.
     pub fn has(&self, path: &Text) -> bool
         ensures { result ≡ has_path self.now path.now }
     {
         self.files.contains_key(path)
     }
 
-    /// Adds a file of another path behind the others. After want of memory the files are as before.
+    /// Adds a file at the end. No file may have its path yet. If memory runs out, the files stay as
+    /// they
+    /// were.
     pub fn add(&mut self, path: Text, bytes: Bytes) -> Result<(), AllocError>
         requires { has_path self.old path ≡ false }
         ensures ok { OnOk result (self.new ≡ self.old ++ (path, bytes) ∷ []) }
@@ -56,7 +58,7 @@ impl FileList {
         }
     }
 
-    /// The files' paths and bytes.
+    /// The paths of the files with their bytes.
     pub fn held(&self) -> &IndexMap<Text, Bytes>
         ensures { result.now.entries ≡ self.now }
     {

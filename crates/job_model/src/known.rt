@@ -5,15 +5,15 @@ use s3_types::{Key, Sequence, Tag};
 use std::alloc::{AllocError, Global};
 use std::marker::Model;
 
-/// A part that came back: its tag, and its size in bytes.
+/// A part that S3 acknowledged: its tag, and its size in bytes.
 #[derive(Clone, Copy, PartialEq, Eq)]
 pub struct DrawnPart {
     pub tag: Tag,
     pub size: u64,
 }
 
-/// An upload whose id came back: its key, its id, and the parts that came back, in the order of their
-/// numbers.
+/// An upload whose id the attempt received: its key, its id, and its acknowledged parts in the
+/// order of their numbers.
 #[derive(Drop)]
 pub struct DrawnUpload {
     pub key: Key,
@@ -35,8 +35,8 @@ impl Model for DrawnUpload {
     } };
 }
 
-/// What an attempt knows by its own sendings: the uploads whose ids came back, and whether it has sent the
-/// put of its temporary file and its publishing request, whatever became of them.
+/// What an attempt knows from its own requests: the uploads whose ids it received, and whether it
+/// has sent the put of its temporary file and its publishing request, with or without success.
 #[derive(Drop)]
 pub struct Knowledge {
     drawn: Vec<DrawnUpload>,
@@ -58,7 +58,7 @@ impl Model for Knowledge {
 }
 
 impl Knowledge {
-    /// Nothing is known. Takes no memory.
+    /// The knowledge of an attempt that has sent nothing. Takes no memory.
     pub fn new(alloc: Global) -> Knowledge
         ensures { result ≡ nothing_known }
     {
@@ -69,28 +69,28 @@ impl Knowledge {
         }
     }
 
-    /// The uploads in the order of their making. Takes no memory.
+    /// The uploads in the order in which they were created. Takes no memory.
     pub fn as_made(&self) -> &[DrawnUpload]
         ensures { reverse result.now ≡ self.now.drawn }
     {
         self.drawn.as_slice()
     }
 
-    /// Whether the put of the temporary file was sent.
+    /// True if the put of the temporary file was sent.
     pub fn put_sent(&self) -> bool
         ensures { result ≡ self.now.put_sent }
     {
         self.put_sent
     }
 
-    /// Whether the publishing request was sent.
+    /// True if the publishing request was sent.
     pub fn publish_sent(&self) -> bool
         ensures { result ≡ self.now.publish_sent }
     {
         self.publish_sent
     }
 
-    /// An upload of which no part was sent yet. After want of memory all is as before.
+    /// Records a new upload, with no parts yet. If memory runs out, nothing changes.
     pub fn draw(&mut self, alloc: Global, key: Key, upload: u64) -> Result<(), AllocError>
         ensures ok { OnOk result (self.new ≡ record {
           drawn = record {
@@ -112,8 +112,9 @@ impl Knowledge {
         Ok(())
     }
 
-    /// A part of the upload that was drawn last, where there is one, came back. After want of memory all is
-    /// as before.
+    /// Records an acknowledged part of the newest upload. If there is no upload, nothing changes.
+    /// If
+    /// memory runs out, nothing changes.
     pub fn draw_part(&mut self, tag: Tag, size: u64) -> Result<(), AllocError>
         ensures ok { OnOk result (self.new ≡ record {
           drawn = with_last tag size self.old.drawn;
@@ -128,14 +129,14 @@ impl Knowledge {
         }
     }
 
-    /// The put of the temporary file was sent. Takes no memory.
+    /// Records that the put of the temporary file was sent. Takes no memory.
     pub fn tell_put_sent(&mut self)
         ensures { self.new ≡ record { drawn = self.old.drawn; put_sent = true; publish_sent = self.old.publish_sent } }
     {
         self.put_sent = true;
     }
 
-    /// The publishing request was sent. Takes no memory.
+    /// Records that the publishing request was sent. Takes no memory.
     pub fn tell_publish_sent(&mut self)
         ensures { self.new ≡ record { drawn = self.old.drawn; put_sent = self.old.put_sent; publish_sent = true } }
     {

@@ -1,11 +1,11 @@
-//! The plain data of a job: its script, what its actors are to do, how their operations end, and their
-//! states.
+//! The plain data of a job: its script, the plans of its actors, the ends of their operations, and
+//! their states.
 //!
 //! # What is proved
 //!
-//! scripts, plans and their parts: Attempts and files keep their order and each name once. A script
-//! keeps the bounds of `Legal.antt`, plans those of `Plans.antt`. Events, ends and states are written
-//! by the words of `Words.antt`.
+//! - Attempts and files keep their order, and each name occurs once.
+//! - A script keeps the bounds of `Legal.antt`, and plans keep those of `Plans.antt`.
+//! - Events, ends and states are written with the words of `Words.antt`.
 #![tactic(auto)]
 
 mod attempts;

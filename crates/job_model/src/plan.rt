@@ -11,11 +11,16 @@ use std::alloc::{AllocError, Global};
 use std::collections::BTreeSet;
 use std::marker::Model;
 
-/// What a job's driver and attempts know of the job. It keeps the bounds that a script gives them: its
-/// id has 1 to 64 letters, digits, `_` and `-`; its destination's key has 1 to 400 bytes, no CR at its
-/// end, and no element `__magic` or `__base`; with the committer `magic` its mode is `append`; it has at
-/// most 1,000 tasks; a request that got no answer is sent again up to 9 times; its uploads are completed in
-/// 1 to 8 lanes; and a stamp is below 10^18.
+/// What a job's driver and attempts know of the job. It keeps these bounds of a script:
+///
+/// - the job's id has 1 to 64 letters, digits, `_` and `-`
+/// - the destination's key has 1 to 400 bytes, no CR at its end, and no element `__magic` or
+///   `__base`
+/// - with the committer `magic` the conflict mode is `append`
+/// - it has at most 1,000 tasks
+/// - a request without an answer is sent again up to 9 times
+/// - the uploads are completed in 1 to 8 lanes
+/// - the stamp is below 10^18
 #[derive(Drop)]
 pub struct JobPlan {
     pub job: Text,
@@ -57,11 +62,12 @@ impl Model for JobPlan {
     }) };
 }
 
-/// What an attempt knows and has done: of which job, task and attempt it is, its files, the sizes in
-/// bytes that its parts are cut by (the script's block, at most 67,108,864 and 0 for none, and the
-/// store's minimum, 1 to 5,242,880), and what it knows by its own sendings. Its task is below the job's number of tasks, and its own number is at most 99.
-/// Its files are at most 20,000 with 67,108,864 bytes together; each path is one that a script may give or
-/// that path made unique to the job, and stands once.
+/// What an attempt knows and has done: its job, its task's number and its own, its files, the sizes
+/// in bytes by which files are cut into parts, and what it knows from its own requests. `block` is
+/// the script's size of a part, at most 67,108,864; 0 means none. `minimum` is the store's minimum
+/// size of a part, 1 to 5,242,880. `task` is below the job's number of tasks, and `attempt` is at
+/// most 99. There are at most 20,000 files with 67,108,864 bytes together. Each path is one that a
+/// script may give, or such a path made unique to the job, and occurs once.
 #[derive(Drop)]
 pub struct TaskPlan {
     pub job: JobPlan,
@@ -100,7 +106,7 @@ impl Model for TaskPlan {
     }) };
 }
 
-/// Numbers of tasks, rising and each once.
+/// A set of task numbers, in rising order.
 #[derive(Drop)]
 pub struct TaskSet {
     held: BTreeSet<u32>,
@@ -115,7 +121,7 @@ impl Model for TaskSet {
 }
 
 impl TaskSet {
-    /// No tasks. Takes no memory.
+    /// An empty set. Takes no memory.
     pub fn new(alloc: Global) -> TaskSet
         ensures { result ≡ [] }
     {
@@ -124,14 +130,16 @@ impl TaskSet {
         }
     }
 
-    /// Whether a task is there. Takes no memory.
+    /// True if the task is in the set. Takes no memory.
     pub fn has(&self, task: u32) -> bool
         ensures { result ≡ has_task self.now task }
     {
         self.held.contains(&task)
     }
 
-    /// Adds a task, or changes nothing where it is there. After an error the set is as before.
+    /// Adds a task. Changes nothing if it is in the set already. If memory runs out, the set stays
+    /// as it
+    /// was.
     pub fn add(&mut self, task: u32) -> Result<(), AllocError>
         ensures ok { OnOk result (self.new ≡ insert_key nat_cmp self.old task) }
         ensures err { OnErr result (self.new ≡ self.old) }

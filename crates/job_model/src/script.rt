@@ -4,9 +4,9 @@ use path_keys::S3Path;
 use s3_types::{Committer, Fates, Mode, Text};
 use std::marker::Model;
 
-/// A job script: the job's head, its attempts with their files, and the events of its run. It keeps the
-/// bounds of `IsLegal`: those of its numbers, names and paths, and that each event is of the driver or a
-/// declared attempt.
+/// A job script: the job's head, its attempts with their files, and the events of its run. It keeps
+/// the bounds of `IsLegal`: on its numbers, names and paths, and that each event belongs to the
+/// driver or to a declared attempt.
 #[derive(Drop)]
 pub struct Script {
     /// The job's id.
@@ -15,19 +15,19 @@ pub struct Script {
     pub dest: S3Path,
     pub committer: Committer,
     pub mode: Mode,
-    /// Whether the job's id is put into the files' names.
+    /// True if the job's id is put into the names of the files.
     pub unique: bool,
     /// The number of tasks.
     pub tasks: u32,
-    /// How often a request that got no answer is sent again, 0 to 9.
+    /// How often a request without an answer is sent again, 0 to 9.
     pub retries: u32,
-    /// The size in bytes of an upload's parts, 0 for the store's minimum.
+    /// The size in bytes of an upload's parts; 0 means the store's minimum.
     pub block: u64,
-    /// How many lanes the job's commit completes its uploads in, 1 to 8.
+    /// The number of lanes in which the job's commit completes its uploads, 1 to 8.
     pub lanes: u32,
-    /// A number that `_SUCCESS` is to carry.
+    /// A number that `_SUCCESS` repeats.
     pub stamp: Option<u64>,
-    /// What becomes of each sending, by its number from 1.
+    /// The fates of the sends of the run: lost or slow, by their numbers from 1 on.
     pub fates: Fates,
     pub attempts: Attempts,
     pub events: EventList,

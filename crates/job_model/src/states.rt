@@ -3,7 +3,7 @@ ghost use Rattle.job_model.specs.Words.{life_word, stage_word};
 
 use std::fmt;
 
-/// Whether an actor has an operation to go on with.
+/// Whether an actor runs an operation, is idle, or is dead.
 #[derive(Clone, Copy, PartialEq, Eq)]
 pub enum Life {
     Idle,
@@ -24,8 +24,8 @@ impl fmt::Display for Life {
     }
 }
 
-/// How far an actor has come. The driver's are all but `Writing` and `Written`, an attempt's all but
-/// `Set`.
+/// How far an actor has come. The driver has all stages but `Writing` and `Written`, an attempt all
+/// but `Set`.
 #[derive(Clone, Copy, PartialEq, Eq)]
 pub enum ActorStage {
     New,
@@ -56,7 +56,7 @@ impl fmt::Display for ActorStage {
     }
 }
 
-/// An actor's life and stage.
+/// The life and the stage of an actor.
 #[derive(Clone, Copy, PartialEq, Eq)]
 pub struct ActorState {
     pub life: Life,

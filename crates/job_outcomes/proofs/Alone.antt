@@ -1,4 +1,4 @@
--- The driver's operations do not ask what an attempt knows.
+-- The driver's operations do not depend on what an attempt knows.
 use Rattle.job_model.specs.Known.{Known}
 use Rattle.job_outcomes.specs.Alone.{GoAlone, at}
 use Rattle.job_protocol.specs.Cleanups.{Clean, clean_after, clean_asks}

@@ -40,7 +40,7 @@ use Rattle.std.specs.FinMap as fin
 use Rattle.job_model.specs.declared.ends.CleanEnd.TheVariants as cleans
 use Rattle.job_model.specs.declared.ends.OpEnd.TheVariants as ends
 
--- ---- it ends Done, or a request wore out
+-- ---- it ends Done, or a request ran out of retries
 
 abbrev Ends : CleanEnd → Type 0
 Ends e = (e ≡ cleans.StoreFault) ⊎ (e ≡ cleans.Done)
@@ -100,7 +100,7 @@ module _ (g : Setting) (a : Actor) (k : Known) (es : List Entry) (f : Follows (w
   -- ---- what it leaves
 
   module _ (j : IsLegal g.script) (s0 : Scene) where
-    -- where there is no bucket it lists for ever
+    -- Without a bucket it never gets past its first listing.
     abbrev Bare : Scene → Clean → Type 0
     Bare s (Walking found) = fin.get s.content.buckets w.dest.bucket ≡ None
     Bare s _ = ⊥
@@ -111,7 +111,7 @@ module _ (g : Setting) (a : Actor) (k : Known) (es : List Entry) (f : Follows (w
     abbrev Holds : Scene → Clean → Type 0
     Holds s t = Cleans s t ⊎ Bare s t
 
-    -- it hides nothing
+    -- It hides nothing from readers.
     shows : (s : Scene) (t : Clean) → Clears w s t → (r : Request) → clean_asks w t ≡ Some r
         → Same (view w.dest (apply s r).content) (view w.dest s.content)
     shows s (Sweeping (Listing keys)) h r e = hidden_shows j s r ReplyLost h.2 (subst (HidesAll w) (some_is e) (λ b q i. absurd i))

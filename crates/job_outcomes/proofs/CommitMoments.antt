@@ -43,7 +43,7 @@ use Rattle.std.specs.Option.{is_some, option_map}
 use Rattle.job_model.specs.declared.ends.CommitEnd.TheVariants as commits
 use Rattle.job_model.specs.declared.ends.Stage.TheVariants as stages
 
--- ---- the scene that is seen
+-- ---- the scene that the journal shows
 
 scene_is : (w : Script) (k : Times) (s : Seen) (es : List Entry) → (see_all w k s es).scene ≡ after_all s.scene es
 scene_is w k s [] = refl
@@ -77,7 +77,7 @@ module _ (w : Script) where
     | inr high ↦ let e : n ≡ t = omega arith in subst (λ v. is_some (p v) ≡ true) e (and_parts (picked_below p n) (is_some (p n)) h).1
   ]
 
-  -- once they are decided they are those at the end
+  -- If the picks are decided, they are those at the end.
   decided_end : (now end : Picks) → Towards now end → is_decided w end ≡ false → is_decided w now ≡ false
   decided_end now end h e = elim (true_or_false (is_decided w now)) [
     | inr no_one ↦ no_one
@@ -99,7 +99,7 @@ module _ (g : Setting) (j : IsLegal g.script) (k : Times) (opening : Content) (i
   grown : (before now : Picks) (c d : Commit) → PicksGrow w before now c d → (t : ℕ) → t < w.tasks → (now t ≡ before t) ⊎ (before t ≡ None)
   grown before now c d h t g = grind arith
 
-  -- the driver is at an operation of its own
+  -- The operation is one of the driver's.
   abbrev IsDriver : Operation → Type 0
   IsDriver (TheWrite t) = ⊥
   IsDriver (TheTaskCommit t) = ⊥
@@ -135,7 +135,7 @@ module _ (g : Setting) (j : IsLegal g.script) (k : Times) (opening : Content) (i
   abbrev Earlier : List Entry → Stand → Type 0
   Earlier es x = (m : ℕ) → m ≤ length es → Towards w (seen w k opening es m).picks x.seen.picks
 
-  -- with one more entry that leaves what is picked
+  -- One more entry that changes no pick.
   earlier_more : (fs : List Entry) (y : Stand) (e : Entry) → Runs g k opening fs y → Earlier fs y
       → ((t : ℕ) → t < w.tasks → ((see w k y.seen e).picks t ≡ y.seen.picks t) ⊎ (y.seen.picks t ≡ None))
       → (m : ℕ) → m ≤ length (fs ++ e ∷ []) → Towards w (seen w k opening (fs ++ e ∷ []) m).picks (see w k y.seen e).picks
@@ -203,7 +203,7 @@ module _ (g : Setting) (j : IsLegal g.script) (k : Times) (opening : Content) (i
           by _ is d b = absurd (false_true refl b)
 
   module _ (es : List Entry) (x : Stand) (run : Runs g k opening es x) (more : List Entry) (none : NoneRead w more) where
-    -- at each moment behind it the picks are those of its end
+    -- At each moment after it the picks are those of its end.
     towards : (m : ℕ) → Towards w (seen w k opening (es ++ more) m).picks x.seen.picks
     towards m t l = elim (cases_lt (length es) m) [
       | inr low ↦

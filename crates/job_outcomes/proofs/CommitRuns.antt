@@ -65,7 +65,7 @@ module _ (g : Setting) (j : IsLegal g.script) (k : Times) (opening : Content) (i
   abbrev Stood : Stand → Type 0
   Stood x = (c : Commit) → x.driver ≡ Some (TheCommit c) → CommitStands g x c
 
-  -- ---- as it begins
+  -- ---- its first state
 
   first_stand : (y : Stand) (missing : Option ℕ) → ((t : ℕ) → y.seen.picks t ≡ None) → y.commit ≡ []
       → CommitStands g y (commit_start w missing)
@@ -134,7 +134,7 @@ module _ (g : Setting) (j : IsLegal g.script) (k : Times) (opening : Content) (i
       (check_unsent g k opening j is_opening es x runs t d))) (λ u e. absurd cc) (step w.retries (check_after w) t o) e
   driver_on es x _ n r o runs d asked timely few honest old v e = absurd cc
 
-  -- ---- entries of others, and what begins beside it
+  -- ---- entries of others, and operations that begin beside it
 
   same_stand : (x y : Stand) → ((t : ℕ) → y.seen.picks t ≡ x.seen.picks t) → y.commit ≡ x.commit → (c : Commit) → CommitStands g x c
       → CommitStands g y c
@@ -159,7 +159,7 @@ module _ (g : Setting) (j : IsLegal g.script) (k : Times) (opening : Content) (i
       refl c (h c e))
       (λ es x n r o run f h c e. same_stand x _ (λ t. refl) refl c (h c e))
 
-  -- ---- the marker stands, where no stranger sends
+  -- ---- the marker exists, if no stranger sends
 
   abbrev Marked : Stand → Type 0
   Marked x = (c : Commit) → x.driver ≡ Some (TheCommit c) → WhereCommitted (is_marked w x.seen ≡ true) c
@@ -229,7 +229,7 @@ module _ (g : Setting) (j : IsLegal g.script) (x : Stand) (end : CommitEnd) (h :
         (subst (λ v. AllSound u (commit_start u v) x.commit) e h.sound) end
         (ap (λ v. commit_over (run (commit_tells u) (commit_start u v) x.commit)) (sym e) ∙ ap commit_over h.leads) in
         (o.0, o.1, by_worn e o.0 o.2)
-    -- with a missing task nothing was sent
+    -- If a task is missing, nothing was sent.
     | inr t ↦
         let none : x.commit ≡ [] = no_entry u (commits.Missing t.0) x.commit (subst
         (λ v. Follows (commit_asks u) (commit_tells u) (commit_start u v) x.commit) t.1 h.follows) in

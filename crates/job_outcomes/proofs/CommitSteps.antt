@@ -1,4 +1,4 @@
--- One entry of the driver's commit, and where it leads with the sets that it holds.
+-- One entry of the driver's commit, and where it leads with the sets that the commit has read.
 use Rattle.basics.proofs.Members.{none_some, some_is, text_true}
 use Rattle.job_facts.proofs.Shapes.{puts}
 use Rattle.job_facts.proofs.Turning.{uploads_apart}
@@ -59,7 +59,7 @@ module _ (w : Script) where
   pub at_start : (missing : Option ℕ) → IsAt w missing [] (commit_start w missing)
   at_start missing = grind arith
 
-  -- an answer to a read is told elsewhere
+  -- The outcome is an answer to a read.
   abbrev pub IsRead : Commit → Outcome → Type 0
   IsRead (Fetching sets n) (Answered x) = Unit {0}
   IsRead _ _ = ⊥
@@ -87,12 +87,12 @@ module _ (w : Script) where
 
 -- ---- how it may end
 
--- where it is over its end passes
+-- If the commit is over, P holds of its end.
 abbrev pub EndsBy : (CommitEnd → Type 0) → Commit → Type 0
 EndsBy P (CommitOver end) = P end
 EndsBy P _ = Unit {0}
 
--- the marker is answered
+-- The outcome is an answer to the put of the marker.
 abbrev pub IsMarkAnswer : Commit → Outcome → Type 0
 IsMarkAnswer (Marking s n) (Answered x) = Unit {0}
 IsMarkAnswer _ _ = ⊥
@@ -119,7 +119,7 @@ module _ (w : Script) (P : CommitEnd → Type 0) (fault : (t : Stage) → P (com
   pub by_tells : (c : Commit) (o : Outcome) → (IsMarkAnswer c o → P commits.Committed) → EndsBy P c → EndsBy P (commit_tells w c o)
   by_tells c o mark h = by_leads (leads w c o) mark h
 
--- ---- which task it missed
+-- ---- the task that was missing
 
 abbrev NotMissing : CommitEnd → Type 0
 NotMissing (commits.Missing t) = ⊥
@@ -172,7 +172,7 @@ module _ (w : Script) (k : Times) (s : Seen) (there : HasBucket s.scene.content 
         (layout.success_key w.dest.key) (layout.success_key w.dest.key) refl,
   ) refl
 
-  -- the answer to the put of the marker
+  -- The answer to the put of the marker.
   put_stands : (sets : Sets) (x : ℕ) → commit_asks w (Marking sets x) ≡ Some r → (y : Reply)
       → is_marked w (see w k s (driver_entry n r (Answered y))) ≡ true
   put_stands sets x asked y =
@@ -182,7 +182,7 @@ module _ (w : Script) (k : Times) (s : Seen) (there : HasBucket s.scene.content 
       (sym (some_is asked)) ∙ (puts w s.scene there.0 there.1 (layout.success_key w.dest.key) (mark_text w (picks_of sets)) None).here)
       ∙ ap (λ b. b && true) (or-true s.put_mark)
 
-  -- after one more entry of the commit
+  -- After one more entry of the commit.
   where_next : (P : Outcome → Type 0) → ((sets : Sets) (x : ℕ) → commit_asks w (Marking sets x) ≡ Some r → (y : Reply) → P (Answered y))
       → (c : Commit) → commit_asks w c ≡ Some r → (o : Outcome) → WhereCommitted (P o) (commit_tells w c o)
   where_next P put (Marking sets x) asked (Answered y) = put sets x asked y
@@ -206,7 +206,7 @@ upload_of (CompleteUpload bucket key id parts) = id
 upload_of _ = 0
 
 module _ (w : Script) (minimum : ℕ) (s : Seen) (m : Told) (j : IsLegal w) (f : Hold w minimum s m) where
-  -- uploads that it completes are two requests
+  -- The completions of two of its uploads are two requests.
   apart_of : (sets : Sets) → FitsJobCommit w minimum m.publish_sent m.drawn (Marking sets 0) → RequestsApart sets
   unfolding upload_of
   apart_of sets reads = λ i n low high e. uploads_apart w minimum s m j f sets reads i n low high
@@ -216,7 +216,7 @@ module _ (w : Script) (minimum : ℕ) (s : Seen) (m : Told) (j : IsLegal w) (f :
   sound_now (Completing sets x xs finished) fits = apart_of sets fits
   sound_now _ fits = tt
 
--- one more entry, where all before it were sound
+-- One more entry, if the commit was sound before it.
 pub sound_more : (w : Script) (c : Commit) (es : List Entry) (e : Entry) → AllSound w c es → Sound (run (commit_tells w) c es)
     → AllSound w c (es ++ e ∷ [])
 sound_more w c [] e h s = (s, tt)

@@ -1,4 +1,4 @@
--- Entries whose events never fall, cut before an event and behind one.
+-- Entries whose event numbers never fall, cut before an event and after one.
 use Rattle.basics.proofs.Members.{true_or_false}
 use Rattle.basics.proofs.Naturals.{above_so, at_most_so, below_is, below_not}
 use Rattle.job_outcomes.specs.EventRows.{EventRows}
@@ -80,13 +80,13 @@ pub honest_back : (s : Scene) (xs ys : List Entry) → AreHonest s (xs ++ ys) �
 honest_back s [] ys h = h
 honest_back s (x ∷ xs) ys h = honest_back (effect s x.request x.outcome) xs ys h.1
 
--- the moment behind a front of a journal
+-- The moment after a front of a journal.
 behind : (opening : Content) (es xs ys : List Entry) → xs ++ ys ≡ es → moment opening es (length xs) ≡ after_all (opening_scene opening) xs
 behind opening es xs ys e = ap (λ l. after_all (opening_scene opening) (take (length xs) l)) (sym e) ∙ ap
     (after_all (opening_scene opening)) (take-append_seam xs ys)
 
 module _ (opening : Content) (k i : ℕ) (es : List Entry) (l : k ≤ i + 1) (rising : IsRising es) where
-  -- the entries up to the second event are those before the first, and those between
+  -- The entries up to the second event are those before the first one and those between.
   cut : before k es ++ since k (until i es) ≡ until i es
   cut = ap (λ xs. xs ++ since k (until i es)) (sym (earlier k i es l)) ∙ parts k (until i es) (rises i es rising)
 
@@ -106,7 +106,7 @@ module _ (opening : Content) (k i : ℕ) (es : List Entry) (l : k ≤ i + 1) (ri
       ap (after_all (opening_scene opening)) cut
       ∙ sym (behind opening es (until i es) (since (i + 1) es) (front i es rising))
 
--- ---- an actor's
+-- ---- the entries of one actor
 
 swapped : (p q : Entry → Bool) (es : List Entry) → filter p (filter q es) ≡ filter q (filter p es)
 swapped p q [] = refl

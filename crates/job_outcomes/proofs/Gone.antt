@@ -1,4 +1,4 @@
--- In a run, until the driver's abort or clean has begun an attempt's write or commit finds nothing gone, and a commit that is done has
+-- In a run, an attempt's write or commit finds nothing gone until the driver's abort or clean has begun, and a commit that is done has
 -- published.
 use Rattle.basics.proofs.Members.{false_true, none_some, some_is, true_or_false}
 use Rattle.job_facts.specs.Standing.{CommitStandsBy}
@@ -49,7 +49,7 @@ module _ (g : Setting) (k : Times) (opening : Content) (j : IsLegal g.script) (i
   cleaned_so c es x run at = ap (λ (m : Told). m.cleaned) (tells_so g k opening j is_opening es x run) ∙ cleaned_is g.script es
       (nothing_told x.told.cleans_at) ∙ ap (λ v. has_cleaned v es) at
 
-  -- ---- no operation is so as it begins
+  -- ---- no operation begins in such a state
 
   write_begun : (c : Committer) (fs : List File) (name : List ℕ)
       → option_map ends.Task (writes.write_over (writes.write_start_by c fs)) ≡ Some (ends.Task (tasks.Gone name)) → ⊥
@@ -76,7 +76,7 @@ module _ (g : Setting) (k : Times) (opening : Content) (j : IsLegal g.script) (i
   done_late spare repeated b ops.Clean m s = none_some refl s
   done_late spare repeated b _ m s = absurd cc
 
-  -- ---- so is it at the attempt's last entry
+  -- ---- the same in the run up to the attempt's last entry
 
   pub gone_cleaned : (es : List Entry) (x : Stand) → Runs g k opening es x → (a : Who) (op : Operation) (name : List ℕ)
       → x.attempts a ≡ Some op → is_abort op ≡ false → over op ≡ Some (ends.Task (tasks.Gone name))

@@ -1,4 +1,4 @@
--- The first file that is shown among the keys below a destination, as they are listed page by page.
+-- The first visible file among the keys below a destination, as they are listed page by page.
 use Rattle.basics.proofs.Less.{equal_self, irrefl, le_lt, lt_not}
 use Rattle.basics.proofs.Members.{false_true, none_some, some_is, true_or_false}
 use Rattle.basics.specs.Members.{IsIn, RisesFrom, last_from}
@@ -18,7 +18,7 @@ use Rattle.std.proofs.lemmas.Cmp.{nat_cmp_total}
 use Rattle.std.specs.Ordering.{is_lt, nat_cmp, ordering_then}
 use Rattle.store_frame.proofs.Flat.{behind}
 
--- a common front does not matter
+-- A common front does not change the order of two texts.
 pub front_cmp : (pre p q : List ℕ) → text_cmp (pre ++ p) (pre ++ q) ≡ text_cmp p q
 front_cmp [] p q = refl
 front_cmp (x ∷ pre) p q = ap (λ o. ordering_then o (text_cmp (pre ++ p) (pre ++ q))) (equal_self (nat_cmp x x) (nat_cmp_total.antisymm x x))
@@ -36,13 +36,13 @@ last_top k (q ∷ ks) h = elim (true_or_false (lt k (last_from q ks))) [
   | inr e ↦ absurd (false_true (last_top q ks h.1) (le_lt text_total (last_from q ks) k q e h.0))
 ]
 
--- none of them is behind the last
+-- None of them is later than the last one.
 pub last_of_all : (l : List ℕ) (ks : List (List ℕ)) → RisesFrom l ks → (k : List ℕ) → IsIn k ks → lt (last_from l ks) k ≡ false
 last_of_all l [] h k i = absurd i
 last_of_all l (q ∷ ks) h k (inl e) = ap (λ v. lt (last_from q ks) v) e ∙ last_top q ks h.1
 last_of_all l (q ∷ ks) h k (inr i) = last_of_all q ks h.1 k i
 
--- the first one shown is among the later ones, where none of the earlier is
+-- If no earlier key shows a file, the first one that does is among the later keys.
 pub shown_later : (w : Script) (ks more : List (List ℕ)) → first_shown w ks ≡ None → first_shown w (ks ++ more) ≡ first_shown w more
 shown_later w [] more h = refl
 shown_later w (k ∷ ks) more h = by (shown_path (relative_in w.dest.key k)) h (λ g. shown_later w ks more g)
@@ -64,7 +64,7 @@ module _ (w : Script) (j : IsLegal w) where
       (below_is w.dest.key q (some_dest j)) refl)
       ∙ ap (λ b. cond b (Some q) None) h
 
-  -- a key below the destination at which a file is shown
+  -- A key below the destination at which a file is visible.
   pub record IsShownAt (k p : List ℕ) : Type 0 where
     pub is : k ≡ below w.dest.key p
     pub file : is_file_path p ≡ true
@@ -87,11 +87,11 @@ module _ (w : Script) (j : IsLegal w) where
             f.1;
       }
 
-  -- keys are in the order of their paths
+  -- Keys are in the order of their paths.
   pub below_cmp : (q p : List ℕ) → text_cmp (below w.dest.key q) (below w.dest.key p) ≡ text_cmp q p
   below_cmp q p = grind (arith, below_is, some_dest, front_cmp)
 
-  -- ---- the first that is shown
+  -- ---- the first visible file
 
   or_some : (o n : Option (List ℕ)) (p : List ℕ) → or_next o n ≡ Some p → (o ≡ Some p) ⊎ ((o ≡ None) × (n ≡ Some p))
   or_some o n p h = grind arith
@@ -99,7 +99,7 @@ module _ (w : Script) (j : IsLegal w) where
   or_none : (o n : Option (List ℕ)) → or_next o n ≡ None → (o ≡ None) × (n ≡ None)
   or_none o n h = grind arith
 
-  -- none of these is shown
+  -- None of these keys shows a file.
   pub unseen_in : (ks : List (List ℕ)) → first_shown w ks ≡ None → (k : List ℕ) → IsIn k ks → seen_at k ≡ None
   unseen_in [] h k i = absurd i
   unseen_in (q ∷ ks) h k (inl e) = ap seen_at e ∙ (or_none (seen_at q) (first_shown w ks) h).0

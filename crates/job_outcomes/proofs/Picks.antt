@@ -1,4 +1,4 @@
--- The picks that are seen after one more entry of the driver's commit.
+-- The picks that the journal shows after one more entry of the driver's commit.
 use Rattle.basics.proofs.Lists.{slice_last}
 use Rattle.basics.proofs.Members.{none_or_some, none_some, same_or_not, some_is}
 use Rattle.job_facts.proofs.Reading.{reads_it, reads_other}
@@ -57,14 +57,14 @@ module _ (g : Setting) (j : IsLegal g.script) (k : Times) (s : Seen) (m : Told) 
   abbrev after : Request → Outcome → Picks
   after r o = (see w k s (driver_entry n r o)).picks
 
-  -- the commit after one more entry
+  -- The commit after one more entry.
   pub record After (missing : Option ℕ) (c : Commit) (r : Request) (o : Outcome) : Type 0 where
     pub sets : Sets
     pub picks : ArePicks w (after r o) sets
     pub at : IsAt w missing sets (commit_tells w c o)
     pub grows : PicksGrow w s.picks (after r o) c (commit_tells w c o)
 
-  -- ---- what is no read
+  -- ---- an entry that is no read
 
   -- ---- a read
 
@@ -93,7 +93,7 @@ module _ (g : Setting) (j : IsLegal g.script) (k : Times) (s : Seen) (m : Told) 
       | inr ne ↦ other t l ne ∙ agree t l ∙ sym (ap (option_map (λ (v : PendingSet). v.attempt)) (slice_other sets x t ne))
     ]
 
-    -- where none stands none has published
+    -- If there is no set, nobody has published.
     none_published : sets_at w s.scene (length sets) ≡ None → s.last (length sets) ≡ None
     none_published e = elim (none_or_some (s.last (length sets))) [
       | inl none ↦ none
@@ -109,7 +109,7 @@ module _ (g : Setting) (j : IsLegal g.script) (k : Times) (s : Seen) (m : Told) 
     abbrev IsRefused : Reply → Type 0
     IsRefused x = (x ≡ Refused NoSuchKey) ⊎ (x ≡ Refused NoSuchFile)
 
-    -- what stands is not refused
+    -- A read of a set that exists is not refused.
     not_refused : (c : Committer) (b : List ℕ) → set_at c w s.scene (length sets) ≡ Some b
         → IsRefused (answer s.scene (set_request c w (length sets))) → ⊥
     not_refused Magic b e x =
@@ -124,7 +124,7 @@ module _ (g : Setting) (j : IsLegal g.script) (k : Times) (s : Seen) (m : Told) 
     not_refused c b e x = let is : answer s.scene (set_request c w (length sets)) ≡ read_answer (Some b) = ap read_answer e in elim x
         [ inl z ↦ absurd cc | inr z ↦ absurd cc ]
 
-    -- the answer brings nothing, and no pick, or the set of the last publisher
+    -- The answer brings no set, and nobody has published; or it brings the set of the last publisher.
     abbrev Brings : Reply → Type 0
     Brings y = ((set_read y ≡ None) × (s.last (length sets) ≡ None))
         ⊎ ((x : PendingSet) × (set_read y ≡ Some x) × (s.last (length sets) ≡ Some x.attempt))
@@ -141,7 +141,7 @@ module _ (g : Setting) (j : IsLegal g.script) (k : Times) (s : Seen) (m : Told) 
       | inr there ↦ inr (files_set w there.set.by there.set.commits (knowing (m.drawn there.set.by)), there.is_read, there.set.latest)
     ]
 
-    -- so the commit goes on with one more set, and one more pick, or with the same
+    -- So the commit goes on with one more set and one more pick, or with the same ones.
     read_next : (missing : Option ℕ) (x : ℕ) → missing ≡ None → (y : Reply) → y ≡ answer s.scene r
         → After missing (Fetching sets x) r (Answered y)
     read_next missing x m y e = elim (subst Brings (sym e) brings) [

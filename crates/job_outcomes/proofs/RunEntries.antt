@@ -1,4 +1,4 @@
--- Whose the entries of a run are.
+-- Which entries of a run belong to which actor and operation.
 use Rattle.basics.proofs.Members.{false_true, none_some, some_is}
 use Rattle.job_facts.proofs.Whose.{same_or_another, who_false, who_here, who_other, who_true}
 use Rattle.job_facts.specs.Told.{driver_entry, entry, known, put_who, strange_entry}
@@ -35,7 +35,7 @@ use Rattle.job_model.specs.declared.events.Op.TheVariants as ops
 
 -- ---- up to an actor's last entry
 
--- an entry of its own is the last, and another's is not
+-- An entry of the actor itself is the last one; an entry of another actor is not.
 last_own : (a : Actor) (es : List Entry) (e : Entry) → same_actor e.actor a ≡ true → until_last a (es ++ e ∷ []) ≡ es ++ e ∷ []
 last_own a [] e h = ap (λ b. cond (b || false) (e ∷ []) []) h
 last_own a (x ∷ es) e h =
@@ -53,7 +53,7 @@ last_other a (x ∷ es) fs h =
     ap (λ b. cond b (x ∷ until_last a (es ++ fs)) []) any ∙ ap (λ l. cond (list_any (λ y. same_actor y.actor a) (x ∷ es)) (x ∷ l) [])
     (last_other a es fs h)
 
--- others follow it
+-- Other entries follow it.
 pub behind_last : (a : Actor) (es : List Entry) → (more : List Entry) × (until_last a es ++ more ≡ es)
 behind_last a [] = ([], refl)
 behind_last a (e ∷ es) =
@@ -71,7 +71,7 @@ module _ (g : Setting) (k : Times) (opening : Content) where
   abbrev since_commit : List Entry → List Entry
   since_commit es = filter (λ e. is_begun k.commit e.event) (by_actor Driver es)
 
-  -- one more of the driver's, and one of an attempt
+  -- One more entry of the driver, and one of an attempt.
   driver_more : (es : List Entry) (n : ℕ) (r : Request) (o : Outcome)
       → since_commit (es ++ driver_entry n r o ∷ []) ≡ since_commit es ++ cond (is_begun k.commit n) (driver_entry n r o ∷ []) []
   driver_more es n r o = grind (arith, filter-append)
@@ -108,7 +108,7 @@ module _ (g : Setting) (k : Times) (opening : Content) where
       (λ es x a op n r o run set at asked honest h. other_stood x.driver es x.commit (entry a n r o) refl h)
       (λ es x n r o run f h. other_stood x.driver es x.commit (strange_entry n r o) refl h)
 
-  -- ---- where no attempt has begun anything
+  -- ---- if no attempt has begun anything
 
   abbrev Alone : List Entry → Stand → Type 0
   Alone es x = AllBy Driver (own es) ⊎ ((a : Who) × (op : Operation) × (x.attempts a ≡ Some op))

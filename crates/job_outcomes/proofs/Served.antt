@@ -1,5 +1,5 @@
--- What the driver's commit is answered in every run: a completion finds no upload only where an earlier sending of it was lost, and a read
--- of a set finds it where its task has a last publisher.
+-- How the requests of the driver's commit are answered in every run. A completion finds no upload only if an earlier send of it was lost,
+-- and a read finds the set of each task that was published.
 use Rattle.basics.proofs.Members.{false_true, none_some, some_is, true_or_false}
 use Rattle.job_facts.proofs.Held.{nth_of, of_sets}
 use Rattle.job_facts.proofs.Reading.{reads_it}
@@ -63,7 +63,7 @@ use Rattle.std.proofs.lemmas.List.Folds.{list_any-append}
 use Rattle.std.specs.List.{list_any}
 use Rattle.job_model.specs.declared.ends.Stage.TheVariants as stages
 
--- ---- a fact of each of a list's members, by those before it
+-- ---- a fact about each member of a list, by those before it
 
 abbrev pub Each : {X : Type 0} → (List X → X → Type 0) → List X → Type 0
 Each {X} P xs = (before : List X) (x : X) (later : List X) → xs ≡ before ++ x ∷ later → P before x
@@ -82,7 +82,7 @@ each_more P (w ∷ xs) z old new (y ∷ before) x later e =
     subst (λ v. P (v ∷ before) x) is (each_more (λ b. P (w ∷ b)) xs z (λ b v l q. old (w ∷ b) v l (ap (λ t. w ∷ t) q)) new before x later
     rest)
 
--- ---- sendings that were lost
+-- ---- sends that were lost
 
 lost_before : (r : Request) (es : List Entry) (e : Entry) → was_lost r es ≡ true → was_lost r (es ++ e ∷ []) ≡ true
 lost_before r es e h = list_any-append (λ v. same_request r v.request && is_lost v.outcome) es (e ∷ []) ∙ ap
@@ -91,7 +91,7 @@ lost_before r es e h = list_any-append (λ v. same_request r v.request && is_los
 lost_here : (r : Request) (es : List Entry) (e : Entry) → r ≡ e.request → is_lost e.outcome ≡ true → was_lost r (es ++ e ∷ []) ≡ true
 lost_here r es e h g = grind (arith, same_self, list_any-append, or-true)
 
--- each turn with a sending lost has one among these entries
+-- For each turn with a lost send, these entries have that send.
 abbrev TurnsLost : List Entry → Sets → List Turn → Type 0
 TurnsLost es sets xs = (x : Turn) → In x xs → x.lost ≡ true → was_lost (completion (nth (all_commits sets) x.number)) es ≡ true
 
@@ -120,7 +120,7 @@ module _ (w : Script) (es : List Entry) (e : Entry) where
   lost_leads (completes {sets = sets} {x = y} {xs = ys} q) is asked h = λ z i l. elim
       (in_append z ys (follow w.lanes (length (all_commits sets)) y.number) (subst (In z) q i)) [
         | inl old ↦ lost_before (completion (nth (all_commits sets) z.number)) es e (h z (inr old) l)
-        -- the lane's next upload was not sent
+        -- The lane's next upload was not sent yet.
         | inr new ↦ elim (follow_cases w.lanes (length (all_commits sets)) y.number) [
           | inl h ↦ elim (subst (In z) h.1 new) [
             | inl q ↦ absurd (false_true (sym (ap (λ (v : Turn). v.lost) q)) l)
@@ -144,7 +144,7 @@ module _ (w : Script) (es : List Entry) (e : Entry) where
 -- ---- an answer to a completion
 
 module _ (w : Script) (minimum : ℕ) (s : Seen) (m : Told) (j : IsLegal w) (h : Hold w minimum s m) (gone : Gone w s.scene.content m) where
-  -- a refused one found no upload, and a sending of it was lost
+  -- A refused completion found no upload, and a send of it was lost.
   refused_lost : (sets : Sets) (x : Turn) (xs : List Turn) (finished : List ℕ) → Reads w minimum m.publish_sent m.drawn sets
       → Tabled w (Completing sets x xs finished) → Turns m (Completing sets x xs finished)
       → (why : Refusal) → Refused why ≡ answer s.scene (completion (nth (all_commits sets) x.number)) → (why ≡ NoSuchUpload)

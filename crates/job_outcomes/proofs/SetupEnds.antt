@@ -63,7 +63,7 @@ module _ (w : Script) (j : IsLegal w) (first : Scene) where
   abbrev lt : List ℕ → List ℕ → Bool
   lt a b = is_lt (text_cmp a b)
 
-  -- ---- what is shown
+  -- ---- what readers see
 
   record HasFile (q : List ℕ) : Type 0 where
     pub file : is_file_path q ≡ true
@@ -83,13 +83,13 @@ module _ (w : Script) (j : IsLegal w) (first : Scene) where
   shows_file q x f e = ap (λ b. is_some (cond b (option_map (λ (y : Object). y.bytes) (at_key w c (below w.dest.key q))) None)) f ∙ ap
       (λ o. is_some (option_map (λ (y : Object). y.bytes) o)) e
 
-  -- ---- how far it has come
+  -- ---- its progress
 
-  -- it may go on to delete
+  -- It may go on to delete.
   abbrev Passed : Type 0
   Passed = IsFree w c × (checks_all w.committer w.mode ≡ true → (p : List ℕ) → view w.dest c p ≡ None)
 
-  -- no file is shown at the keys so far, and all others are behind them
+  -- No file is visible at the keys so far, and all other keys are later.
   record Looked (keys : List (List ℕ)) : Type 0 where
     pub cover : ThoseOrBehind w (dest_prefix w) all_go c keys
     pub unseen : first_shown w keys ≡ None
@@ -152,7 +152,7 @@ module _ (w : Script) (j : IsLegal w) (first : Scene) where
       ]
     ]
 
-    -- each file that is shown is at a key behind those so far
+    -- Each visible file is at a later key than those so far.
     shown_behind : (q : List ℕ) → (f : HasFile q) → lt (last_of keys) (below w.dest.key q) ≡ true
     shown_behind q f = elim (looked.cover (below w.dest.key q) f.object (dest_below j q) refl f.stands) [
       | inl i ↦ absurd (none_some (unseen_in w j keys looked.unseen (below w.dest.key q) i) (seen_below w j q f.file))
@@ -212,7 +212,7 @@ module _ (w : Script) (j : IsLegal w) (first : Scene) where
 
   -- ---- every answer
 
-  -- where the bucket is there no answer says that it is not
+  -- If the bucket exists, no answer says that it does not.
   found_bucket : (s : Scene) (q r : Request) → q ≡ r → lacks_bucket (answer s q) ≡ false → (x : Reply) → x ≡ answer s r → (next : Setup)
       → Holds (apply s r) next → Holds (apply s r) (if_bucket x next)
   found_bucket s q r is has x e next h = subst (λ b. Holds (apply s r) (cond b (SetupOver setups.NoSuchBucket) next))

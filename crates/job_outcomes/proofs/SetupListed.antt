@@ -29,7 +29,7 @@ module _ (w : Script) where
   abbrev checks : Bool
   checks = checks_all w.committer w.mode
 
-  -- ---- what its pages have listed as it goes on
+  -- ---- what its pages have listed so far
 
   abbrev Listed : List (List ℕ) → Setup → Type 0
   Listed keys Heading = keys ≡ []
@@ -82,14 +82,14 @@ module _ (w : Script) where
   abbrev after : Retried Setup → Outcome → Retried Setup
   after = step w.retries (setup_after w)
 
-  -- nothing is sent behind a request that wore out
+  -- Nothing is sent after a request that ran out of retries.
   worn_over : (es : List Entry) → Follows (wants_of (setup_asks w)) after (fresh w.retries (SetupOver setups.StoreFault)) es
       → (e : SetupEnd) → setup_over (run after (fresh w.retries (SetupOver setups.StoreFault)) es).operation ≡ Some e
       → e ≡ setups.StoreFault
   worn_over [] f e is = sym (some_is is)
   worn_over (x ∷ es) f e is = absurd (none_some refl f.0)
 
-  -- one that got no answer
+  -- A request that got no answer.
   missed : (keys : List (List ℕ)) (m : Setup) (r : Request) (repeated : Bool) (es : List Entry) (e : SetupEnd)
       → ((t : Retried Setup) → Listed keys t.operation → Follows (wants_of (setup_asks w)) after t es
       → setup_over (run after t es).operation ≡ Some e

@@ -1,4 +1,4 @@
--- Picks that are the same of all tasks share the same path.
+-- Picks that are the same for all tasks have the same shared path.
 use Rattle.job_facts.proofs.Wanted.{same_wanted}
 use Rattle.job_model.specs.Files.{has_path}
 use Rattle.job_model.specs.JobScript.{Script}

@@ -43,11 +43,11 @@ use Rattle.job_protocol.specs.Writes as writes
 use Rattle.job_protocol.specs.TaskCommits as commits
 use Rattle.job_protocol.specs.TaskAborts as aborts
 
--- a fault, or an end that may be
+-- The end is a fault, or one that the operation may have.
 abbrev Ends : Op → Script → Who → List Entry → Bool → TaskEnd → Type 0
 Ends op w a all sent e = (e ≡ tasks.StoreFault) ⊎ TaskMay op w a all sent true e
 
--- of an attempt, with all entries of its operation, and whether it has sent its publishing request
+-- For an attempt, all entries of its operation, and whether it has sent its publishing request.
 module _ (w : Script) (a : Who) (all : List Entry) (sent : Bool) where
   -- ---- a write
 
@@ -63,7 +63,7 @@ module _ (w : Script) (a : Who) (all : List Entry) (sent : Bool) where
 
   -- ---- a commit
 
-  -- it is to check, and has found no key below the partitions before these
+  -- The commit must check, and has found no key below the partitions before these.
   record Checked (ds : List (List ℕ)) : Type 0 where
     pub checks : checks_partitions w.committer w.mode ≡ true
     pub before : List (List ℕ)
@@ -90,7 +90,7 @@ module _ (w : Script) (a : Who) (all : List Entry) (sent : Bool) where
   checking_so : (ds : List (List ℕ)) → Checked ds → Commit (commits.checking w a ds)
   checking_so ds h = grind arith
 
-  -- by the entry that tells the page
+  -- By the entry whose answer is the page.
   module _ (d : List ℕ) (ds : List (List ℕ)) (e : Entry) (is_entry : Contains all e)
       (asked : e.request ≡ ListPage w.dest.bucket (commits.partition_prefix w d) false [] 1) (h : Checked (d ∷ ds)) where
     listed_so : (page : List PageEntry) (more : Bool) → e.outcome ≡ Answered (Page page more) → WasListed w all d page
@@ -180,17 +180,17 @@ module _ (g : Setting) (a : Who) (all : List Entry) (sent : Bool) where
       (λ x o. abort_so g.script a all sent t.operation x h) (λ n. h) (λ n. inl refl)
   goes _ _ k e i asked h = absurd h
 
-  -- where it is over, its end is one of these
+  -- If the operation is over, its end is one of these.
   over_so : (op : Op) (m : Operation) → Op_is op g.script a all sent m → (e : TaskEnd) → over m ≡ Some (ends.Task e)
       → Ends op g.script a all sent e
   over_so op m h e g = grind arith
 
--- ---- as it begins it is not at fault
+-- ---- it does not begin at fault
 
 write_calm : (c : Committer) (fs : List File) → is_fault (option_map ends.Task (writes.write_over (writes.write_start_by c fs))) ≡ false
 write_calm c fs = grind arith
 
--- a commit is not even over
+-- A commit does not even begin as over.
 pub commit_going : (c : Committer) (w : Script) (a : Who) → commits.task_commit_over (commits.task_commit_start_by c w a) ≡ None
 commit_going c w a = grind arith
 
@@ -272,7 +272,7 @@ task_ends g t a op missing k m start es f e is =
     by (Some r) h d = fault_end e h
     by None h d = not_fault op g.script (who (Attempt t a)) es k.publish_sent e h d
 
--- ---- with what a run says of what is gone
+-- ---- with what a run says of files that are gone
 
 pub task_joined : (op : Op) (w : Script) (a : Who) (es : List Entry) (sent cleaned : Bool) (worn : Option Request) (e : TaskEnd)
     → TaskIs op w a es sent true worn e → ((op ≡ ops.Abort → ⊥) → (name : List ℕ) → e ≡ tasks.Gone name → cleaned ≡ true)

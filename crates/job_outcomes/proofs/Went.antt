@@ -1,4 +1,4 @@
--- An operation of replies, by entries in a row: what holds as it begins holds at its end, or a request of it wore out.
+-- An operation of replies, by entries in a row: what holds when it begins holds at its end, or a request of it ran out of retries.
 use Rattle.basics.proofs.Members.{none_some}
 use Rattle.retries.specs.Operation.{Follows, run}
 use Rattle.retries.specs.Retries.{Got, Item, Retried, WornOut, is_zero, step, unanswered_by, wants_of, wears, worn_in}
@@ -17,12 +17,12 @@ module _ {M : Type 0} (retries : ℕ) (asks : M → Option Request) (after : M �
     → holds (apply s r) (after m (Got x repeated)))
     (still : (s : Scene) (m : M) → holds s m → (r : Request) → asks m ≡ Some r → holds (apply s r) m)
     (stops : (m : M) → asks (after m WornOut) ≡ None) where
-  -- it holds then, or a request wore out and nothing followed
+  -- It holds at the end, or a request ran out of retries and nothing followed.
   abbrev pub Went : Retried M → Scene → List Entry → Type 0
   Went t s es = ((worn_in retries after t es ≡ None) × holds (after_all s es) (run (step retries after) t es).operation)
       ⊎ ((r : Request) × (m : M) × (worn_in retries after t es ≡ Some r) × ((run (step retries after) t es).operation ≡ after m WornOut))
 
-  -- after a request that wore out nothing is asked
+  -- After a request that ran out of retries, nothing is asked.
   nothing_more : (t : Retried M) (m : M) → t.operation ≡ after m WornOut → (es : List Entry)
       → Follows (wants_of asks) (step retries after) t es → es ≡ []
   nothing_more t m e [] f = refl
@@ -31,7 +31,7 @@ module _ {M : Type 0} (retries : ℕ) (asks : M → Option Request) (after : M �
   abbrev On : Retried M → Scene → List Entry → Type 0
   On t s es = holds s t.operation → Follows (wants_of asks) (step retries after) t es → AreHonest s es → Went t s es
 
-  -- a sending without an answer
+  -- A send without an answer.
   missed : (m : M) (spare : ℕ) (repeated : Bool) (s : Scene) (r : Request) (es : List Entry) → ((t : Retried M) → On t s es) → holds s m
       → Follows (wants_of asks) (step retries after) (unanswered_by retries after m repeated spare) es → AreHonest s es
       → ((cond (is_zero spare) (Some r) (worn_in retries after (unanswered_by retries after m repeated spare) es) ≡ None)

@@ -1,4 +1,4 @@
--- The driver's operations do not ask what an attempt knows: with it or without it they go on alike.
+-- The driver's operations do not depend on what attempts know: they go on alike with it and without it.
 use Rattle.job_model.specs.Known.{Known}
 use Rattle.job_protocol.specs.Cleanups.{Clean, clean_after, clean_asks}
 use Rattle.job_protocol.specs.JobCommits.{Commit, commit_asks, commit_tells}
@@ -10,11 +10,11 @@ use Rattle.s3_types.specs.declared.journal.Entry.{Entry}
 use Rattle.s3_types.specs.declared.request.Actor.{Actor}
 use Rattle.std.specs.Prelude.{List, ◌≡◌}
 
--- at this operation, with what is known
+-- An operation, together with what an attempt knows.
 abbrev pub at : Operation → Known → Running
 at op k = record { operation = op; known = k }
 
--- a driver's operation sends and ends the same, whatever an attempt knows
+-- Each operation of the driver sends the same requests and ends the same, whatever an attempt knows.
 pub record GoAlone : Type 0 where
   pub setup : (g : Setting) (a : Actor) (k : Known) (t : Retried Setup) (es : List Entry)
       → Follows (wants g a) (advance g a) (at (TheSetup t) k) es

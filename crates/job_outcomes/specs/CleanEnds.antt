@@ -17,17 +17,19 @@ use Rattle.std.specs.Prelude.{List, Option, Some, ◌≡◌}
 use Rattle.job_model.specs.declared.ends.CleanEnd.TheVariants as cleans
 use Rattle.job_model.specs.declared.ends.OpEnd.TheVariants as op_ends
 
--- as it begins
+-- An abort or clean of the job before its first request.
 abbrev pub cleaning : Setting → Known → Running
 cleaning g k = record { operation = TheClean (fresh g.script.retries clean_start); known = k }
 
--- how a job's abort or clean ends, for every committer
+-- How an abort or clean of the job ends, for every committer.
 pub record CleanEnds : Type 0 where
-  -- by its own entries alone, whatever was answered and whoever sent between them
+  -- By its own entries alone, whatever was answered and whoever sent between them, it ends with StoreFault if a request ran out of retries,
+  -- else Done.
   pub ends : (g : Setting) (a : Actor) (k : Known) (es : List Entry) → Follows (wants g a) (advance g a) (cleaning g k) es → (e : CleanEnd)
       → over (run (advance g a) (cleaning g k) es).operation ≡ Some (op_ends.Clean e)
       → (worn : Option Request) × WornFirst g.script.retries es worn × CleanIs worn e
-  -- where nobody else sends between them it leaves nothing and hides nothing, from whatever scene it began
+  -- If it ends Done and nobody else sends between its entries, it leaves nothing of the job and hides nothing from readers, whatever was
+  -- there when it began.
   pub cleaned : (g : Setting) → IsLegal g.script → (a : Actor) (k : Known) (s : Scene) (es : List Entry)
       → Follows (wants g a) (advance g a) (cleaning g k) es → AreHonest s es
       → over (run (advance g a) (cleaning g k) es).operation ≡ Some (op_ends.Clean cleans.Done) → Cleaned g.script s (after_all s es)

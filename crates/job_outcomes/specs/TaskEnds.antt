@@ -23,31 +23,31 @@ use Rattle.job_model.specs.declared.events.Op.TheVariants as ops
 use Rattle.job_model.specs.declared.ends.TaskEnd.TheVariants as tasks
 use Rattle.job_model.specs.declared.ends.OpEnd.TheVariants as op_ends
 
--- the operation is a task's abort
+-- The operation is the abort of a task.
 abbrev pub is_abort : Operation → Bool
 is_abort (TheTaskAbort t) = true
 is_abort _ = false
 
--- how an attempt's operations end, for every committer and mode
+-- How an attempt's operations end, for every committer and mode.
 pub record TaskEnds : Type 0 where
-  -- by its own entries alone, whatever was answered, as if the driver had cleaned up
+  -- By its own entries alone, whatever was answered, it has one of the ends that it may have after the driver has begun to clean up.
   pub ends : (g : Setting) (t a : ℕ) (op : Op) (r : Reports) (k : Known) (m : Operation) → start_of g (Attempt t a) op r k ≡ Some m
       → (es : List Entry) → Follows (wants g (Attempt t a)) (advance g (Attempt t a)) (record { operation = m; known = k }) es
       → (e : TaskEnd) → over (run (advance g (Attempt t a)) (record { operation = m; known = k }) es).operation ≡ Some (op_ends.Task e)
       → (worn : Option Request) × WornFirst g.script.retries es worn
       × TaskIs op g.script (record { task = t; attempt = a }) es k.publish_sent true worn e
-  -- in a run a write or commit finds something gone only where the driver's abort or clean has begun before the attempt's last entry
+  -- In a run, a write or commit finds something gone only if the driver's abort or clean began before the attempt's last entry.
   pub gone : (g : Setting) → IsLegal g.script → (k : Times) (opening : Content) → IsOpening g opening → (es : List Entry) (x : Stand)
       → Runs g k opening es x → (a : Who) (op : Operation) (name : List ℕ)
       → x.attempts a ≡ Some op → is_abort op ≡ false → over op ≡ Some (op_ends.Task (tasks.Gone name))
       → has_cleaned x.told.cleans_at (until_last (actor_of a) es) ≡ true
-  -- and a commit that is done has published where it has not
+  -- A commit that is done has published, unless the driver had begun to clean up before the attempt's last entry.
   pub published : (g : Setting) → IsLegal g.script → (k : Times) (opening : Content) → IsOpening g opening → (es : List Entry) (x : Stand)
       → Runs g k opening es x → (a : Who) (spare : ℕ) (repeated : Bool)
       → x.attempts a ≡ Some (TheTaskCommit (record { operation = TaskCommitOver tasks.Done; spare = spare; repeated = repeated }))
       → has_cleaned x.told.cleans_at (until_last (actor_of a) es) ≡ false → (n : ℕ)
       × WasPublished g.script opening es a.task a.attempt n
-  -- both together
+  -- Both together: the end is one that the operation may have, by whether the driver had begun to clean up.
   pub joined : (op : Op) (w : Script) (a : Who) (es : List Entry) (sent cleaned : Bool) (worn : Option Request) (e : TaskEnd)
       → TaskIs op w a es sent true worn e → ((op ≡ ops.Abort → ⊥) → (name : List ℕ) → e ≡ tasks.Gone name → cleaned ≡ true)
       → TaskIs op w a es sent cleaned worn e

@@ -1,4 +1,4 @@
--- A name with a job's id, by where it is cut, and a path by its last element.
+-- A name with a job's id, by the place where it is cut, and a path by its last element.
 use Rattle.basics.proofs.Counts.{some_part}
 use Rattle.basics.proofs.Pieces.{join_parts, one_part, parts_append}
 use Rattle.basics.specs.Parts.{is_other, parts_of}
@@ -16,7 +16,7 @@ other_not s b h = by (b == s) refl
     by true e = absurd (true≢false (sym h ∙ ap not e))
     by false e = refl
 
--- what stands before the first dot, and the dot with what follows it
+-- The name of a stem, a dot and an ending.
 pub dotted_name : (id name stem ending : List ℕ) → name ≡ stem ++ 46 ∷ ending → list_all (is_other 46) stem ≡ true
     → with_id id name ≡ stem ++ 45 ∷ (id ++ 46 ∷ ending)
 dotted_name id name stem ending e h = ap (with_id id) e ∙ by stem h
@@ -26,7 +26,7 @@ dotted_name id name stem ending e h = ap (with_id id) e ∙ by stem h
     by (x ∷ xs) h = let p = and_parts (is_other 46 x) (list_all (is_other 46) xs) h in rw (other_not 46 x p.0)
         (ap (λ (l : List ℕ). x ∷ l) (by xs p.1))
 
--- a name without a dot
+-- A name without a dot.
 pub dotless_name : (id name : List ℕ) → list_all (is_other 46) name ≡ true → with_id id name ≡ name ++ 45 ∷ id
 dotless_name id [] h = refl
 dotless_name id (x ∷ xs) h = let p = and_parts (is_other 46 x) (list_all (is_other 46) xs) h in rw (other_not 46 x p.0)
@@ -43,7 +43,7 @@ join_last e name [] = refl
 join_last e name (f ∷ es) = ap (λ (l : List ℕ). e ++ 47 ∷ l) (join_last f name es) ∙ sym
     (append_assoc e (47 ∷ join_with_byte 47 (f ∷ es)) (47 ∷ name))
 
--- a directory's path and a name
+-- The path of a directory and a name.
 pub path_with_name : (id path front name : List ℕ) → path ≡ front ++ 47 ∷ name → list_all (is_other 47) name ≡ true
     → unique_name path id ≡ front ++ 47 ∷ with_id id name
 path_with_name id path front name e h =
@@ -56,6 +56,6 @@ path_with_name id path front name e h =
     ∙ join_last some.0 (with_id id name) some.1
     ∙ ap (λ (l : List ℕ). l ++ 47 ∷ with_id id name) (ap (join_with_byte 47) (sym some.2) ∙ join_parts 47 front)
 
--- a name alone
+-- A path that is only a name.
 pub name_alone : (id name : List ℕ) → list_all (is_other 47) name ≡ true → unique_name name id ≡ with_id id name
 name_alone id name h = ap (λ (l : List (List ℕ)). join_with_byte 47 (with_id_last id l)) (one_part 47 name h)

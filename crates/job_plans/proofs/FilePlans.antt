@@ -1,4 +1,4 @@
--- The files of a legal script at the paths where they go: each path stands once.
+-- The files of a legal script at their paths below the destination: each path occurs once.
 use Rattle.basics.proofs.Members.{false_true, text_is, text_true}
 use Rattle.basics.specs.Order.{text_eq}
 use Rattle.job_model.proofs.Unique.{path_same}
@@ -12,7 +12,7 @@ use Rattle.std.proofs.Common.{◌++◌, ◌+◌, ◌∙◌, ◌∷◌, ◌≡◌
 use Rattle.std.proofs.lemmas.List.{append-nil, length-map, map-append}
 use Rattle.std.specs.Map.{lookup}
 
--- a file at its path
+-- A file at its path.
 abbrev one_placed : Bool → List ℕ → File → File
 one_placed unique id f = (path_of unique id f.0, f.1)
 
@@ -20,7 +20,7 @@ placed_more : (unique : Bool) (id : List ℕ) (f : File) (fs : List File)
     → placed unique id (fs ++ f ∷ []) ≡ placed unique id fs ++ one_placed unique id f ∷ []
 placed_more unique id f fs = map-append (one_placed unique id) fs (f ∷ [])
 
--- ---- paths stay apart
+-- ---- paths stay different
 
 other_path : (unique : Bool) (id p q : List ℕ) → is_job_id id ≡ true → text_eq p q ≡ false
     → text_eq (path_of unique id p) (path_of unique id q) ≡ false
@@ -30,7 +30,7 @@ other_path unique id p q job h = by (text_eq (path_of unique id p) (path_of uniq
     by true e = absurd (false_true h (text_true p q (path_same unique id p q job (text_is (path_of unique id p) (path_of unique id q) e))))
     by false e = refl
 
--- a path that no file has
+-- A path that no file has.
 still_free : (unique : Bool) (id p : List ℕ) (fs : List File) → is_job_id id ≡ true → has_path fs p ≡ false
     → has_path (placed unique id fs) (path_of unique id p) ≡ false
 still_free unique id p [] job h = refl
@@ -42,7 +42,7 @@ still_free unique id p (f ∷ fs) job h = by (text_eq p f.0) refl h (still_free 
     by true e h old = absurd cc
     by false e h old = rw (other_path unique id p f.0 job e) (old h)
 
--- the path of a file behind others
+-- The path of a file after others.
 first_here : (before done rest : List File) (f : File) → AreFiles before (done ++ f ∷ rest) → has_path (before ++ done) f.0 ≡ false
 first_here before [] rest f h = subst (λ (l : List File). has_path l f.0 ≡ false) (sym (append-nil before)) h.1
 first_here before (d ∷ done) rest f h = subst (λ (l : List File). has_path l f.0 ≡ false) (append_assoc before (d ∷ []) done)
@@ -50,7 +50,7 @@ first_here before (d ∷ done) rest f h = subst (λ (l : List File). has_path l 
 
 -- ---- files that are placed one by one
 
--- those in front were, and the rest are to be
+-- Holds if the files so far are placed, and the rest are left.
 pub record IsPlacing (unique : Bool) (id : List ℕ) (files copy rest : List File) : Type 0 where
   pub done : List File
   pub all : files ≡ done ++ rest

@@ -19,7 +19,7 @@ use Rattle.std.specs.Option.{option_map, unwrap_or}
 
 -- ---- the attempt at a place
 
--- an attempt of so many tasks, whose files are among so many with so many bytes
+-- Holds if the attempt is one of these tasks, and has at most this number of files and bytes.
 pub record IsOne (tasks files bytes : ℕ) (a : Declared) : Type 0 where
   pub task : a.0.task < tasks
   pub attempt : a.0.attempt ≤ 99
@@ -46,7 +46,7 @@ legal_at w i a l e = one_at w.tasks [] w.attempts i a l.attempts e
 
 -- ---- its plan
 
--- what is made of the parts of a script
+-- The plan that is made of the parts of a script.
 plan_is : (w : Script) (minimum block : ℕ) (n : Who) (fs its : List File) (j : Job) (k : Known) → lookup (same_name n) w.attempts ≡ Some fs
     → its ≡ placed w.unique w.job fs → j ≡ job_of w → block ≡ w.block
     → (let made : Task = record { job = j; task = n.task; attempt = n.attempt; files = its; block = block; minimum = minimum; known = k } in

@@ -13,7 +13,7 @@ use Rattle.std.proofs.lemmas.List.{append-nil, map-append}
 use Rattle.std.specs.Map.{lookup}
 use Rattle.std.specs.Option.{option_map, unwrap_or}
 
--- one attempt more, which is reported
+-- One more attempt, which is reported.
 those_more : (ds : List Declared) (bs : List Bool) (i : ℕ) (d : Declared) → slice_get ds i ≡ Some d → get_or bs i false ≡ true
     → those (take (suc i) ds) (take (suc i) bs) ≡ those (take i ds) (take i bs) ++ d.0 ∷ []
 those_more [] bs i d e h = absurd cc
@@ -25,7 +25,7 @@ those_more (x ∷ ds) (y ∷ bs) (suc i) d e h = by y _ _ (those_more ds bs i d 
     by true now before e = ap (λ (l : List Who). x.0 ∷ l) e
     by false now before e = e
 
--- one that is not
+-- One more attempt, which is not reported.
 those_same : (ds : List Declared) (bs : List Bool) (i : ℕ) → get_or bs i false ≡ false
     → those (take (suc i) ds) (take (suc i) bs) ≡ those (take i ds) (take i bs)
 those_same [] bs zero h = refl
@@ -35,11 +35,11 @@ those_same (x ∷ ds) [] (suc i) h = refl
 those_same (x ∷ ds) (y ∷ bs) zero h = rw h refl
 those_same (x ∷ ds) (y ∷ bs) (suc i) h = ap (λ (l : List Who). cond y (x.0 ∷ l) l) (those_same ds bs i h)
 
--- the files of an attempt by its name
+-- The files of an attempt by its name.
 own_files : (w : Script) (d : Declared) → lookup (same_name d.0) w.attempts ≡ Some d.1 → files w d.0 ≡ placed w.unique w.job d.1
 own_files w d found = ap (λ (o : Option (List File)). unwrap_or (option_map (placed w.unique w.job) o) []) found
 
--- the paths of the files of those of the first so many attempts that are reported
+-- The paths of the files of the reported ones among the first i attempts.
 abbrev pub paths_to : Script → List Bool → ℕ → List (List ℕ)
 paths_to w bs i = map (λ f. f.0) (files_of_all w (those (take i w.attempts) (take i bs)))
 

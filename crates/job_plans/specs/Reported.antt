@@ -1,8 +1,8 @@
--- The attempts of a script of which something is so.
+-- The attempts of a script for which a flag is set.
 use Rattle.job_model.specs.Attempts.{Declared, Who}
 use Rattle.std.specs.Prelude.{Bool, List, cond, [], ◌∷◌}
 
--- those of these attempts of which it is so, in script order
+-- The attempts whose flag is set, in script order.
 abbrev pub those : List Declared → List Bool → List Who
 those [] bs = []
 those (d ∷ ds) [] = []

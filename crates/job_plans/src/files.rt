@@ -8,7 +8,8 @@ use job_model::FileList;
 use s3_types::{Text, both, let_go};
 use std::alloc::{AllocError, Global};
 
-/// A file's path below the destination: unique to the job, or as the script writes it, which is shared.
+/// The path of a file below the destination: made unique to the job, or as the script writes it. In
+/// the second case it shares the script's memory.
 pub fn path_of(alloc: Global, unique: bool, job: &Text, path: &Text) -> Result<Text, AllocError>
     ensures { IfOk result (λ text. text ≡ places.path_of unique job.now path.now) }
 {
@@ -19,7 +20,7 @@ pub fn path_of(alloc: Global, unique: bool, job: &Text, path: &Text) -> Result<T
     }
 }
 
-/// Files at their paths below the destination. Their bytes are shared.
+/// The files at their paths below the destination. Their contents share the script's memory.
 pub fn placed(
     alloc: Global,
     unique: bool,

@@ -1,14 +1,16 @@
-//! What a job's actors are given to go by, made from a script: the driver's plan, and an attempt's with its
-//! files at the paths where they go; and the partitions of the files of some attempts.
+//! Makes the plans of a job's actors from a script: the driver's plan, and each attempt's plan with
+//! its files at their paths below the destination. It also finds the partitions of the files of
+//! attempts.
 //!
 //! # What is proved
 //!
-//! `job_plan`, `task_plan`, `unique_name`: The plan that a script gives its driver, and that of the
-//! attempt which it declares behind so many others, with its files at the paths where they go; both
-//! keep the bounds of plans. A path made unique to a job.
+//! - `job_plan`: the plan of a script's driver. It keeps the bounds of plans.
+//! - `task_plan`: the plan of the attempt at a place of the script, with its files at their paths
+//!   below the destination. It keeps the bounds of plans.
+//! - `unique_name`: a path made unique to a job.
 //!
-//! `reported_partitions`: The directories in which the files of the reported attempts of a script
-//! stand below the destination, rising, each once.
+//! - `reported_partitions`: the directories of the files of a script's reported attempts below the
+//!   destination, rising, each once.
 #![tactic(auto)]
 
 mod files;

@@ -4,7 +4,7 @@ ghost use Rattle.job_model.specs.Placed.{with_id, unique_name};
 use s3_types::{Text, let_go};
 use std::alloc::{AllocError, Global};
 
-/// A name with `-` and a job's id before its first dot, or at its end.
+/// The name with `-` and the job's id before its first dot, or at its end.
 fn named(alloc: Global, name: &str, job: &str) -> Result<String, AllocError>
     ensures { IfOk result (λ text. string_bytes text ≡ with_id job.now name.now) }
 {
@@ -14,7 +14,7 @@ fn named(alloc: Global, name: &str, job: &str) -> Result<String, AllocError>
     }
 }
 
-/// The path of a directory, and behind it such a name.
+/// The path of such a name in a directory.
 fn named_below(alloc: Global, dir: &str, name: &str, job: &str) -> Result<String, AllocError>
     ensures { IfOk result (λ text. string_bytes text ≡ dir.now ++ 47 ∷ with_id job.now name.now) }
 {
@@ -33,8 +33,8 @@ fn unique_text(alloc: Global, path: &str, job: &str) -> Result<String, AllocErro
     }
 }
 
-/// The path of a file, made unique to a job: `-` and the job's id stand before the first dot of its last
-/// element, or at its end, also where the path has the id already. (Hadoop, S3A committers,
+/// The path of a file, made unique to a job: `-` and the job's id come before the first dot of its
+/// last element, or at its end, even if the path has the id already. (Hadoop, S3A committers,
 /// fs.s3a.committer.staging.unique-filenames.)
 pub fn unique_name(alloc: Global, path: &str, job: &str) -> Result<Text, AllocError>
     ensures { IfOk result (λ text. text ≡ unique_name path.now job.now) }

@@ -10,7 +10,7 @@ use job_model::{AttemptName, Attempts, FileList, JobPlan, Knowledge, Script, Tas
 use s3_types::{both, let_go};
 use std::alloc::{AllocError, Global};
 
-/// The plan of a script's driver. Its texts are the script's, which are shared.
+/// The plan of a script's driver. Its texts share the script's memory.
 pub fn job_plan(script: &Script) -> Result<JobPlan, AllocError>
     ensures { IfOk result (λ plan. plan ≡ job_of script.now) }
 {
@@ -27,7 +27,7 @@ pub fn job_plan(script: &Script) -> Result<JobPlan, AllocError>
     })
 }
 
-/// The name and the files of the attempt that is declared behind so many others.
+/// The name and the files of the attempt at a place of the script, from 0 on.
 pub fn attempt_at(attempts: &Attempts, place: usize) -> (&AttemptName, &FileList)
     requires { place < length attempts.now }
     ensures here { slice_get attempts.now place ≡ Some (result.0.now, result.1.now) }
@@ -39,10 +39,10 @@ pub fn attempt_at(attempts: &Attempts, place: usize) -> (&AttemptName, &FileList
     }
 }
 
-/// The plan of the attempt that a script declares behind so many others, before it has sent anything. Its
-/// files stand at their paths below the destination, which are made unique to the job where the script
-/// says so (`unique_name`); their bytes are the script's, which are shared. `minimum` is the store's, in
-/// bytes: the least size of a part that is not the last.
+/// The plan of the attempt at a place of the script, from 0 on, before it has sent anything. Its
+/// files are at their paths below the destination, made unique to the job if the script says so
+/// (`unique_name`). Their contents share the script's memory. `minimum` is the store's minimum size
+/// in bytes of a part other than the last.
 pub fn task_plan(
     alloc: Global,
     script: &Script,

@@ -12,7 +12,7 @@ use job_model::{FileList, Script};
 use s3_types::{Sequence, Text, TextList, let_go};
 use std::alloc::{AllocError, Global};
 
-/// Adds the paths of files below the destination behind others.
+/// Appends the paths of files below the destination.
 fn add_paths(
     alloc: Global,
     unique: bool,
@@ -49,11 +49,11 @@ fn reported_paths(alloc: Global, script: &Script, reported: &[bool]) -> Result<T
     Ok(paths)
 }
 
-/// The partitions of the files of those attempts of a script for which `reported` says so, by their place
-/// in the script: the directories that the files' paths below the destination are in, each once, rising by
-/// their bytes. Where the script makes the files' paths unique to the job they are so. AllocError comes
-/// where memory ran out alone. Takes time in the order of the attempts' count, and of the files' count
-/// times its logarithm.
+/// The partitions of the files of the reported attempts: the directories of the files' paths below
+/// the destination, each once, rising by their bytes. `reported` tells for each attempt, by its
+/// place in the script, whether it is reported. The paths are made unique to the job if the script
+/// says so. Fails with AllocError only if memory runs out. Takes O(a + f log f) for a attempts and
+/// f files.
 pub fn reported_partitions(
     alloc: Global,
     script: &Script,

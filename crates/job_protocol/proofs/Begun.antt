@@ -1,4 +1,4 @@
--- What holds of each operation with which a commit, a commit behind its check, or an abort or clean of a job may begin.
+-- A property of each operation with which a commit, a commit after its check, or an abort or clean of a job may begin.
 use Rattle.job_model.specs.declared.ends.CheckEnd.TheVariants.{Clear}
 use Rattle.job_protocol.specs.Cleanups.{clean_start}
 use Rattle.job_protocol.specs.JobCommits.{commit_start}
@@ -29,11 +29,11 @@ module _ (g : Setting) (P : Operation → Type 0) where
   clean_of_so clean sparing = elim g.shared as (λ b. P (cond b (TheSparing (fresh g.script.retries (sparing_start g.script.committer)))
       (TheClean (fresh g.script.retries clean_start)))) [ true ↦ sparing | false ↦ clean ]
 
--- without another job the commit begins at once
+-- Without another job the commit begins at once.
 pub commit_alone : (g : Setting) (r : Reports) → g.shared ≡ false → commit_of g r ≡ TheCommit (commit_start g.script r.missing)
 commit_alone g r e = ap (λ b. commit_by g b g.script.mode r r.missing) e
 
--- and an abort or clean is not a sparing one
+-- Without another job an abort or clean is not a sparing one.
 pub clean_alone : (g : Setting) → g.shared ≡ false → clean_of g ≡ TheClean (fresh g.script.retries clean_start)
 clean_alone g e = ap (λ b. cond b (TheSparing (fresh g.script.retries (sparing_start g.script.committer)))
     (TheClean (fresh g.script.retries clean_start))) e

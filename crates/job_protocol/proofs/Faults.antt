@@ -1,4 +1,4 @@
--- an operation of one request at a time is at fault exactly where a request of it wore out
+-- An operation that sends one request at a time ends with StoreFault exactly if one of its requests ran out of retries.
 use Rattle.job_model.specs.Attempts.{Who}
 use Rattle.job_model.specs.JobScript.{Script}
 use Rattle.job_model.specs.declared.ends.OpEnd.{OpEnd}
@@ -29,9 +29,9 @@ use Rattle.job_protocol.specs.TaskAborts as aborts
 use Rattle.job_protocol.specs.Cleanups as cleans
 use Rattle.job_protocol.specs.Sparing as sparing
 
--- ---- no answer is a fault
+-- ---- no reply leads to StoreFault
 
--- a set-up goes on, or ends where the bucket is not there
+-- A set-up goes on, or ends because the bucket does not exist.
 pub if_bucket_so : (P : setup.Setup → Type 0) (r : Reply) (next : setup.Setup) → P (setup.SetupOver setups.NoSuchBucket) → P next
     → P (setup.if_bucket r next)
 if_bucket_so P r next over on = elim (setup.lacks_bucket r) as (λ b. P (cond b (setup.SetupOver setups.NoSuchBucket) next))
@@ -103,7 +103,7 @@ answered_calm : (g : Setting) (a : Who) (op : Operation) (o : Outcome) → was_a
     → Calm (tells g a op o)
 answered_calm g a op o b s h = grind (arith, setup_calm, write_calm, task_calm, abort_calm, clean_calm, sparing_calm)
 
--- ---- a sending without an answer, where some are spare and where none is
+-- ---- a send without an answer, with retries left and with none left
 
 missed_calm : (g : Setting) (a : Who) (op : Operation) (o : Outcome) (n : ℕ) → was_answered o ≡ false → spare_of op ≡ suc n
     → is_serial op ≡ true → Calm op → Calm (tells g a op o)
@@ -113,7 +113,7 @@ worn_fault : (g : Setting) (a : Who) (op : Operation) (o : Outcome) → was_answ
     → is_fault (over (tells g a op o)) ≡ true
 worn_fault g a op o b e s = grind arith
 
--- what is over asks nothing
+-- An operation that is over has no next request.
 none_by : (o : Option Request) (p : Option OpEnd) → OneOf o p → is_fault p ≡ true → o ≡ None
 none_by o p h g = grind arith
 
@@ -126,7 +126,7 @@ module _ (g : Setting) (a : Actor) where
   abbrev Holds : Running → List Entry → Type 0
   Holds m es = is_serial m.operation ≡ true → Calm m.operation → Follows (wants g a) (advance g a) m es → Same m es
 
-  -- nothing follows a fault
+  -- An operation that ended with StoreFault sends nothing more.
   stays_fault : (m : Running) (es : List Entry) → is_fault (over m.operation) ≡ true → Follows (wants g a) (advance g a) m es
       → is_fault (over (run (advance g a) m es).operation) ≡ true
   stays_fault m [] h f = h

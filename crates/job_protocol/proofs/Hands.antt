@@ -1,4 +1,4 @@
--- one more sending, and what is in hand
+-- One more send, and the requests that are in progress.
 use Rattle.basics.proofs.Members.{false_true, none_some, true_or_false}
 use Rattle.job_protocol.proofs.Members.{in_append, in_last, in_left, in_push}
 use Rattle.job_protocol.specs.LaneTable.{In}
@@ -11,19 +11,19 @@ use Rattle.s3_types.specs.declared.request.Request.{Request}
 use Rattle.std.proofs.Common.{List, ap, append_assoc, arith, cond, false, inl, inr, refl, subst, sym, true, ℕ, [], ◌++◌, ◌+◌, ◌<◌, ◌∙◌, ◌∷◌}
 use Rattle.std.proofs.Common.{◌≡◌, ◌≤◌}
 
--- a request that is in hand, and how many of its last sendings got no answer
+-- A request in progress, and how many of its last sends got no answer.
 pub record Held : Type 0 where
   pub request : Request
   pub missed : ℕ
 
--- the counts are what the entries say, and none is worn yet
+-- Holds if the counts agree with the entries, and no request has run out of retries.
 pub record Counted (retries : ℕ) (es : List Entry) (hs : List Held) : Type 0 where
   pub counts : (h : Held) → In h hs → streak h.request es ≡ h.missed
   pub few : (h : Held) → In h hs → h.missed ≤ retries
   pub others : (q : Request) → ((h : Held) → In h hs → h.request ≡ q → ⊥) → streak q es ≡ 0
   pub none : (q : Request) → IsWorn retries q es → ⊥
 
--- ---- sendings of what is first in hand
+-- ---- sends of the first request in progress
 
 pub hand_heard : {r : ℕ} {es : List Entry} {rest : List Held} (new : List Held) (h : Held) (e : Entry) → Counted r es (h ∷ rest)
     → e.request ≡ h.request → same_request h.request h.request ≡ true → was_answered e.outcome ≡ true
@@ -55,7 +55,7 @@ hand_heard {r = r} {es = es} {rest = rest} new h e c is self told apart fresh =
       ];
     }
 
--- one more that got no answer
+-- One more send without an answer.
 missed_now : {r : ℕ} {es : List Entry} {rest : List Held} (h : Held) (e : Entry) → Counted r es (h ∷ rest) → e.request ≡ h.request
     → same_request h.request h.request ≡ true → was_answered e.outcome ≡ false → streak h.request (es ++ e ∷ []) ≡ h.missed + 1
 missed_now {es = es} h e c is self missed =
@@ -107,7 +107,7 @@ hand_worn {r = r} {es = es} h e c is self missed high =
           c.none;
     }
 
--- ---- nothing in hand was missed
+-- ---- no request in progress was missed
 
 pub record Quiet (r : ℕ) (es : List Entry) : Type 0 where
   pub zeros : (q : Request) → streak q es ≡ 0
@@ -125,7 +125,7 @@ quiet_heard {r = r} {es = es} h e c is self told =
 pub quiet_counted : {r : ℕ} {es : List Entry} (hs : List Held) → Quiet r es → ((k : Held) → In k hs → k.missed ≡ 0) → Counted r es hs
 quiet_counted hs h g = grind arith
 
--- ---- what was worn first stays so
+-- ---- the first request that ran out of retries stays the first
 
 pub worn_first_still : {r : ℕ} {es : List Entry} {q : Request} (e : Entry) → IsFirstWorn r es q → IsFirstWorn r (es ++ e ∷ []) q
 worn_first_still {es = es} e f =

@@ -1,4 +1,4 @@
--- the counters of a job's commit agree with its entries, and it ends by its first worn request
+-- The counters of a job's commit agree with its entries, and it ends by its first request that ran out of retries.
 use Rattle.basics.proofs.Members.{none_some, some_is, true_or_false}
 use Rattle.job_model.specs.JobScript.{Script}
 use Rattle.job_model.specs.declared.ends.CommitEnd.{CommitEnd}
@@ -33,7 +33,7 @@ use Rattle.magic_paths.specs.Layout as layout
 use Rattle.job_model.specs.declared.ends.CommitEnd.TheVariants as commits
 use Rattle.job_model.specs.declared.ends.Stage.TheVariants as stages
 
--- ---- what is in hand
+-- ---- the requests in progress
 
 abbrev mark_request : Script → Sets → Request
 mark_request w sets = PutObject w.dest.bucket (layout.success_key w.dest.key) (mark_text w (picks_of sets)) None
@@ -51,7 +51,7 @@ hand w (Completing sets x xs finished) = map (in_lane sets) (x ∷ xs)
 hand w (Marking sets m) = one (mark_request w sets) m
 hand w _ = []
 
--- a request of this stage was worn first
+-- Holds if a request of this stage is the first that ran out of retries.
 abbrev WornAt : ℕ → List Entry → Stage → Type 0
 WornAt retries es stage = (q : Request) × IsFirstWorn retries es q × (stage_of q ≡ stage)
 
@@ -59,7 +59,7 @@ abbrev EndsAs : ℕ → List Entry → CommitEnd → Type 0
 EndsAs retries es (commits.StoreFault stage) = WornAt retries es stage
 EndsAs retries es _ = NoneWorn retries es
 
--- what the commit is doing agrees with its entries
+-- Holds if the state of the commit agrees with its entries.
 abbrev Agreed : Script → List Entry → Commit → Type 0
 Agreed w es (Reverting q qs m) = WornAt w.retries es stages.Complete
 Agreed w es (CommitOver end) = EndsAs w.retries es end
@@ -74,7 +74,7 @@ read_stage c w t = grind arith
 delete_stage : (bucket p : List ℕ) (s : Sweep) → stage_of (sweep_asks bucket p s) ≡ stages.Delete
 delete_stage bucket p s = grind arith
 
--- ---- stages that begin with nothing missed
+-- ---- stages that begin without a missed send
 
 zero_once : (r : Request) (k : Held) → In k (one r 0) → k.missed ≡ 0
 zero_once r k i = elim i [ inl e ↦ sym (ap (λ (v : Held). v.missed) e) | inr n ↦ absurd n ]
@@ -86,7 +86,7 @@ agreed_completing w es sets xs done h = grind arith
 begins : (w : Script) (es : List Entry) → Quiet w.retries es → Begins w (Agreed w es)
 begins w es h = grind (arith, quiet_counted, zero_once, agreed_completing, in_map, Held, dealt_fresh)
 
--- ---- the other turns are other requests
+-- ---- the other turns have other requests
 
 lane_apart : (w : Script) (sets : Sets) {x : Turn} {xs : List Turn} {done : List ℕ} → RequestsApart sets
     → Table w.lanes w.retries (length (all_commits sets)) (x ∷ xs) done → (k : Held) → In k (map (in_lane sets) xs)
@@ -99,7 +99,7 @@ lane_apart w sets {x = x} {xs = xs} apart t k i =
       | inr e ↦ e
     ])
 
--- ---- one sending
+-- ---- one send
 
 agreed_reverting : (w : Script) (es : List Entry) (qs : List Request) → WornAt w.retries es stages.Complete → Agreed w es (reverting qs)
 agreed_reverting w es qs h = grind arith
@@ -198,7 +198,7 @@ agreed_tells : (w : Script) (es : List Entry) (c : Commit) (e : Entry) (o : Outc
     → Sound c → Tabled w c → Agreed w es c → Agreed w (es ++ e ∷ []) (commit_tells w c o)
 agreed_tells w es c e o h g f p q = grind (arith, agreed_heard, agreed_missed)
 
--- ---- all of them
+-- ---- all sends
 
 agreed_run : (w : Script) (done es : List Entry) (c : Commit) → 0 < w.lanes → AllSound w c es → Tabled w c → Agreed w done c
     → Follows (commit_asks w) (commit_tells w) c es → Agreed w (done ++ es) (run (commit_tells w) c es)

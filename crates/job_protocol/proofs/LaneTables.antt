@@ -1,4 +1,4 @@
--- the table of lanes is kept by each sending
+-- Each send keeps the table of lanes.
 use Rattle.job_model.specs.JobScript.{Script}
 use Rattle.job_model.specs.declared.ends.CommitEnd.{CommitEnd}
 use Rattle.job_protocol.proofs.Tables.{lt_or_not, table_again, table_answered, table_dealt}
@@ -16,9 +16,9 @@ use Rattle.s3_types.specs.declared.request.Request.{Request}
 use Rattle.std.proofs.Common.{Bool, List, None, Option, Some, arith, cond, inl, inr, length, subst, sym, ℕ, [], ◌++◌, ◌<◌, ◌∷◌}
 use Rattle.job_model.specs.declared.ends.CommitEnd.TheVariants as ends
 
--- ---- where a commit goes on to, by what holds of its stages as they begin
+-- ---- the next state of a commit, by a property of its stages as they begin
 
--- a shared path is no fault
+-- Holds if the end is SamePath, or if there is none.
 abbrev pub IsSharedEnd : Option CommitEnd → Type 0
 IsSharedEnd None = Unit {0}
 IsSharedEnd (Some (ends.SamePath p t u)) = Unit {0}
@@ -54,7 +54,7 @@ module _ (w : Script) (P : Commit → Type 0) (h : Begins w P) where
   pub swept_so : (sets : Sets) (p : List ℕ) (ps : List (List ℕ)) (o : Option Sweep) → P (swept w sets p ps o)
   swept_so sets p ps o = grind arith
 
--- a request is sent again, or not
+-- The property holds in both cases: the request is sent again, or not.
 pub either_so : (P : Commit → Type 0) (b : Bool) (c d : Commit) → P c → P d → P (cond b c d)
 either_so P b c d h g = grind arith
 

@@ -1,4 +1,4 @@
--- members, places and appended lists
+-- Members of lists, their places, and appended lists.
 use Rattle.basics.proofs.Members.{false_true, none_some, some_is, true_or_false}
 use Rattle.job_protocol.specs.LaneTable.{In}
 use Rattle.std.proofs.Common.{List, ap, inl, inr, map, refl, [], ◌++◌, ◌∷◌, ◌≡◌, ◌⊎◌}
@@ -16,7 +16,7 @@ pub in_right : {X : Type 0} (x : X) (xs ys : List X) → In x ys → In x (xs ++
 in_right x [] ys h = h
 in_right x (z ∷ xs) ys h = inr (in_right x xs ys h)
 
--- a member of xs ++ y ∷ [] is in xs or is y
+-- A member of xs ++ y ∷ [] is in xs or is y.
 pub in_push : {X : Type 0} (x : X) (xs : List X) (y : X) → In x (xs ++ y ∷ []) → In x xs ⊎ (y ≡ x)
 in_push x xs y h = elim (in_append x xs (y ∷ []) h) [ inl i ↦ inl i | inr i ↦ elim i [ inl e ↦ inr e | inr n ↦ absurd n ] ]
 

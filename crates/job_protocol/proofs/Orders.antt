@@ -1,4 +1,4 @@
--- the head of the table is the next upload by the numbers alone
+-- The head of the table is the next upload, in terms of numbers.
 use Rattle.job_model.specs.JobScript.{Script}
 use Rattle.job_protocol.proofs.LaneTables.{Begins, either_so, fetched_so, fetching_so, swept_so, tabled_start, tabled_tells}
 use Rattle.job_protocol.proofs.Members.{in_push}
@@ -19,7 +19,7 @@ use Rattle.std.proofs.Common.{zero, ℕ, [], ◌%◌, ◌++◌, ◌+◌, ◌<◌
 use Rattle.std.proofs.Math.Nat.{add-mod_right}
 use Rattle.std.proofs.lemmas.Bool.Decides.{nat_tests}
 
--- the turns come in this order
+-- Holds if the turns are in this order.
 abbrev InOrder : ℕ → ℕ → List Turn → Type 0
 InOrder lanes from [] = Unit {0}
 InOrder lanes from (x ∷ xs) = ((y : Turn) → In y xs → distance lanes from (x.number % lanes) < distance lanes from (y.number % lanes))
@@ -46,7 +46,7 @@ later_both : (lanes t a b c : ℕ) → t < lanes → a < lanes → b < lanes →
     → distance lanes t b < distance lanes t c → distance lanes (after_lane lanes a) b < distance lanes (after_lane lanes a) c
 later_both lanes t a b c h i j k l m = grind (arith, nat_tests)
 
--- the lane that was sent comes last
+-- The lane that just sent comes last.
 last_lane : (lanes t a b : ℕ) → t < lanes → a < lanes → b < lanes → distance lanes t a < distance lanes t b
     → distance lanes (after_lane lanes a) b < distance lanes (after_lane lanes a) a
 last_lane lanes t a b h i j l = grind (arith, nat_tests)
@@ -66,7 +66,7 @@ order_push lanes t (x ∷ xs) y o h = (
   order_push lanes t xs y o.1 (λ z i. h z (inr i)),
 )
 
--- the other lanes keep their order
+-- The other lanes keep their order.
 order_later : (lanes t a : ℕ) (xs : List Turn) → 0 < lanes → t < lanes → a < lanes
     → ((y : Turn) → In y xs → distance lanes t a < distance lanes t (y.number % lanes)) → InOrder lanes t xs
     → InOrder lanes (after_lane lanes a) xs
@@ -77,7 +77,7 @@ order_later lanes t a (x ∷ xs) some h i first o = (
   order_later lanes t a xs some h i (λ y j. first y (inr j)) o.1,
 )
 
--- the lane that was sent goes to the end
+-- The lane that just sent goes to the end.
 order_again : (lanes t : ℕ) (x y : Turn) (xs : List Turn) → 0 < lanes → t < lanes → y.number % lanes ≡ x.number % lanes
     → InOrder lanes t (x ∷ xs) → InOrder lanes (after_lane lanes (x.number % lanes)) (xs ++ y ∷ [])
 order_again lanes t x y xs h g e f = grind (arith, order_push, order_later, last_lane)
@@ -149,7 +149,7 @@ tabled_run : (w : Script) (es : List Entry) (c : Commit) → 0 < w.lanes → Tab
 tabled_run w [] c some t = t
 tabled_run w (e ∷ es) c some t = tabled_run w es (commit_tells w c e.outcome) some (tabled_tells w c e.outcome some t)
 
--- ---- the head is the next
+-- ---- the head is the next upload
 
 head_is_next : (lanes retries total from : ℕ) (x : Turn) (xs : List Turn) (done : List ℕ) → 0 < lanes → InOrder lanes from (x ∷ xs)
     → Table lanes retries total (x ∷ xs) done → IsNext lanes total done from x.number
@@ -180,7 +180,7 @@ head_is_next lanes retries total from x xs done some o t =
       ];
     }
 
--- what the driver completes next is the next upload in the cyclic order of the lanes
+-- The driver completes next the next upload in the cyclic order of the lanes.
 pub sends_in_order : (w : Script) → 0 < w.lanes → (es : List Entry) (sets : Sets) (x : Turn) (xs : List Turn) (done : List ℕ)
     → run (commit_tells w) (commit_start w None) es ≡ Completing sets x xs done
     → IsNext w.lanes (length (all_commits sets)) done (lane_after w (commit_start w None) 0 es) x.number

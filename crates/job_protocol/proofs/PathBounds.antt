@@ -10,7 +10,7 @@ use Rattle.std.proofs.Common.{◌||◌, ◌∙◌, ◌∷◌, ◌≡◌}
 use Rattle.std.proofs.lemmas.Bool.{and_parts, not-true, or_parts, true≢false}
 use Rattle.std.specs.List.{ends_with, join_with_byte, list_all, list_any}
 
--- the parts of a text that begins with a byte of its first part
+-- The parts of a text that begins with a byte of its first part.
 record Begins (x : ℕ) (parts : List (List ℕ)) : Type 0 where
   pub front : List ℕ
   pub others : List (List ℕ)
@@ -25,7 +25,7 @@ begun x part (y ∷ text) = by (y == 47) refl (begun x (part ++ y ∷ []) text)
     by true e old = record { front = part; others = parts_from 47 [] text; are = rw e refl }
     by false e old = record { front = old.front; others = old.others; are = rw e old.are }
 
--- the first byte of a given path begins its first part, and is neither `_` nor `.`
+-- The first byte of a given path begins its first part, and is neither `_` nor `.`.
 record Shown (path : List ℕ) : Type 0 where
   pub first : ℕ
   pub front : List ℕ
@@ -74,7 +74,7 @@ open_shown path s = ap is_open s.is ∙ open_first s.first s.rest s.no_mark
 pub given_place : (path : List ℕ) → IsGiven path → (is_open path ≡ true) × (is_record path ≡ false)
 given_place path g = (open_shown path (given_shown path g), not-true (is_record path) (and_parts _ _ g.stated).1)
 
--- ---- a path made unique
+-- ---- a path made unique to the job
 
 named_first : (id : List ℕ) (x : ℕ) (front : List ℕ) (others : List (List ℕ)) → nat_eq x 46 ≡ false → nat_eq x 95 ≡ false
     → is_open (join_with_byte 47 (with_id_last id ((x ∷ front) ∷ others))) ≡ true

@@ -1,4 +1,4 @@
--- the least path that two picks write, with the two least tasks that do
+-- The least path that two chosen attempts write, with the two lowest tasks that write it.
 use Rattle.basics.proofs.Less.{irrefl, lt_not}
 use Rattle.basics.proofs.Members.{false_true, true_or_false}
 use Rattle.basics.specs.Order.{text_cmp, text_eq, text_total}
@@ -30,7 +30,7 @@ record IsFirst (test : ℕ → Bool) (t n v : ℕ) : Type 0 where
   pub passes : test v ≡ true
   pub least : (x : ℕ) → t ≤ x → x < v → test x ≡ false
 
--- the first one, or that there is none
+-- Holds if it is the first one, or if there is none and the result says so.
 abbrev First : (ℕ → Bool) → ℕ → ℕ → Option ℕ → Type 0
 First test t n (Some v) = IsFirst test t n v
 First test t n None = (x : ℕ) → t ≤ x → x < t + n → test x ≡ false
@@ -42,7 +42,7 @@ first test t (suc n) = by (test t) refl (first_where test (t + 1) n) (first test
     by : (b : Bool) → test t ≡ b → (o : Option ℕ) → First test (t + 1) n o → First test t (suc n) (cond b (Some t) o)
     by b h o g = grind arith
 
--- ---- the two least
+-- ---- the two least numbers
 
 record AreTwo (test : ℕ → Bool) (n t u : ℕ) : Type 0 where
   pub first : t < u
@@ -51,7 +51,7 @@ record AreTwo (test : ℕ → Bool) (n t u : ℕ) : Type 0 where
   pub passes_last : test u ≡ true
   pub least : (v : ℕ) → v < u → test v ≡ true → v ≡ t
 
--- the two, or that no two pass
+-- Holds if it is the two least numbers, or if no two pass and the result says so.
 abbrev Two : (ℕ → Bool) → ℕ → Option (ℕ × ℕ) → Type 0
 Two test n (Some x) = AreTwo test n x.0 x.1
 Two test n None = (v x : ℕ) → v < x → x < n → test v ≡ true → test x ≡ true → ⊥
@@ -90,7 +90,7 @@ in_ordered : (p : List ℕ) (xs : List (List ℕ)) → In p xs → In p (ordered
 in_ordered p [] h = h
 in_ordered p (x ∷ xs) h = inserted p (ordered xs) x (elim h [ inl e ↦ inl e | inr i ↦ inr (in_ordered p xs i) ])
 
--- they rise
+-- Holds if the list rises.
 abbrev Rises : List (List ℕ) → Type 0
 Rises [] = Unit {0}
 Rises (x ∷ xs) = ((y : List ℕ) → In y xs → text_cmp x y ≡ Less) × Rises xs
@@ -116,7 +116,7 @@ ordered_rises : (xs : List (List ℕ)) → Rises (ordered xs)
 ordered_rises [] = tt
 ordered_rises (x ∷ xs) = insert_rises (ordered xs) x (ordered_rises xs)
 
--- ---- what is written is wanted
+-- ---- each written path is among the wanted paths
 
 has_in : (fs : List File) (p : List ℕ) → has_path fs p ≡ true → In p (map (λ f. f.0) fs)
 has_in [] p h = absurd (false_true refl h)
@@ -148,7 +148,7 @@ module _ (w : Script) (picks : Picks) where
     pub two : two_where (writes w picks p) w.tasks ≡ Some (t, u)
     pub least : (q : List ℕ) → In q ps → (two_where (writes w picks q) w.tasks ≡ None → ⊥) → is_lt (text_cmp q p) ≡ false
 
-  -- the least one, or that there is none
+  -- Holds if it is the least path, or if no two write one and the result says so.
   abbrev Least : List (List ℕ) → Option CommitEnd → Type 0
   Least ps (Some e) = (p : List ℕ) × (t : ℕ) × (u : ℕ) × (e ≡ SamePath p t u) × IsLeast ps p t u
   Least ps None = (q : List ℕ) → In q ps → two_where (writes w picks q) w.tasks ≡ None
@@ -189,7 +189,7 @@ module _ (w : Script) (picks : Picks) where
   all_least : Least (wanted_paths w picks) (same_path w picks)
   all_least = least_of (wanted_paths w picks) (ordered_rises (map (λ f. f.0) (wanted w picks)))
 
-  -- no two write a path
+  -- No two chosen attempts write the path.
   pub none_write : (p : List ℕ) → two_where (writes w picks p) w.tasks ≡ None → (t u : ℕ) → t < u → u < w.tasks → writes w picks p t ≡ true
       → writes w picks p u ≡ true → ⊥
   none_write p e = subst (Two (writes w picks p) w.tasks) e (two (writes w picks p) w.tasks)

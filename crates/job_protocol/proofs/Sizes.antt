@@ -1,4 +1,4 @@
--- sizes that fit a record are told by it or not
+-- Sizes that fit a record still fit, whether the record has them or not.
 use Rattle.job_protocol.specs.Records.{sizes_by}
 use Rattle.pending_json.specs.Pending.{are_sizes}
 use Rattle.s3_types.specs.Tags.{Spelled}

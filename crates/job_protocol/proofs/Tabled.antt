@@ -1,4 +1,4 @@
--- an operation asks a request exactly until it is over, and each actor has its operations
+-- An operation has a next request exactly until it is over, and each actor has its operations.
 use Rattle.job_model.specs.Attempts.{Who}
 use Rattle.job_model.specs.Known.{Known}
 use Rattle.job_model.specs.declared.events.Op.{Op}

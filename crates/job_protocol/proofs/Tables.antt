@@ -1,4 +1,4 @@
--- the table of lanes as it is dealt, and after each outcome
+-- The table of lanes at the start, and after each outcome.
 use Rattle.job_protocol.proofs.Members.{in_append, in_left, in_push, in_right}
 use Rattle.job_protocol.specs.LaneTable.{After, Apart, In, Table, ahead}
 use Rattle.job_protocol.specs.Lanes.{Turn, again, dealt, first_turns, follow, fresh_turn}
@@ -26,7 +26,7 @@ after_self lanes a = (0, refl)
 pub after_next : (lanes a n : ℕ) → After lanes (a + lanes) n → After lanes a n
 after_next lanes a n h = (suc h.0, sym (ahead_next lanes a h.0) ∙ h.1)
 
--- a commit that is ahead is the turn's or ahead of the lane's next
+-- An upload at or after a turn is the turn's own, or is at or after the lane's next one.
 after_cases : (lanes a n : ℕ) → After lanes a n → (a ≡ n) ⊎ After lanes (a + lanes) n
 after_cases lanes a n h = by h.0 h.1
   where
@@ -37,14 +37,14 @@ after_cases lanes a n h = by h.0 h.1
 pub after_low : (lanes a n : ℕ) → After lanes a n → a ≤ n
 after_low lanes a n h = let i : a ≤ ahead lanes a h.0 = ahead_far lanes a h.0 in let e : ahead lanes a h.0 ≡ n = h.1 in omega arith
 
--- two lanes don't meet
+-- Two lanes have no upload in common.
 meet : (lanes a b k l : ℕ) → a < lanes → b < lanes → ahead lanes a k ≡ ahead lanes b l → a ≡ b
 meet lanes a b zero zero low high e = e
 meet lanes a b zero (suc l) low high e = let i : b ≤ ahead lanes b l = ahead_far lanes b l in absurd (omega arith)
 meet lanes a b (suc k) zero low high e = let i : a ≤ ahead lanes a k = ahead_far lanes a k in absurd (omega arith)
 meet lanes a b (suc k) (suc l) low high e = meet lanes a b k l low high (omega arith)
 
--- each number is in some lane
+-- Each upload is in some lane.
 lane_of : (lanes n top : ℕ) → n < top → 0 < lanes → (a : ℕ) × (a < lanes) × (a ≤ n) × After lanes a n
 lane_of lanes n zero h some = absurd (omega arith)
 lane_of lanes n (suc top) h some = elim (cases_lt n lanes) [
@@ -57,7 +57,7 @@ lane_of lanes n (suc top) h some = elim (cases_lt n lanes) [
       (r.0, r.1, omega arith, (suc r.3.0, f))
 ]
 
--- ---- as it is dealt
+-- ---- the table at the start
 
 pub in_first : (m : ℕ) (x : Turn) → In x (first_turns m) → (x.number < m) × (x.missed ≡ 0) × (x.lost ≡ false)
 in_first zero x h = absurd h
@@ -78,7 +78,7 @@ first_in (suc m) a h = elim (cases_lt a m) [
   | inr high ↦ let e : m ≡ a = omega arith in in_right (fresh_turn a) (first_turns m) (fresh_turn m ∷ []) (inl (ap fresh_turn e))
 ]
 
--- one more turn, ahead of none
+-- One more turn keeps the turns apart, if no upload is at or after both it and another one.
 pub apart_push : (lanes : ℕ) (xs : List Turn) (y : Turn) → Apart lanes xs
     → ((x : Turn) (n : ℕ) → In x xs → After lanes x.number n → After lanes y.number n → ⊥) → Apart lanes (xs ++ y ∷ [])
 apart_push lanes [] y ok new = (λ x n i a b. i, tt)
@@ -119,12 +119,12 @@ dealt_fresh lanes total x i = let r = in_first (min lanes total) x i in (r.1, r.
 
 -- ---- after an answer
 
--- the lane's next, or that it has none
+-- The lane has a next upload, or it has none.
 pub follow_cases : (lanes total n : ℕ) → ((n + lanes < total) × (follow lanes total n ≡ fresh_turn (n + lanes) ∷ []))
     ⊎ ((total ≤ n + lanes) × (follow lanes total n ≡ []))
 follow_cases lanes total n = grind (arith, nat_tests)
 
--- these come after a turn that gives way to them, and what is done of theirs was done before
+-- Holds if a turn `y` replaces the turn `x`: its uploads are among those of `x`, and those that are completed now were completed before.
 abbrev Behind : ℕ → ℕ → ℕ → Turn → List ℕ → List ℕ → Turn → Type 0
 Behind lanes retries total x done now y = (y.number < total) × (y.missed ≡ 0 → y.lost ≡ false) × (y.missed ≤ retries)
     × ((n : ℕ) → After lanes y.number n → After lanes x.number n × (In n now → In n done))
@@ -187,7 +187,7 @@ table_answered {lanes = lanes} {retries = retries} {total = total} {xs = xs} {do
           [ inl e ↦ inl (inl e) | inr b ↦ let far = low n b in let none = h.0 in absurd (omega (arith, far, none, within)) ]))
     ]
 
--- ---- after a sending with no answer
+-- ---- after a send without an answer
 
 pub table_again : {lanes retries total : ℕ} {xs : List Turn} {done : List ℕ} (x : Turn) (lost : Bool) → x.missed < retries
     → Table lanes retries total (x ∷ xs) done → Table lanes retries total (xs ++ again x lost ∷ []) done
@@ -197,15 +197,15 @@ table_again {lanes = lanes} {retries = retries} {total = total} {xs = xs} {done 
     (apart_push lanes xs (again x lost) t.apart.1 (λ y n i a b. t.apart.0 y n i b a)) (λ n d. inr d) (λ n d. d)
     (λ n within a. inr (again x lost, inl refl, a))
 
--- ---- what follows
+-- ---- consequences
 
--- two turns have two numbers
+-- Two turns have different numbers.
 pub numbers_apart : {lanes retries total : ℕ} {xs : List Turn} {done : List ℕ} (x y : Turn) → Table lanes retries total (x ∷ xs) done
     → In y xs → x.number ≡ y.number → ⊥
 numbers_apart {lanes = lanes} x y t i e = let A : ℕ
     → Type 0 = λ v. After lanes v x.number in t.apart.0 y x.number i (after_self lanes x.number) (subst A e (after_self lanes x.number))
 
--- the next turn's commit is none that is in hand
+-- The next upload of the lane is not in another turn.
 pub next_apart : {lanes retries total : ℕ} {xs : List Turn} {done : List ℕ} (x y : Turn) → Table lanes retries total (x ∷ xs) done → In y xs
     → x.number + lanes ≡ y.number → ⊥
 next_apart {lanes = lanes} x y t i e = let A : ℕ → Type 0 = λ v. After lanes y.number v in t.apart.0 y (x.number + lanes) i (1, refl)
@@ -215,6 +215,6 @@ pub not_done : {lanes retries total : ℕ} {xs : List Turn} {done : List ℕ} (x
     → In x.number done → ⊥
 not_done {lanes = lanes} x t i d = t.undone x x.number i d (after_self lanes x.number)
 
--- where no lane is left each commit is done
+-- If no lane is left, each upload is completed.
 pub all_done : {lanes retries total : ℕ} {done : List ℕ} (n : ℕ) → n < total → Table lanes retries total [] done → In n done
 all_done n low t = elim (t.cover n low) [ inl d ↦ d | inr r ↦ absurd r.1 ]

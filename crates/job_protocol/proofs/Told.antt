@@ -1,4 +1,4 @@
--- plans tell what operations ask, and where they go
+-- Plans give the requests of operations and their next states.
 use Rattle.basics.specs.Order.{text_eq}
 use Rattle.job_model.specs.Attempts.{Who, same_name}
 use Rattle.job_model.specs.Files.{File}

@@ -1,4 +1,4 @@
--- an operation of one request at a time counts its sendings, and is at fault exactly where a request wore out
+-- An operation that sends one request at a time counts its sends, and ends with StoreFault exactly if a request ran out of retries.
 use Rattle.job_model.specs.Attempts.{Who}
 use Rattle.job_model.specs.Files.{File}
 use Rattle.job_model.specs.JobScript.{Script}
@@ -25,13 +25,13 @@ use Rattle.magic_paths.specs.Layout as layout
 use Rattle.job_protocol.specs.Writes as writes
 use Rattle.job_protocol.specs.TaskCommits as tasks
 
--- ---- a sending without an answer teaches no upload
+-- ---- a send without an answer adds no upload
 
 learnt_stays : (w : Script) (a : Who) (k : Known) (r : Option Request) (o : Outcome) → was_answered o ≡ false
     → (learn_of w a k r o).drawn ≡ k.drawn
 learnt_stays w a k r o h = grind arith
 
--- ---- what is asked depends on the drawn uploads alone
+-- ---- the next request depends only on the known uploads
 
 upload_same : (w : Script) (k l : Known) (f : File) (u : Uploading) → k.drawn ≡ l.drawn → upload_asks w k f u ≡ upload_asks w l f u
 upload_same w k l f u h = grind arith
@@ -58,7 +58,7 @@ task_same w a k l (tasks.Uploads f fs u) e = ap Some (upload_same w k l f u e)
 task_same w a k l tasks.Storing e = ap (λ ds. Some (ClusterPut (tasks.temporary_path w a) (text_by w a (files w a) ds))) e
 task_same w a k l _ e = refl
 
--- ---- an operation counts
+-- ---- an operation counts its sends
 
 pub stays_serial : (g : Setting) (a : Who) (op : Operation) (o : Outcome) → is_serial op ≡ true → is_serial (tells g a op o) ≡ true
 stays_serial g a op o h = grind arith

@@ -1,4 +1,4 @@
--- Operations beside the plans that they are made from: what an actor knows of the job, in place of the job's whole script.
+-- Operations with the plans that they are made from. A plan holds what an actor knows of the job, and replaces the job's whole script.
 use Rattle.job_model.specs.Attempts.{Declared, Who}
 use Rattle.job_model.specs.JobScript.{Script, plain_script}
 use Rattle.job_model.specs.Jobs.{Job, Task}
@@ -21,26 +21,26 @@ use Rattle.s3_types.specs.declared.request.Request.{Request}
 use Rattle.std.specs.Option.{unwrap_or}
 use Rattle.std.specs.Prelude.{List, None, Option, Some, map, ℕ, [], ◌++◌, ◌∷◌}
 
--- ---- a script as far as a plan tells it
+-- ---- the script that a plan gives
 
--- a script with this head, this block and these attempts
+-- A script with this head, this block and these attempts.
 abbrev pub script_of : Job → ℕ → List Declared → Script
 script_of j block attempts = record (plain_script j.job j.dest j.committer j.mode j.tasks)
     { retries = j.retries; block = block; lanes = j.lanes; stamp = j.stamp; attempts = attempts }
 
--- the attempt that a plan is of
+-- The name of the attempt of a plan.
 abbrev pub who_of : Task → Who
 who_of t = record { task = t.task; attempt = t.attempt }
 
--- the script that an attempt's plan stands for: it alone is declared, with its files at the paths where they go
+-- The script that an attempt's plan gives: it declares only this attempt, with its files at their paths below the destination.
 abbrev pub task_script : Task → Script
 task_script t = script_of t.job t.block ((who_of t, t.files) ∷ [])
 
--- the script that the driver's plan stands for, which knows no attempt before it has read their sets
+-- The script that the driver's plan gives. It declares no attempt, as the driver has read no sets yet.
 abbrev pub job_script : Job → Script
 job_script j = script_of j 0 []
 
--- the attempt that a set is of, with the paths of its uploads below the destination; what the files hold is not told
+-- The attempt of a set, with the paths of its uploads below the destination. The contents of the files are unknown, and empty here.
 abbrev pub declared_of : Path → PendingSet → Declared
 declared_of dest s = (
   record { task = s.task; attempt = s.attempt },
@@ -48,25 +48,25 @@ declared_of dest s = (
       s.commits,
 )
 
--- the script that the driver's plan stands for once it has read these sets
+-- The script that the driver's plan gives after it has read these sets.
 abbrev pub read_script : Job → Sets → Script
 read_script j sets = script_of j 0 (map (declared_of j.dest) sets)
 
 -- ---- an attempt's operation
 
--- an operation and the attempt's plan
+-- An operation with the attempt's plan.
 pub record Attempting (O : Type 0) : Type 0 where
   pub plan : Task
   pub operation : O
 
--- what is known once the request was answered, or wore out
+-- What the attempt knows after its request was answered or ran out of retries.
 abbrev pub learned : Script → Who → Known → Option Request → Item → Known
 learned w a k (Some r) (Got reply repeated) = learn w a k r (Answered reply)
 learned w a k (Some r) WornOut = learn w a k r RequestLost
 learned w a k (Some r) OutOfMemory = k
 learned w a k None i = k
 
--- the attempt's plan with what it knows now
+-- The attempt's plan with this knowledge.
 abbrev pub with_known : Task → Known → Task
 with_known t k = record {
   job = t.job;
@@ -78,68 +78,68 @@ with_known t k = record {
   known = k;
 }
 
--- the operation and its plan, once its request was answered or wore out
+-- The operation and its plan, after its request was answered or ran out of retries.
 abbrev pub told : {O : Type 0} → Attempting O → Option Request → Item → O → Attempting O
 told m r i next = record { plan = with_known m.plan (learned (task_script m.plan) (who_of m.plan) m.plan.known r i); operation = next }
 
--- what a write asks next, by the attempt's plan
+-- The next request of a write, by the attempt's plan.
 abbrev pub write_wants : Attempting Write → Option Request
 write_wants m = write_asks (task_script m.plan) (who_of m.plan) m.plan.known m.operation
 
--- the write once its request was answered or wore out
+-- The write after its request was answered or ran out of retries.
 abbrev pub write_told : Attempting Write → Item → Attempting Write
 write_told m i = told m (write_wants m) i (write_after (task_script m.plan) m.plan.minimum m.operation i)
 
--- what a task's commit asks next, by the attempt's plan
+-- The next request of a task's commit, by the attempt's plan.
 abbrev pub task_commit_wants : Attempting TaskCommit → Option Request
 task_commit_wants m = task_commit_asks (task_script m.plan) (who_of m.plan) m.plan.known m.operation
 
--- the task's commit once its request was answered or wore out
+-- The task's commit after its request was answered or ran out of retries.
 abbrev pub task_commit_told : Attempting TaskCommit → Item → Attempting TaskCommit
 task_commit_told m i = told m (task_commit_wants m) i (task_commit_after (task_script m.plan) m.plan.minimum (who_of m.plan) m.operation i)
 
--- what a task's abort asks next, by the attempt's plan
+-- The next request of a task's abort, by the attempt's plan.
 abbrev pub task_abort_wants : Attempting TaskAbort → Option Request
 task_abort_wants m = task_abort_asks (task_script m.plan) (who_of m.plan) m.operation
 
--- the task's abort once its request was answered or wore out
+-- The task's abort after its request was answered or ran out of retries.
 abbrev pub task_abort_told : Attempting TaskAbort → Item → Attempting TaskAbort
 task_abort_told m i = told m (task_abort_wants m) i (task_abort_after (task_script m.plan) m.operation i)
 
 -- ---- the driver's operations
 
--- an operation and the job's plan
+-- An operation with the job's plan.
 pub record Driving (O : Type 0) : Type 0 where
   pub plan : Job
   pub operation : O
 
--- what a set-up asks next, by the job's plan
+-- The next request of a set-up, by the job's plan.
 abbrev pub setup_wants : Driving Setup → Option Request
 setup_wants m = setup_asks (job_script m.plan) m.operation
 
--- the set-up once its request was answered or wore out
+-- The set-up after its request was answered or ran out of retries.
 abbrev pub setup_told : Driving Setup → Item → Driving Setup
 setup_told m i = record { plan = m.plan; operation = setup_after (job_script m.plan) m.operation i }
 
--- what an abort or clean of the job asks next, by its plan
+-- The next request of an abort or clean of the job, by its plan.
 abbrev pub clean_wants : Driving Clean → Option Request
 clean_wants m = clean_asks (job_script m.plan) m.operation
 
--- the abort or clean once its request was answered or wore out
+-- The abort or clean after its request was answered or ran out of retries.
 abbrev pub clean_told : Driving Clean → Item → Driving Clean
 clean_told m i = record { plan = m.plan; operation = clean_after (job_script m.plan) m.operation i }
 
--- what a sparing abort or clean asks next, by the job's plan
+-- The next request of a sparing abort or clean, by the job's plan.
 abbrev pub sparing_wants : Driving Sparing → Option Request
 sparing_wants m = sparing_asks (job_script m.plan) m.operation
 
--- the sparing abort or clean once its request was answered or wore out
+-- The sparing abort or clean after its request was answered or ran out of retries.
 abbrev pub sparing_told : Driving Sparing → Item → Driving Sparing
 sparing_told m i = record { plan = m.plan; operation = sparing_after (job_script m.plan) m.operation i }
 
 -- ---- the driver's commit
 
--- the sets that a commit holds
+-- The sets that a commit keeps.
 abbrev pub sets_in : Commit → Sets
 sets_in (Fetching sets m) = sets
 sets_in (Replacing sets p ps s m) = sets
@@ -147,37 +147,37 @@ sets_in (Completing sets x xs finished) = sets
 sets_in (Marking sets m) = sets
 sets_in _ = []
 
--- the sets that were read, with one more where it was one
+-- The sets that were read, with one more if the reply had one.
 abbrev pub with_set : Sets → Option PendingSet → Sets
 with_set sets (Some s) = sets ++ s ∷ []
 with_set sets None = sets
 
--- the sets with the one that an outcome brings
+-- The sets that a commit keeps, with the one that an outcome brings.
 abbrev pub sets_after : Commit → Outcome → Sets
 sets_after (Fetching sets m) (Answered r) = with_set sets (set_read r)
 sets_after c o = sets_in c
 
--- a commit, the job's plan, and the attempts whose sets were read, by task from 0 on
+-- A commit, the job's plan, and the attempts whose sets were read, by task from 0 on.
 pub record Committing : Type 0 where
   pub plan : Job
   pub picked : List ℕ
   pub operation : Commit
 
--- the attempts of the sets that were read, with one more where it was one
+-- The attempts of the sets that were read, with one more if the reply had one.
 abbrev pub with_pick : List ℕ → Option PendingSet → List ℕ
 with_pick picked (Some s) = picked ++ s.attempt ∷ []
 with_pick picked None = picked
 
--- the attempts whose sets were read, after one more sending
+-- The attempts whose sets were read, after one more send.
 abbrev pub picked_after : List ℕ → Commit → Outcome → List ℕ
 picked_after picked (Fetching sets m) (Answered r) = with_pick picked (set_read r)
 picked_after picked c o = picked
 
--- what a job's commit asks next, by the job's plan and the sets that it holds
+-- The next request of a job's commit, by the job's plan and the sets that the commit keeps.
 abbrev pub commit_wants : Committing → Option Request
 commit_wants m = commit_asks (read_script m.plan (sets_in m.operation)) m.operation
 
--- the job's commit after one more sending
+-- The job's commit after one more send.
 abbrev pub commit_told : Committing → Outcome → Committing
 commit_told m o = record {
   plan = m.plan;
@@ -188,7 +188,7 @@ commit_told m o = record {
 
 -- ---- the plans that a script gives
 
--- the plan of the job's driver
+-- The plan of the job's driver.
 abbrev pub job_of : Script → Job
 job_of w = record {
   job = w.job;
@@ -202,7 +202,7 @@ job_of w = record {
   stamp = w.stamp;
 }
 
--- the plan of an attempt that knows this, over a store of this least size of a part
+-- The plan of an attempt with this knowledge, for a store with this minimum size of a part.
 abbrev pub task_of : Script → ℕ → Who → Known → Task
 task_of w minimum a k = record {
   job = job_of w;

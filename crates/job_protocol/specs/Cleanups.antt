@@ -15,25 +15,25 @@ use Rattle.std.specs.Prelude.{List, None, Option, Some, ℕ, [], ◌∷◌}
 use Rattle.magic_paths.specs.Layout as layout
 use Rattle.job_model.specs.declared.ends.CleanEnd.TheVariants as ends
 
--- how far an abort or clean of a job has come
+-- How far an abort or clean of a job has come.
 pub data Clean : Type 0 where
   -- lists the live uploads below the destination, with those so far
   Walking : (found : List UploadRef) → Clean
-  -- aborts this one; the others follow
+  -- aborts this upload; the others follow
   Aborting : (upload : UploadRef) (others : List UploadRef) → Clean
   -- magic: empties the job's magic directory
   Sweeping : (sweep : Sweep) → Clean
   -- staging: lists the job's files in the cluster
   Naming : Clean
-  -- deletes this one; the others follow
+  -- staging: deletes this cluster file; the others follow
   Removing : (path : List ℕ) (others : List (List ℕ)) → Clean
   CleanOver : (end : CleanEnd) → Clean
 
--- it begins with the live uploads below the destination
+-- The start: it lists the live uploads below the destination.
 abbrev pub clean_start : Clean
 clean_start = Walking []
 
--- what it asks next, or nothing where it is over
+-- The next request, or none if it is over.
 abbrev pub clean_asks : Script → Clean → Option Request
 clean_asks w (Walking found) = Some (uploads_after w.dest.bucket (dest_prefix w) found)
 clean_asks w (Aborting u us) = Some (AbortUpload w.dest.bucket u.key u.upload)
@@ -42,37 +42,37 @@ clean_asks w Naming = Some (ClusterList (layout.cluster_prefix w.job))
 clean_asks w (Removing p ps) = Some (ClusterDelete p)
 clean_asks w (CleanOver end) = None
 
--- what follows once all uploads are aborted: a sweep of the magic directory, or the job's files in the cluster
+-- The state after the last upload is aborted: it empties the magic directory, or lists the job's files in the cluster.
 abbrev pub aborted : Committer → Clean
 aborted Magic = Sweeping sweep_start
 aborted _ = Naming
 
--- the next of these uploads is aborted, until none is left
+-- The abort of the next of these uploads, and what follows after the last one.
 abbrev pub aborting : Committer → List UploadRef → Clean
 aborting committer [] = aborted committer
 aborting committer (u ∷ us) = Aborting u us
 
--- where a page of the live uploads leads
+-- The state after a page of the live uploads.
 abbrev pub walking : Committer → Walked UploadRef → Clean
 walking committer (More found) = Walking found
 walking committer (Whole found) = aborting committer found
 
--- where a reply to the sweep leads; behind the last one it is Done
+-- The state after a reply to the sweep. After the last one it is Done.
 abbrev pub sweeping : Option Sweep → Clean
 sweeping (Some s) = Sweeping s
 sweeping None = CleanOver ends.Done
 
--- the next of these cluster files is deleted; behind the last one it is Done
+-- The deletion of the next of these cluster files. After the last one it is Done.
 abbrev pub removing : List (List ℕ) → Clean
 removing [] = CleanOver ends.Done
 removing (p ∷ ps) = Removing p ps
 
--- where the list of the job's files in the cluster leads
+-- The state after a reply to the list of the job's files in the cluster.
 abbrev pub naming : Reply → Clean
 naming (ClusterNames paths) = removing paths
 naming _ = Naming
 
--- where an answer leads
+-- The state after a reply.
 abbrev pub clean_hears : Script → Clean → Reply → Clean
 clean_hears w (Walking found) r = walking w.committer (walked_uploads found r)
 clean_hears w (Aborting u us) r = aborting w.committer us
@@ -81,12 +81,12 @@ clean_hears w Naming r = naming r
 clean_hears w (Removing p ps) r = removing ps
 clean_hears w (CleanOver end) r = CleanOver end
 
--- how it ended, if it has
+-- How it ended, if it is over.
 abbrev pub clean_over : Clean → Option CleanEnd
 clean_over (CleanOver end) = Some end
 clean_over _ = None
 
--- where it stands after an answer, after a request that wore out, or after want of memory
+-- The state after a reply, after a request that ran out of retries, or after memory ran out.
 abbrev pub clean_after : Script → Clean → Item → Clean
 clean_after w c (Got r repeated) = clean_hears w c r
 clean_after w c WornOut = CleanOver ends.StoreFault

@@ -31,26 +31,26 @@ use Rattle.pending_json.specs.Reading as reading
 use Rattle.job_model.specs.declared.ends.CommitEnd.TheVariants as ends
 use Rattle.job_model.specs.declared.ends.Stage.TheVariants as stages
 
--- ---- what the driver read
+-- ---- the sets that the driver reads
 
--- the sets that were read, by task from 0 on
+-- The sets that were read, by task from 0 on.
 abbrev pub Sets : Type 0
 Sets = List PendingSet
 
--- the attempts of the sets
+-- The attempts of the sets, by task.
 abbrev pub picks_of : Sets → Picks
 picks_of sets t = option_map (λ s. s.attempt) (slice_get sets t)
 
--- the uploads of all sets, by task and then in the set's order: commits are numbered so
+-- The uploads of all sets, by task and then in the set's order. They are numbered in this order.
 abbrev pub all_commits : Sets → List Pending
 all_commits sets = flat_map (λ s. s.commits) sets
 
--- a set that was read without a fault
+-- The set, if it was read without a fault.
 abbrev pub ok_set : Result PendingSet RecordFault → Option PendingSet
 ok_set (Ok s) = Some s
 ok_set (Err f) = None
 
--- the set that the bytes of an answer spell
+-- The set in the bytes of a reply, if they are one.
 abbrev pub set_read : Reply → Option PendingSet
 set_read (Object bytes header) = ok_set (reading.set_of bytes)
 set_read (ClusterBytes bytes) = ok_set (reading.set_of bytes)
@@ -58,26 +58,26 @@ set_read _ = None
 
 -- ---- the operation
 
--- how far a job's commit has come
+-- How far a job's commit has come.
 pub data Commit : Type 0 where
-  -- reads the next task's set behind these
+  -- reads the set of the next task, after these sets
   Fetching : (sets : Sets) (missed : ℕ) → Commit
-  -- a replace mode: deletes below this prefix what the mode does not keep; the others follow
+  -- a replace mode: deletes below this prefix the files that the mode does not keep; the other prefixes follow
   Replacing : (sets : Sets) (prefix : List ℕ) (others : List (List ℕ)) (sweep : Sweep) (missed : ℕ) → Commit
-  -- completes: this lane's turn is next, then those of the others that have uploads; the numbers of what is done, the last one first
+  -- completes uploads: `turn` sends next, then `waiting`; `finished` has the numbers of the completed uploads, the last one first
   Completing : (sets : Sets) (turn : Turn) (waiting : List Turn) (finished : List ℕ) → Commit
-  -- puts the marker of a committed job
+  -- puts `_SUCCESS`
   Marking : (sets : Sets) (missed : ℕ) → Commit
-  -- a completion wore out: these requests are left, each of which is passed over where it wears out
+  -- a completion ran out of retries: sends these requests, and skips each one that runs out of retries
   Reverting : (request : Request) (others : List Request) (missed : ℕ) → Commit
   CommitOver : (end : CommitEnd) → Commit
 
--- the read of a task's set
+-- The read of a task's set.
 abbrev pub set_request : Committer → Script → ℕ → Request
 set_request Magic w t = GetObject w.dest.bucket (layout.set_key w.dest.key w.job t)
 set_request _ w t = ClusterGet (layout.staged_set_path w.job t)
 
--- what a job's commit asks next, or nothing where it is over
+-- The next request of a job's commit, or none if it is over.
 abbrev pub commit_asks : Script → Commit → Option Request
 commit_asks w (Fetching sets m) = Some (set_request w.committer w (length sets))
 commit_asks w (Replacing sets p ps s m) = Some (sweep_asks w.dest.bucket p s)
@@ -86,51 +86,51 @@ commit_asks w (Marking sets m) = Some (PutObject w.dest.bucket (layout.success_k
 commit_asks w (Reverting r rs m) = Some r
 commit_asks w (CommitOver end) = None
 
--- ---- where answers lead
+-- ---- after replies
 
--- the next completion of these lanes, or, where none has one, the put of the marker
+-- The next completion of these lanes, or the put of `_SUCCESS` if no lane has one.
 abbrev pub completing : Sets → List Turn → List ℕ → Commit
 completing sets [] finished = Marking sets 0
 completing sets (x ∷ xs) finished = Completing sets x xs finished
 
--- what stands below the magic directory is no file of the destination, and stays
+-- True if the key is not below the magic directory, whose keys are no files of the destination.
 abbrev pub is_no_magic : Script → List ℕ → Bool
 is_no_magic w key = not (begins (dest_prefix w ++ codes "__magic/") key)
 
--- below which prefixes a replace mode deletes
+-- The prefixes below which the mode deletes.
 abbrev pub replaced : Committer → Mode → Script → Picks → List (List ℕ)
 replaced c m w picks = emptied (displaced c m) w.dest (partitions (wanted_paths w picks))
 
--- the next prefix is emptied; behind the last one the uploads are completed
+-- The deletion below the next prefix. After the last one the commit completes the uploads.
 abbrev pub replacing : Script → Sets → List (List ℕ) → Commit
 replacing w sets [] = completing sets (dealt w.lanes (length (all_commits sets))) []
 replacing w sets (p ∷ ps) = Replacing sets p ps sweep_start 0
 
--- after the last read: two of the picks write one path, or what is not kept is deleted
+-- The commit after the last read: it ends if two chosen attempts write the same path, or else deletes.
 abbrev pub decided : Script → Sets → Option CommitEnd → Commit
 decided w sets (Some end) = CommitOver end
 decided w sets None = replacing w sets (replaced w.committer w.mode w (picks_of sets))
 
--- the next task's set is read; behind the last one the picks are decided
+-- The read of the next task's set. After the last one the chosen attempts are compared.
 abbrev pub fetching : Script → Sets → Commit
 fetching w sets = cond (nat_lt (length sets) w.tasks) (Fetching sets 0) (decided w sets (same_path w (picks_of sets)))
 
--- an answer that spells no set leaves it as it was
+-- The commit after a read of a set. A reply that is no set leaves it as it was.
 abbrev pub fetched : Script → Sets → Option PendingSet → Commit
 fetched w sets (Some s) = fetching w (sets ++ s ∷ [])
 fetched w sets None = Fetching sets 0
 
--- where a reply to a sweep below a prefix leads
+-- The commit after a reply to a sweep below a prefix.
 abbrev pub swept : Script → Sets → List ℕ → List (List ℕ) → Option Sweep → Commit
 swept w sets p ps (Some s) = Replacing sets p ps s 0
 swept w sets p ps None = replacing w sets ps
 
--- the next request of the revert; behind the last one the commit ends with StoreFault of Complete
+-- The next request of the revert. After the last one the commit ends with StoreFault of Complete.
 abbrev pub reverting : List Request → Commit
 reverting [] = CommitOver (ends.StoreFault stages.Complete)
 reverting (r ∷ rs) = Reverting r rs 0
 
--- where an answer leads
+-- The commit after a reply.
 abbrev pub commit_hears : Script → Commit → Reply → Commit
 commit_hears w (Fetching sets m) r = fetched w sets (set_read r)
 commit_hears w (Replacing sets p ps s m) r = swept w sets p ps (sweep_hears (is_no_magic w) s r)
@@ -140,13 +140,13 @@ commit_hears w (Marking sets m) r = CommitOver ends.Committed
 commit_hears w (Reverting q qs m) r = reverting qs
 commit_hears w (CommitOver end) r = CommitOver end
 
--- ---- where sendings without an answer lead
+-- ---- after sends without a reply
 
--- a completion that wore out leads to the revert
+-- The commit after a completion ran out of retries: it reverts.
 abbrev pub worn_completion : Sets → Turn → List Turn → List ℕ → Commit
 worn_completion sets x xs finished = reverting (revert (all_commits sets) x.number xs finished)
 
--- a request is sent again until it wears out
+-- The commit after a send without an answer: it sends the request again, unless the request has run out of retries.
 abbrev pub commit_misses : Script → Commit → Bool → Commit
 commit_misses w (Fetching sets m) lost = cond (nat_lt m w.retries) (Fetching sets (m + 1)) (CommitOver (ends.StoreFault stages.Read))
 commit_misses w (Replacing sets p ps s m) lost = cond (nat_lt m w.retries) (Replacing sets p ps s (m + 1))
@@ -157,36 +157,36 @@ commit_misses w (Marking sets m) lost = cond (nat_lt m w.retries) (Marking sets 
 commit_misses w (Reverting q qs m) lost = cond (nat_lt m w.retries) (Reverting q qs (m + 1)) (reverting qs)
 commit_misses w (CommitOver end) lost = CommitOver end
 
--- where a sending's outcome leads; SlowDown is no answer, and no loss
+-- The commit after the outcome of a send. SlowDown is no answer, and no loss.
 abbrev pub commit_tells : Script → Commit → Outcome → Commit
 commit_tells w c (Answered r) = commit_hears w c r
 commit_tells w c Slow = commit_misses w c false
 commit_tells w c _ = commit_misses w c true
 
--- an answer to a completion: that there is no such upload only where a sending of it was lost
+-- The replies that a completion may get: NoSuchUpload only after a lost send of it.
 abbrev pub FitsCompletion : Turn → Reply → Type 0
 FitsCompletion x (Completed tag) = Unit {0}
 FitsCompletion x (Refused NoSuchUpload) = x.lost ≡ true
 FitsCompletion x _ = ⊥
 
--- a task of which none reported its commit ends it before any request
+-- A job's commit as it begins. A task without a reported commit ends it before any request.
 abbrev pub commit_start : Script → Option ℕ → Commit
 commit_start w (Some t) = CommitOver (ends.Missing t)
 commit_start w None = fetching w []
 
--- how a job's commit ended, if it has
+-- How a job's commit ended, if it is over.
 abbrev pub commit_over : Commit → Option CommitEnd
 commit_over (CommitOver end) = Some end
 commit_over _ = None
 
--- the commit ended before anything was deleted or completed
+-- True for the ends that only come before the commit has deleted or completed anything.
 abbrev pub is_untouched : CommitEnd → Bool
 is_untouched (ends.Missing t) = true
 is_untouched (ends.SamePath p t u) = true
 is_untouched (ends.StoreFault stages.Read) = true
 is_untouched _ = false
 
--- the part of a commit that a request belongs to
+-- The stage of a commit that a request belongs to.
 abbrev pub stage_of : Request → Stage
 stage_of (GetObject bucket key) = stages.Read
 stage_of (ClusterGet path) = stages.Read

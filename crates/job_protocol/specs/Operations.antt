@@ -1,4 +1,4 @@
--- All operations of a job's actors, by one table.
+-- All operations of a job's actors, in one table.
 use Rattle.job_model.specs.Attempts.{Who}
 use Rattle.job_model.specs.JobScript.{Script}
 use Rattle.job_model.specs.Known.{Known}
@@ -26,7 +26,7 @@ use Rattle.std.specs.Prelude.{Bool, List, None, Option, Some, cond, true, ℕ}
 use Rattle.job_model.specs.declared.events.Op.TheVariants as ops
 use Rattle.job_model.specs.declared.ends.OpEnd.TheVariants as ends
 
--- an operation as it goes on; all but the job's commit are of replies under retries
+-- An operation in progress. All but the job's commit send one request at a time, with retries.
 pub data Operation : Type 0 where
   TheSetup : (setup : Retried Setup) → Operation
   TheWrite : (write : Retried Write) → Operation
@@ -34,24 +34,24 @@ pub data Operation : Type 0 where
   TheTaskAbort : (abort : Retried TaskAbort) → Operation
   TheCommit : (commit : Commit) → Operation
   TheClean : (clean : Retried Clean) → Operation
-  -- where another job shares the destination: the look for files before a commit of the mode fail, and an abort or clean that spares what
-  -- is the other's
+  -- Operations at a destination that another job shares: the conflict check before a commit of the mode fail, and an abort or clean that
+  -- spares what belongs to the other job.
   TheCheck : (check : Retried Check) → Operation
   TheSparing : (sparing : Retried Sparing) → Operation
 
--- what stays the same while operations go on: the script, the store's least size in bytes of a part, and whether another job shares the
--- destination
+-- What stays the same during a run: the script, the store's minimum size in bytes of a part, and whether another job shares the
+-- destination.
 pub record Setting : Type 0 where
   pub script : Script
   pub minimum : ℕ
   pub shared : Bool
 
--- the attempt that an actor is; of the others nothing asks this
+-- The name of an attempt. For other actors it is a placeholder that no operation uses.
 abbrev pub who : Actor → Who
 who (Attempt task attempt) = record { task = task; attempt = attempt }
 who _ = record { task = 0; attempt = 0 }
 
--- the request that is asked next, by an attempt that knows this, or none
+-- The next request of the operation, if its attempt knows `k`; or none.
 abbrev pub asks : Setting → Who → Known → Operation → Option Request
 asks g a k (TheSetup t) = setup_asks g.script t.operation
 asks g a k (TheWrite t) = write_asks g.script a k t.operation
@@ -62,15 +62,16 @@ asks g a k (TheClean t) = clean_asks g.script t.operation
 asks g a k (TheCheck t) = check_asks g.script t.operation
 asks g a k (TheSparing t) = sparing_asks g.script t.operation
 
--- a check that is clear goes on as the commit
+-- The operation after a step of the check: a clear check goes on as the commit.
 abbrev pub after_check_by : Setting → Retried Check → Check → Operation
 after_check_by g t (CheckOver Clear) = TheCommit (commit_start g.script None)
 after_check_by g t _ = TheCheck t
 
+-- The check, or the commit if the check is clear.
 abbrev pub after_check : Setting → Retried Check → Operation
 after_check g t = after_check_by g t t.operation
 
--- where the outcome of an operation's sending leads
+-- The operation after the outcome of its send.
 abbrev pub tells : Setting → Who → Operation → Outcome → Operation
 tells g a (TheSetup t) o = TheSetup (step g.script.retries (setup_after g.script) t o)
 tells g a (TheWrite t) o = TheWrite (step g.script.retries (write_after g.script g.minimum) t o)
@@ -81,7 +82,7 @@ tells g a (TheClean t) o = TheClean (step g.script.retries (clean_after g.script
 tells g a (TheCheck t) o = after_check g (step g.script.retries (check_after g.script) t o)
 tells g a (TheSparing t) o = TheSparing (step g.script.retries (sparing_after g.script) t o)
 
--- how an operation ended, where it is over
+-- How the operation ended, if it is over.
 abbrev pub over : Operation → Option OpEnd
 over (TheSetup t) = option_map ends.Setup (setup_over t.operation)
 over (TheWrite t) = option_map ends.Task (write_over t.operation)
@@ -92,26 +93,27 @@ over (TheClean t) = option_map ends.Clean (clean_over t.operation)
 over (TheCheck t) = option_map ends.Check (check_over t.operation)
 over (TheSparing t) = option_map ends.Clean (sparing_over t.operation)
 
--- what a driver knows of its tasks: the least one of which none reported its commit, and the attempts that reported theirs
+-- What a driver knows of its tasks: the lowest task without a reported commit, and the attempts that reported theirs.
 pub record Reports : Type 0 where
   pub missing : Option ℕ
   pub attempts : List Who
 
--- where another job shares the destination and the mode is fail, a commit begins with the check, unless a task is missing
+-- The commit as it begins. If another job shares the destination, the mode is fail and no task is missing, it begins with the check.
 abbrev pub commit_by : Setting → Bool → Mode → Reports → Option ℕ → Operation
 commit_by g true Fail r None = after_check g (fresh g.script.retries (check_start g.script r.attempts))
 commit_by g shared mode r missing = TheCommit (commit_start g.script missing)
 
+-- The commit of a job as it begins, by the driver's reports.
 abbrev pub commit_of : Setting → Reports → Operation
 commit_of g r = commit_by g g.shared g.script.mode r r.missing
 
--- an abort or clean
+-- An abort or clean as it begins.
 abbrev pub clean_of : Setting → Operation
 clean_of g = cond g.shared (TheSparing (fresh g.script.retries (sparing_start g.script.committer)))
     (TheClean (fresh g.script.retries clean_start))
 
--- the operation of an actor as it begins, by what an attempt knows then, and for the job's commit by the reports; an actor has no other
--- operations
+-- The operation of an actor as it begins, if the actor has it. It depends on what an attempt knows, and for the job's commit on the
+-- reports.
 abbrev pub start_of : Setting → Actor → Op → Reports → Known → Option Operation
 start_of g Driver ops.Setup r k = Some (TheSetup (fresh g.script.retries setup_start))
 start_of g Driver ops.Commit r k = Some (commit_of g r)
@@ -125,20 +127,20 @@ start_of g _ _ r k = None
 
 -- ---- an operation with what its attempt knows
 
--- an operation that goes on, with what its attempt knows
+-- An operation in progress, with what its attempt knows.
 pub record Running : Type 0 where
   pub operation : Operation
   pub known : Known
 
--- the request that it asks next, or none
+-- The next request, or none.
 abbrev pub wants : Setting → Actor → Running → Option Request
 wants g a m = asks g (who a) m.known m.operation
 
--- what is known after a sending of the request that was asked
+-- What the attempt knows after a send of this request.
 abbrev pub learn_of : Script → Who → Known → Option Request → Outcome → Known
 learn_of w a k (Some r) o = learn w a k r o
 learn_of w a k None o = k
 
--- where the outcome of a sending leads it
+-- The operation and the knowledge after the outcome of a send.
 abbrev pub advance : Setting → Actor → Running → Outcome → Running
 advance g a m o = record { operation = tells g (who a) m.operation o; known = learn_of g.script (who a) m.known (wants g a m) o }

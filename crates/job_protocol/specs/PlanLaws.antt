@@ -1,4 +1,4 @@
--- Plans tell of a script all that their operations ask.
+-- An operation needs no more of a script than its actor's plan holds.
 use Rattle.job_model.specs.Attempts.{Who}
 use Rattle.job_model.specs.JobScript.{Script}
 use Rattle.job_model.specs.Known.{Known}
@@ -12,7 +12,7 @@ use Rattle.job_protocol.specs.Writes.{Write, write_after, write_asks, write_star
 use Rattle.retries.specs.Retries.{Item}
 use Rattle.std.specs.Prelude.{ℕ, ◌≡◌}
 
--- an attempt's plan has its files, and its operations ask and go on by it as by the script
+-- An attempt's plan has its files, and its operations send and go on by the plan as by the script.
 pub record TasksTell : Type 0 where
   pub files : (w : Script) (n : ℕ) (a : Who) (k : Known) → files (task_script (task_of w n a k)) a ≡ files w a
   pub write_starts : (w : Script) (n : ℕ) (a : Who) (k : Known) → write_start (task_script (task_of w n a k)) a ≡ write_start w a
@@ -33,7 +33,7 @@ pub record TasksTell : Type 0 where
   pub abort_goes : (w : Script) (n : ℕ) (a : Who) (k : Known) (o : TaskAbort) (i : Item)
       → task_abort_after (task_script (task_of w n a k)) o i ≡ task_abort_after w o i
 
--- a set-up and a clean ask and go on by the driver's plan as by the script
+-- A set-up and a clean send and go on by the driver's plan as by the script.
 pub record JobsTell : Type 0 where
   pub setup_asks : (w : Script) (o : Setup) → setup_asks (job_script (job_of w)) o ≡ setup_asks w o
   pub setup_goes : (w : Script) (o : Setup) (i : Item) → setup_after (job_script (job_of w)) o i ≡ setup_after w o i

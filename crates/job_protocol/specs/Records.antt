@@ -16,32 +16,32 @@ use Rattle.serde_json.specs.Written.{compact_text}
 use Rattle.std.specs.Prelude.{List, None, Option, Some, codes, length, map, ℕ, ◌++◌}
 use Rattle.magic_paths.specs.Layout as layout
 
--- ---- the keys of a file: its own, that of its marker and that of its record
+-- ---- the keys of a file, of its marker and of its record
 
--- the key of a file below the destination
+-- The key of a file below the destination.
 abbrev pub file_key : Script → File → List ℕ
 file_key w f = below w.dest.key f.0
 
--- the directory that an attempt of the magic committer writes below
+-- The directory of an attempt of the magic committer, as a key.
 abbrev pub attempt_dir : Script → Who → List ℕ
 attempt_dir w a = layout.attempt_key w.dest.key w.job a.task a.attempt
 
--- the key of a file's marker in the attempt's magic directory
+-- The key of a file's marker in the attempt's magic directory.
 abbrev pub marker_key : Script → Who → File → List ℕ
 marker_key w a f = below (attempt_dir w a) f.0
 
--- the key of a file's record (SinglePendingCommit) in the attempt's magic directory
+-- The key of a file's record (SinglePendingCommit) in the attempt's magic directory.
 abbrev pub record_key : Script → Who → File → List ℕ
 record_key w a f = below (attempt_dir w a) (f.0 ++ codes ".pending")
 
--- ---- what they hold
+-- ---- their contents
 
--- the sizes that a record tells: magic attempts write version 2 of it, staging ones version 1, which has none
+-- The sizes in a record. Magic attempts write version 2 of it; staging attempts write version 1, which has none.
 abbrev pub sizes_by : Committer → List ℕ → Option (List ℕ)
 sizes_by Magic sizes = Some sizes
 sizes_by _ sizes = None
 
--- the record of a file's upload
+-- The record of a file's upload.
 abbrev pub file_record : Script → Who → File → Drawn → Pending
 file_record w a f d = record {
   task = a.task;
@@ -54,11 +54,11 @@ file_record w a f d = record {
   sizes = sizes_by w.committer d.sizes;
 }
 
--- the text of the record of a file's upload
+-- The text of the record of a file's upload.
 abbrev pub record_text : Script → Who → File → Drawn → List ℕ
 record_text w a f d = compact_text (pending_tree (file_record w a f d))
 
--- the set that publishes these files
+-- The set that publishes these files.
 abbrev pub files_set : Script → Who → List File → Known → PendingSet
 files_set w a commits k = record {
   job = w.job;
@@ -68,14 +68,14 @@ files_set w a commits k = record {
       (λ f. file_record w a f (drawn_for k (file_key w f))) commits;
 }
 
--- the text of the set (PendingSet) that publishes these files
+-- The text of the set (PendingSet) that publishes these files.
 abbrev pub set_text : Script → Who → List File → Known → List ℕ
 set_text w a commits k = compact_text (set_tree (files_set w a commits k))
 
--- the marker of a committed job says what was wanted
+-- The contents of `_SUCCESS`: the job, and the paths that the chosen attempts write.
 abbrev pub mark_of : Script → Picks → SuccessMark
 mark_of w picks = record { job = w.job; committer = w.committer; files = wanted_paths w picks; stamp = w.stamp }
 
--- the text of `_SUCCESS`
+-- The text of `_SUCCESS`.
 abbrev pub mark_text : Script → Picks → List ℕ
 mark_text w picks = compact_text (success_tree (mark_of w picks))

@@ -1,4 +1,4 @@
--- What of a store is a job's and what is not, and what one of its own requests may change.
+-- Which parts of a store belong to a job, and what one request of the job may change.
 use Rattle.basics.specs.Order.{text_eq}
 use Rattle.job_model.specs.JobScript.{Script}
 use Rattle.job_protocol.specs.Setup.{dest_prefix}
@@ -18,75 +18,76 @@ use Rattle.std.specs.Prelude.{Bool, List, None, Option, Some, false, true, ℕ, 
 use Rattle.std.specs.FinMap as fin
 use Rattle.magic_paths.specs.Layout as layout
 
--- the live upload of an id in a bucket, or none
+-- The live upload with this id in a bucket, or none.
 abbrev pub upload_in : Option BucketContent → ℕ → Option Upload
 upload_in None id = None
 upload_in (Some b) id = fin.get b.uploads id
 
--- the live upload with a bucket's id
+-- The live upload with this id in the bucket with this name, or none.
 abbrev pub upload_at : Content → List ℕ → ℕ → Option Upload
 upload_at c bucket id = upload_in (fin.get c.buckets bucket) id
 
--- a live upload is the same, unless its key is below the destination
+-- Holds if a live upload is unchanged, or its key is below the destination.
 abbrev pub SameOutsideUpload : Script → Option Upload → Option Upload → Type 0
 SameOutsideUpload w (Some u) (Some v) = begins (dest_prefix w) u.key ≡ false → u ≡ v
 SameOutsideUpload w (Some u) None = begins (dest_prefix w) u.key ≡ true
 SameOutsideUpload w None (Some v) = begins (dest_prefix w) v.key ≡ true
 SameOutsideUpload w None None = Unit {0}
 
--- two contents differ at most below the job's destination: in its objects and live uploads there
+-- Holds if two contents differ only below the job's destination: in its objects and live uploads there.
 pub record SameOutside (w : Script) (c d : Content) : Type 0 where
-  -- other buckets are the same
+  -- Other buckets are the same.
   pub buckets : (b : List ℕ) → text_eq b w.dest.bucket ≡ false → fin.get d.buckets b ≡ fin.get c.buckets b
-  -- objects that are not below the destination are the same
+  -- Objects that are not below the destination are the same.
   pub objects : (k : List ℕ) → begins (dest_prefix w) k ≡ false → object_at d w.dest.bucket k ≡ object_at c w.dest.bucket k
-  -- live uploads whose keys are not below the destination are the same
+  -- Live uploads whose keys are not below the destination are the same.
   pub uploads : (id : ℕ) → SameOutsideUpload w (upload_at c w.dest.bucket id) (upload_at d w.dest.bucket id)
 
--- no live upload's key is below the destination
+-- Holds if no live upload has a key below the destination.
 abbrev pub NoneLive : Script → Content → Type 0
 NoneLive w c = (id : ℕ) (u : Upload) → upload_at c w.dest.bucket id ≡ Some u → begins (dest_prefix w) u.key ≡ false
 
--- no key is below the job's magic directory
+-- Holds if no key is below the job's magic directory.
 abbrev pub NoMagicKey : Script → Content → Type 0
 NoMagicKey w c = (k : List ℕ) (o : Object) → object_at c w.dest.bucket k ≡ Some o → begins (layout.magic_prefix w.dest.key w.job) k ≡ false
 
--- no cluster file's path is the job's
+-- Holds if the cluster has no file of the job.
 abbrev pub NoClusterFile : Script → Scene → Type 0
 NoClusterFile w s = (p bytes : List ℕ) → fin.get s.files p ≡ Some bytes → begins (layout.cluster_prefix w.job) p ≡ false
 
--- nothing is left of what the committer keeps for itself
+-- Holds if no live upload is below the destination, and the job's magic directory (magic) or the job's files in the cluster (staging) are
+-- gone.
 abbrev pub NothingLeft : Committer → Script → Scene → Type 0
 NothingLeft Magic w s = NoneLive w s.content × NoMagicKey w s.content
 NothingLeft _ w s = NoneLive w s.content × NoClusterFile w s
 
--- ---- one request of the job's own
+-- ---- one request of the job
 
--- the request is a CopyObject
+-- True if the request is a CopyObject.
 abbrev pub is_copy : Request → Bool
 is_copy (CopyObject bucket source target) = true
 is_copy _ = false
 
--- the request begins an upload or sends a part of one
+-- True if the request creates an upload or sends a part of one.
 abbrev pub sends_data : Request → Bool
 sends_data (CreateUpload bucket key) = true
 sends_data (UploadPart bucket key id number bytes) = true
 sends_data _ = false
 
--- the request completes an upload or deletes
+-- True if the request completes an upload or deletes.
 abbrev pub may_show : Request → Bool
 may_show (CompleteUpload bucket key id parts) = true
 may_show (DeleteObject bucket key) = true
 may_show (DeleteObjects bucket keys) = true
 may_show _ = false
 
--- what an own entry changes of the content before it: it copies nothing, and nothing outside the destination changes
+-- Holds if an entry of the job copies nothing, and changes only what it may between contents `c` and `d`.
 pub record IsZeroRename (w : Script) (e : Entry) (c d : Content) : Type 0 where
-  -- files are never copied
+  -- Files are never copied.
   pub uncopied : is_copy e.request ≡ false
-  -- the driver sends no data
+  -- The driver sends no data.
   pub no_data : e.actor ≡ Driver → sends_data e.request ≡ false
-  -- what changes the view is a completion or a deletion of the driver that takes effect
+  -- Only a completion or deletion of the driver that takes effect changes what readers see.
   pub shows : Same (view w.dest d) (view w.dest c) ⊎ ((e.actor ≡ Driver) × (may_show e.request ≡ true) × (is_effective e.outcome ≡ true))
-  -- nothing outside the destination changes
+  -- Nothing outside the destination changes.
   pub outside : SameOutside w c d

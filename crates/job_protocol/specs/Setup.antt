@@ -17,27 +17,27 @@ use Rattle.std.specs.Prelude.{Bool, List, None, Option, Some, codes, cond, false
 use Rattle.magic_paths.specs.Layout as layout
 use Rattle.job_model.specs.declared.ends.SetupEnd.TheVariants as ends
 
--- how far a job's set-up has come
+-- How far a job's set-up has come.
 pub data Setup : Type 0 where
-  -- looks at the destination's own key
+  -- asks for the object at the destination's own key
   Heading : Setup
-  -- lists what is below the destination until a file of its view is found, with the keys so far
+  -- lists the keys below the destination until readers see a file at one of them, with the keys so far
   Checking : (keys : List (List ℕ)) → Setup
-  -- deletes the marker of an earlier job
+  -- deletes the `_SUCCESS` of an earlier job
   Clearing : Setup
-  -- empties the job's magic directory
+  -- magic: empties the job's magic directory
   Sweeping : (sweep : Sweep) → Setup
   SetupOver : (end : SetupEnd) → Setup
 
--- what the keys below the destination begin with
+-- The prefix of the keys below the destination.
 abbrev pub dest_prefix : Script → List ℕ
 dest_prefix w = w.dest.key ++ codes "/"
 
--- a set-up begins with a look at the destination's own key
+-- The start of a set-up: it asks for the object at the destination's own key.
 abbrev pub setup_start : Setup
 setup_start = Heading
 
--- what a set-up asks next, or nothing where it is over
+-- The next request of a set-up, or none if it is over.
 abbrev pub setup_asks : Script → Setup → Option Request
 setup_asks w Heading = Some (HeadObject w.dest.bucket w.dest.key)
 setup_asks w (Checking keys) = Some (page_after w.dest.bucket (dest_prefix w) keys)
@@ -45,61 +45,61 @@ setup_asks w Clearing = Some (DeleteObject w.dest.bucket (layout.success_key w.d
 setup_asks w (Sweeping s) = Some (sweep_asks w.dest.bucket (layout.magic_prefix w.dest.key w.job) s)
 setup_asks w (SetupOver end) = None
 
--- an object at the destination's key ends it
+-- The set-up after the first reply: an object at the destination's own key ends it.
 abbrev pub headed : Script → Reply → Setup
 headed w (Head len header) = SetupOver ends.DestIsFile
 headed w _ = cond (checks_all w.committer w.mode) (Checking []) Clearing
 
--- the path of a key, where a reader is shown a file there
+-- The path, if readers see a file there.
 abbrev pub shown_path : Option (List ℕ) → Option (List ℕ)
 shown_path None = None
 shown_path (Some p) = cond (is_file_path p) (Some p) None
 
--- a path, where there is one, and else the next
+-- The first path if there is one, otherwise the second.
 abbrev pub or_next : Option (List ℕ) → Option (List ℕ) → Option (List ℕ)
 or_next (Some p) next = Some p
 or_next None next = next
 
--- the first path among these keys at which a reader is shown a file
+-- The first path of these keys at which readers see a file.
 abbrev pub first_shown : Script → List (List ℕ) → Option (List ℕ)
 first_shown w [] = None
 first_shown w (k ∷ ks) = or_next (shown_path (relative_in w.dest.key k)) (first_shown w ks)
 
--- where a page without a file of the view leads
+-- The set-up after a page without a file that readers see.
 abbrev pub checked_on : Walked (List ℕ) → Setup
 checked_on (More keys) = Checking keys
 checked_on (Whole keys) = Clearing
 
--- a file of the view is a conflict, and else the listing goes on
+-- The set-up after a page: a file that readers see there is a conflict, and otherwise the listing goes on.
 abbrev pub checked_by : Option (List ℕ) → Walked (List ℕ) → Setup
 checked_by (Some p) next = SetupOver (ends.Conflict p)
 checked_by None next = checked_on next
 
--- where a page of the destination's keys leads
+-- The set-up after a page of the destination's keys.
 abbrev pub checked : Script → List (List ℕ) → Reply → Setup
 checked w keys (Page entries more) = checked_by (first_shown w (keys_on entries)) (walked keys (Page entries more))
 checked w keys _ = Checking keys
 
--- what follows once the old marker is gone: the magic committer sweeps its directory, the others are Done
+-- The set-up after `_SUCCESS` is deleted: the magic committer empties its directory, the others are Done.
 abbrev pub cleared : Committer → Setup
 cleared Magic = Sweeping sweep_start
 cleared _ = SetupOver ends.Done
 
--- where a reply to the sweep leads; behind the last one it is Done
+-- The set-up after a reply to the sweep. After the last one it is Done.
 abbrev pub sweeping : Option Sweep → Setup
 sweeping (Some s) = Sweeping s
 sweeping None = SetupOver ends.Done
 
--- the reply is NoSuchBucket
+-- True if the reply is NoSuchBucket.
 abbrev pub lacks_bucket : Reply → Bool
 lacks_bucket (Refused NoSuchBucket) = true
 lacks_bucket _ = false
 
--- a bucket that is not there ends it, whatever was asked
+-- The set-up after a reply: NoSuchBucket ends it, whatever the request was.
 abbrev pub if_bucket : Reply → Setup → Setup
 if_bucket r next = cond (lacks_bucket r) (SetupOver ends.NoSuchBucket) next
 
--- where an answer leads
+-- The set-up after a reply.
 abbrev pub setup_hears : Script → Setup → Reply → Setup
 setup_hears w Heading r = if_bucket r (headed w r)
 setup_hears w (Checking keys) r = if_bucket r (checked w keys r)
@@ -107,12 +107,12 @@ setup_hears w Clearing r = if_bucket r (cleared w.committer)
 setup_hears w (Sweeping s) r = if_bucket r (sweeping (sweep_hears all_go s r))
 setup_hears w (SetupOver end) r = SetupOver end
 
--- how a set-up ended, if it has
+-- How a set-up ended, if it is over.
 abbrev pub setup_over : Setup → Option SetupEnd
 setup_over (SetupOver end) = Some end
 setup_over _ = None
 
--- where it stands after an answer, after a request that wore out, or after want of memory
+-- The set-up after a reply, after a request that ran out of retries, or after memory ran out.
 abbrev pub setup_after : Script → Setup → Item → Setup
 setup_after w s (Got r repeated) = setup_hears w s r
 setup_after w s WornOut = SetupOver ends.StoreFault

@@ -1,4 +1,4 @@
--- The driver's abort or clean of a job at a shared destination: it aborts only the uploads that the job's own records and sets name, and
+-- The driver's abort or clean of a job at a shared destination. It aborts only the uploads that the job's own records and sets name, and
 -- lists no uploads (Hadoop, S3A committer architecture: cleanup by the job's own pending files).
 use Rattle.job_model.specs.JobScript.{Script}
 use Rattle.job_model.specs.declared.ends.CleanEnd.{CleanEnd}
@@ -22,34 +22,34 @@ use Rattle.magic_paths.specs.Layout as layout
 use Rattle.pending_json.specs.Reading as reading
 use Rattle.job_model.specs.declared.ends.CleanEnd.TheVariants as ends
 
--- how far a sparing abort or clean has come
+-- How far a sparing abort or clean has come.
 pub data Sparing : Type 0 where
   -- magic: lists the keys below the job's magic directory, with those so far
   Walking : (keys : List (List ℕ)) → Sparing
   -- staging: lists the job's files in the cluster
   Naming : Sparing
-  -- reads the record or set at this place, then at the others; with the uploads that were named so far, and all places, which are to go in
-  -- the end
+  -- reads the record or set at this place, then at the others; `named` has the uploads that were named so far, `all` the places to delete
+  -- in the end
   Reading : (named : List UploadRef) (place : List ℕ) (others all : List (List ℕ)) → Sparing
-  -- aborts this one; the others follow
+  -- aborts this upload; the others follow
   Aborting : (upload : UploadRef) (others : List UploadRef) (all : List (List ℕ)) → Sparing
-  -- magic: deletes these keys, at most 1,000 at a time
+  -- magic: deletes these keys, at most 1,000 in a request
   Deleting : (key : List ℕ) (keys : List (List ℕ)) → Sparing
-  -- staging: deletes this one; the others follow
+  -- staging: deletes this cluster file; the others follow
   Removing : (path : List ℕ) (others : List (List ℕ)) → Sparing
   SparingOver : (end : CleanEnd) → Sparing
 
--- it begins with the keys of the job's magic directory, or with the job's files in the cluster
+-- The start: it lists the keys of the job's magic directory, or the job's files in the cluster.
 abbrev pub sparing_start : Committer → Sparing
 sparing_start Magic = Walking []
 sparing_start _ = Naming
 
--- the read of a record, or of a file in the cluster
+-- The read of a record, or of a set in the cluster.
 abbrev pub record_request : Committer → Script → List ℕ → Request
 record_request Magic w place = GetObject w.dest.bucket place
 record_request _ w place = ClusterGet place
 
--- what it asks next, or nothing where it is over
+-- The next request, or none if it is over.
 abbrev pub sparing_asks : Script → Sparing → Option Request
 sparing_asks w (Walking keys) = Some (page_after w.dest.bucket (layout.magic_prefix w.dest.key w.job) keys)
 sparing_asks w Naming = Some (ClusterList (layout.cluster_prefix w.job))
@@ -59,65 +59,66 @@ sparing_asks w (Deleting k ks) = Some (DeleteObjects w.dest.bucket (take 1000 (k
 sparing_asks w (Removing p ps) = Some (ClusterDelete p)
 sparing_asks w (SparingOver end) = None
 
--- ---- what records and sets name
+-- ---- the uploads that records and sets name
 
--- the upload that a record names
+-- The upload that a record names.
 abbrev pub ref_of : Pending → UploadRef
 ref_of p = record { key = p.destination; upload = p.upload }
 
--- of a record its upload, of a set all of its uploads; of what is neither, none
+-- The upload that a record names; none if it is unreadable.
 abbrev pub record_names : Result Pending RecordFault → List UploadRef
 record_names (Ok p) = ref_of p ∷ []
 record_names (Err f) = []
 
+-- The uploads that a set names; none if it is unreadable.
 abbrev pub set_names : Result PendingSet RecordFault → List UploadRef
 set_names (Ok s) = map ref_of s.commits
 set_names (Err f) = []
 
--- of an answer; where nothing stands, none
+-- The uploads that the record or set in a reply names; none for any other reply.
 abbrev pub names : Reply → List UploadRef
 names (Object bytes header) = record_names (reading.pending_of bytes)
 names (ClusterBytes bytes) = set_names (reading.set_of bytes)
 names _ = []
 
--- ---- where answers lead
+-- ---- after replies
 
--- the next keys are deleted; behind the last one it is Done
+-- The deletion of the next keys. After the last ones it is Done.
 abbrev pub deleting : List (List ℕ) → Sparing
 deleting [] = SparingOver ends.Done
 deleting (k ∷ ks) = Deleting k ks
 
--- the next of these cluster files is deleted; behind the last one it is Done
+-- The deletion of the next of these cluster files. After the last one it is Done.
 abbrev pub removing : List (List ℕ) → Sparing
 removing [] = SparingOver ends.Done
 removing (p ∷ ps) = Removing p ps
 
--- once all uploads are aborted, what was listed is deleted
+-- The deletion of the listed places, after the last upload is aborted.
 abbrev pub emptying : Committer → List (List ℕ) → Sparing
 emptying Magic all = deleting all
 emptying _ all = removing all
 
--- the next of these uploads is aborted, until none is left
+-- The abort of the next of these uploads, and what follows after the last one.
 abbrev pub aborting : Committer → List UploadRef → List (List ℕ) → Sparing
 aborting committer [] all = emptying committer all
 aborting committer (u ∷ us) all = Aborting u us all
 
--- the next of these places is read, until none is left
+-- The read of the next of these places, and what follows after the last one.
 abbrev pub reading_on : Committer → List UploadRef → List (List ℕ) → List (List ℕ) → Sparing
 reading_on committer named [] all = aborting committer named all
 reading_on committer named (p ∷ ps) all = Reading named p ps all
 
--- where a page of the keys leads
+-- The state after a page of the keys.
 abbrev pub walking : Committer → Walked (List ℕ) → Sparing
 walking committer (More keys) = Walking keys
 walking committer (Whole keys) = reading_on committer [] (filter is_record keys) keys
 
--- where the list of the job's files in the cluster leads
+-- The state after a reply to the list of the job's files in the cluster.
 abbrev pub naming : Committer → Reply → Sparing
 naming committer (ClusterNames paths) = reading_on committer [] paths paths
 naming committer _ = Naming
 
--- where an answer leads
+-- The state after a reply.
 abbrev pub sparing_hears : Script → Sparing → Reply → Sparing
 sparing_hears w (Walking keys) r = walking w.committer (walked keys r)
 sparing_hears w Naming r = naming w.committer r
@@ -127,12 +128,12 @@ sparing_hears w (Deleting k ks) r = deleting (drop 1000 (k ∷ ks))
 sparing_hears w (Removing p ps) r = removing ps
 sparing_hears w (SparingOver end) r = SparingOver end
 
--- how it ended, if it has
+-- How it ended, if it is over.
 abbrev pub sparing_over : Sparing → Option CleanEnd
 sparing_over (SparingOver end) = Some end
 sparing_over _ = None
 
--- where it stands after an answer, after a request that wore out, or after want of memory
+-- The state after a reply, after a request that ran out of retries, or after memory ran out.
 abbrev pub sparing_after : Script → Sparing → Item → Sparing
 sparing_after w c (Got r repeated) = sparing_hears w c r
 sparing_after w c WornOut = SparingOver ends.StoreFault

@@ -1,4 +1,4 @@
--- What a reader of a destination is shown (Hadoop, S3A committers: the magic directory and `_SUCCESS` are no data).
+-- The files that readers of a destination see (Hadoop, S3A committers: the magic directory and `_SUCCESS` are no data).
 use Rattle.path_keys.specs.Paths.{Path, below}
 use Rattle.s3_types.specs.Pages.{begins}
 use Rattle.s3_types.specs.Store.{BucketContent, Content}
@@ -7,33 +7,33 @@ use Rattle.std.specs.Option.{option_map}
 use Rattle.std.specs.Prelude.{Bool, List, None, Option, Some, bytes_eq, codes, cond, not, true, ℕ, [], ◌&&◌, ◌==◌, ◌∷◌, ◌≡◌}
 use Rattle.std.specs.FinMap as fin
 
--- paths below a destination, each with a file's bytes or with none
+-- A view: for each path below a destination the bytes of the file there, or none.
 abbrev pub Shown : Type 0
 Shown = List ℕ → Option (List ℕ)
 
--- two views show the same files
+-- Holds if two views show the same files.
 abbrev pub Same : Shown → Shown → Type 0
 Same v u = (p : List ℕ) → v p ≡ u p
 
--- a path is empty or ends in `/`
+-- True if the path is empty or ends in `/`.
 abbrev pub is_folder : List ℕ → Bool
 is_folder [] = true
 is_folder (x ∷ []) = x == 47
 is_folder (x ∷ y ∷ p) = is_folder (y ∷ p)
 
--- a path of a file: not of a folder, not below `__magic`, and not the marker of a committed job
+-- True if readers take the path for a file: it is no folder, not below `__magic`, and not `_SUCCESS`.
 abbrev pub is_file_path : List ℕ → Bool
 is_file_path p = not (is_folder p) && not (begins (codes "__magic/") p) && not (bytes_eq p (codes "_SUCCESS"))
 
--- the object at a key of a bucket, or none
+-- The object at a key of a bucket, or none.
 abbrev pub object_in : Option BucketContent → List ℕ → Option Object
 object_in None k = None
 object_in (Some b) k = fin.get b.objects k
 
--- the object at a bucket's key
+-- The object at a key of the bucket with this name, or none.
 abbrev pub object_at : Content → List ℕ → List ℕ → Option Object
 object_at c bucket k = object_in (fin.get c.buckets bucket) k
 
--- the file that a destination shows at a path
+-- The file that readers of a destination see at a path, or none.
 abbrev pub view : Path → Content → Shown
 view dest c p = cond (is_file_path p) (option_map (λ o. o.bytes) (object_at c dest.bucket (below dest.key p))) None

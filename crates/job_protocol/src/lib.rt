@@ -1,47 +1,52 @@
-//! What each operation of a job's actors sends next, and where the outcome of each sending leads it, for
-//! every committer, in `specs/`.
+//! The requests that each operation of a job sends, in order, and how the outcome of each send
+//! changes the operation. The definitions are in `specs/`, for every committer.
 //!
 //! # What is proved
 //!
-//! The paths of a script's files keep the bounds of the layout's places (`paths`). For every committer: an operation asks a request exactly until it is over. One that sends one
-//! request at a time is at fault exactly where a request of it wore out. The end SamePath names the
-//! least path that two picks write, with the two least tasks. In a job's commit each upload is done or
-//! in one lane's turn, the lanes send in their cyclic order, and the commit ends by the first of its
-//! requests that wore out, where its uploads have different keys. By a script's plans operations ask
-//! and go on as by the script.
+//! - `paths`: The paths of a script's files keep the bounds of the layout's places.
+//! - `operations`: An operation has a next request exactly until it is over, for every committer.
+//! - `wearing_out`: An operation that sends one request at a time ends with StoreFault exactly if
+//!   one of its requests ran out of retries.
+//! - `shared_paths`: The end SamePath names the least path that two chosen attempts write, with the
+//!   two lowest tasks.
+//! - `lanes`: In a job's commit each upload is completed or belongs to exactly one lane's turn. The
+//!   lanes send in cyclic order. If the uploads have different keys, the commit ends by its first
+//!   request that ran out of retries.
+//! - `plans`: By the plans that a script gives, operations send the same requests and go on in the
+//!   same way as by the script itself.
 #![tactic(auto)]
 
 ghost use Rattle.job_protocol.specs.Laws.{OperationTable, FaultsAreWorn, SharedPaths, LanesKeep, CommitsInLanes};
 ghost use Rattle.job_protocol.specs.PathLaws.{ArePlaces};
 ghost use Rattle.job_protocol.specs.PlanLaws.{TasksTell, JobsTell};
 
-/// The paths of a script's files keep the bounds that make the keys of different places different.
+/// The law that the keys of different places differ, for the paths of a script's files.
 pub fn paths()
     ensures places { ArePlaces }
 {}
 
-/// The operations of a job's actors.
+/// The law of the operations of a job's actors.
 pub fn operations()
     ensures table { OperationTable }
 {}
 
-/// Requests that wear out.
+/// The law of requests that run out of retries.
 pub fn wearing_out()
     ensures faults { FaultsAreWorn }
 {}
 
-/// The path that two picks write.
+/// The law of the path that two chosen attempts write.
 pub fn shared_paths()
     ensures shared { SharedPaths }
 {}
 
-/// The lanes in which a job's uploads are completed.
+/// The law of the lanes in which a job's uploads are completed.
 pub fn lanes()
     ensures table { LanesKeep }
     ensures end { CommitsInLanes }
 {}
 
-/// Operations by the plans of those who perform them.
+/// The law of operations that follow the plans of their actors.
 pub fn plans()
     ensures tasks { TasksTell }
     ensures jobs { JobsTell }

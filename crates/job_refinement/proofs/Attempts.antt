@@ -1,4 +1,4 @@
--- The answers that are due to an attempt's machines.
+-- The answers that S3 must give to an attempt's machines.
 use Rattle.basics.proofs.Members.{nat_false, some_is}
 use Rattle.basics.specs.Members.{IsIn, RisesFrom}
 use Rattle.job_facts.proofs.Cut.{parts_few}
@@ -51,7 +51,7 @@ use Rattle.task_machines.specs.Aborts as undoing
 
 -- ---- an upload
 
--- an id that comes behind those of uploads is none of theirs
+-- An id above those of uploads is none of theirs.
 new_among : (id : ℕ) (ds : List Drawn) → ((d : Drawn) → IsIn d ds → d.upload < id) → is_new id ds ≡ true
 new_among id [] h = refl
 new_among id (d ∷ ds) h =
@@ -71,7 +71,7 @@ module _ (w : Script) (minimum : ℕ) (s : Scene) (last : ℕ → Option ℕ) (m
       (f.ids.below a) in
       subst (FitsCreate k.drawn) (sym (answer_is w s f.there.0 f.there.1 (CreateUpload w.dest.bucket key) refl)) new
 
-  -- the next part of the upload that was drawn last has a number
+  -- The next part of the newest upload has a valid number.
   sending_fits : (g : File) (fs : List File) (p : List ℕ) (ps : List (List ℕ)) → Begun w minimum a (m.drawn a) g fs (p ∷ ps)
       → let d = first_drawn k.drawn in FitsPart (answer s (UploadPart w.dest.bucket (file_key w g) d.upload (length d.tags + 1) p))
   sending_fits g fs p ps b =
@@ -105,7 +105,7 @@ module _ (w : Script) (minimum : ℕ) (s : Scene) (last : ℕ → Option ℕ) (m
       f.there.0.objects)) in
       subst (FitsListing keys) (sym due) (page_keys 1000 (attempt_prefix w a) (last_of keys) f.there.0.objects, on)
 
-  -- the record of one of its files, which are written
+  -- The record of one of its written files.
   record_fits : is_magic w.committer ≡ true → s.content.next ≤ 2 ^ 64 → (cs : List File) → AreCommits w minimum (m.drawn a) a cs
       → (g : File) → IsIn g (files w a) → FitsRecord w a k g (answer s (GetObject w.dest.bucket (record_key w a g)))
   record_fits magic few cs are g i = elim (record_there j f magic a g i) [
@@ -118,7 +118,7 @@ module _ (w : Script) (minimum : ℕ) (s : Scene) (last : ℕ → Option ℕ) (m
         subst (FitsRecord w a k g) (sym there.1) (ap (record_text w a g) (sym same), subst (λ d. IsPending d (length g.1)) (sym is) pending)
   ]
 
-  -- a look for a key below a partition
+  -- The request for one key below a partition.
   look_fits : (prefix : List ℕ) → FitsPage (answer s (ListPage w.dest.bucket prefix false [] 1))
   look_fits prefix = subst FitsPage (sym (answer_is w s f.there.0 f.there.1 (ListPage w.dest.bucket prefix false [] 1) refl))
       (page_keys 1 prefix [] f.there.0.objects)

@@ -1,4 +1,4 @@
--- How far the driver's commit has come is kept, whoever sends.
+-- The facts of the driver's commit hold on, whoever sends.
 use Rattle.job_facts.proofs.Acting.{operation_goes}
 use Rattle.job_facts.proofs.Beside.{beside, job_commit_begins}
 use Rattle.job_facts.proofs.Deciding.{d_start, decides_goes}
@@ -74,13 +74,13 @@ pub still_unclean : (w : Script) (minimum : ℕ) (s : Seen) (m : Told) (n : ℕ)
     → (tell w m (driver_entry n r o)).cleaned ≡ false
 still_unclean w minimum s m n c v r e o h late = ap (λ b. b || is_begun m.cleans_at n) h ∙ late
 
--- ---- others'
+-- ---- requests of others
 
 attempt_scene : (w : Script) (k : Times) (s : Seen) (a : Who) (n : ℕ) (r : Request) (o : Outcome)
     → (see w k s (entry a n r o)).scene ≡ effect s.scene r o
 attempt_scene w k s a n r o = grind arith
 
--- what nobody but the driver ends stays as it is
+-- The turns stay the same after requests of others, since only the driver ends uploads.
 same_turns : (m now : Told) (c : Commit) → now.ended ≡ m.ended → Turns m c → Turns now c
 same_turns m now c e h = grind arith
 

@@ -1,4 +1,4 @@
--- That a replace mode's deletion leaves nothing below its prefixes but what it spares.
+-- A replace mode's deletion leaves nothing below its prefixes but the keys that it spares.
 use Rattle.basics.proofs.Members.{in_map, none_or_some, none_some, some_is}
 use Rattle.basics.specs.Members.{IsIn}
 use Rattle.basics.specs.Order.{text_cmp}
@@ -63,7 +63,7 @@ module _ (w : Script) (all : List (List ℕ)) (some : (p k : List ℕ) → IsIn 
   At t [] x = Unit {0}
   At t (p ∷ ps) x = SweepsUnder p x × EmptiesBy w p goes t.content x
 
-  -- what stands and is to go is below the prefixes that are left
+  -- Each object that is still to be deleted is below the prefixes that are left.
   abbrev Within : Scene → List (List ℕ) → Type 0
   Within t ps = (p k : List ℕ) (o : Object) → IsIn p all → begins p k ≡ true → goes k ≡ true → at_key w t.content k ≡ Some o → IsIn p ps
 
@@ -74,7 +74,7 @@ module _ (w : Script) (all : List (List ℕ)) (some : (p k : List ℕ) → IsIn 
     pub at : At t e.prefixes e.sweep
     pub spares : e.spared ≡ spared w.dest
 
-  -- a request of a sweep puts nothing
+  -- A request of a sweep puts nothing.
   fewer : (t : Scene) → HasBucket t.content w.dest.bucket → (p : List ℕ) (x : Sweep) (k : List ℕ) (o : Object)
       → at_key w (apply t (sweep_asks w.dest.bucket p x)).content k ≡ Some o → at_key w t.content k ≡ Some o
   fewer t there p (Listing keys) k o e =
@@ -87,12 +87,12 @@ module _ (w : Script) (all : List (List ℕ)) (some : (p k : List ℕ) → IsIn 
   fewer_by t there p x RequestLost k o e = e
   fewer_by t there p x _ k o e = fewer t there p x k o e
 
-  -- a sweep begins
+  -- A sweep begins.
   sweeps : (t : Scene) (ps : List (List ℕ)) → ((p : List ℕ) → IsIn p ps → IsIn p all) → At t ps sweep_start
   sweeps t [] members = tt
   sweeps t (p ∷ ps) members = (λ k i. absurd i, λ k x b go e. inr (some p k (members p (inl refl)) b))
 
-  -- it goes on, or is over
+  -- A sweep goes on, or is over.
   on : (t : Scene) (p : List ℕ) (ps : List (List ℕ)) → HasBucket t.content w.dest.bucket → ((q : List ℕ) → IsIn q (p ∷ ps) → IsIn q all)
       → Within t (p ∷ ps) → (o : Option Sweep) → EmptiedBy w p goes t.content o → Left t (swept_on (spared w.dest) p ps o)
   on t p ps there members within (Some x) e = record { there = there; members = members; within = within; at = e; spares = refl }
@@ -107,7 +107,7 @@ module _ (w : Script) (all : List (List ℕ)) (some : (p k : List ℕ) → IsIn 
     spares = refl;
   }
 
-  -- its request was answered
+  -- The current request was answered.
   heard : (t : Scene) (ps : List (List ℕ)) (x : Sweep) → Left t (record { prefixes = ps; sweep = x; spared = spared w.dest })
       → (r : Request)
       → asks_below w.dest.bucket x ps ≡ Some r
@@ -122,7 +122,7 @@ module _ (w : Script) (all : List (List ℕ)) (some : (p k : List ℕ) → IsIn 
       subst (λ v. Left (apply t v) (swept_on (spared w.dest) p ps (sweep_hears goes x (answer t v)))) same
       (on (apply t q) p ps there h.members within (sweep_hears goes x (answer t q)) a)
 
-  -- it was not
+  -- The current request got no answer.
   unheard : (t : Scene) (ps : List (List ℕ)) (x : Sweep) → Left t (record { prefixes = ps; sweep = x; spared = spared w.dest })
       → (r : Request) → asks_below w.dest.bucket x ps ≡ Some r → (o : Outcome)
       → Left (effect t r o) (record { prefixes = ps; sweep = x; spared = spared w.dest })
@@ -138,7 +138,7 @@ module _ (w : Script) (all : List (List ℕ)) (some : (p k : List ℕ) → IsIn 
         spares = refl;
       })
 
-  -- its keys are spared as they were
+  -- The deletion spares the same keys as before.
   spared_so : (t : Scene) (e : Deletion) → Left t e → Left t (record { prefixes = e.prefixes; sweep = e.sweep; spared = spared w.dest })
   spared_so t e h = record { there = h.there; members = h.members; within = h.within; at = h.at; spares = refl }
 

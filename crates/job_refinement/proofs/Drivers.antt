@@ -1,4 +1,4 @@
--- The answers that are due to the driver's machines.
+-- The answers that S3 must give to the driver's machines.
 use Rattle.basics.proofs.Members.{none_some, some_is, true_or_false}
 use Rattle.commit_laws.specs.Fitting.{FitsCommit, FitsReply, SpellsSet}
 use Rattle.conflict.specs.Fits.{FitsCheck, FitsLook}
@@ -84,7 +84,7 @@ check_due w s there ps _ r e repeated = tt
 -- ---- the job's commit
 
 module _ (w : Script) (minimum : ℕ) (s : Seen) (m : Told) (j : IsLegal w) (h : Hold w minimum s m) where
-  -- a set that stands is that of an attempt of its task
+  -- A set that exists is that of an attempt of its task.
   set_fits : s.scene.content.next ≤ 2 ^ 64 → (t : ℕ) → t < w.tasks → (bytes : List ℕ) → sets_at w s.scene t ≡ Some bytes
       → SpellsSet (job_of w) t (set_read (answer s.scene (set_request w.committer w t)))
   set_fits few t low bytes stands =
@@ -92,7 +92,7 @@ module _ (w : Script) (minimum : ℕ) (s : Seen) (m : Told) (j : IsLegal w) (h :
       subst (SpellsSet (job_of w) t) (sym (set_reply j h w.committer t (Some bytes) stands ∙ ap ok_set (bytes_read j h few t bytes low x)))
       (set_is j minimum t x.by (m.drawn x.by) x.commits x.are x.task)
 
-  -- a completion of which a sending was lost
+  -- A completion of which a send was lost.
   lost_fits : Gone w s.scene.content m → (x : Turn) → x.lost ≡ true → (p : Pending) → IsCommit w minimum m.publish_sent m.drawn p
       → FitsCompletion x (answer s.scene (completion p))
   lost_fits gone x lost p v =
@@ -123,7 +123,7 @@ module _ (w : Script) (minimum : ℕ) (s : Seen) (m : Told) (j : IsLegal w) (h :
         (nth_of (all_commits sets) x.number low)).1.commit
   ]
 
-  -- the bucket is there
+  -- The answer to an abort is never that the bucket does not exist.
   abort_there : (o : Option Upload) → abort_answer o ≡ Refused NoSuchBucket → ⊥
   abort_there o e = grind arith
 
@@ -136,7 +136,7 @@ module _ (w : Script) (minimum : ℕ) (s : Seen) (m : Told) (j : IsLegal w) (h :
   put_there : (key bytes : List ℕ) → answer s.scene (PutObject w.dest.bucket key bytes None) ≡ Refused NoSuchBucket → ⊥
   put_there key bytes e = cc (answer_is w s.scene h.there.0 h.there.1 (PutObject w.dest.bucket key bytes None) refl, e)
 
--- what is due to the present request fits
+-- The answer that S3 must give to the current request fits.
 module _ (w : Script) (minimum : ℕ) (s : Seen) (m : Told) (j : IsLegal w) (few : s.scene.content.next ≤ 2 ^ 64) where
   reply_fits : (c : Commit) → Commits w minimum s m c → SetStands w s c → (picked : List ℕ) (r : Request)
       → commit_wants (committing w picked c) ≡ Some r → FitsReply (job_of w) c (answer s.scene r)

@@ -24,7 +24,7 @@ use Rattle.std.proofs.Common.{Bool, List, Some, ap, arith, inl, inr, is_some, ma
 use Rattle.std.proofs.Common.{◌≡◌}
 
 module _ {w : Script} (j : IsLegal w) where
-  -- the path of a file's key below the destination is the file's
+  -- The path of a file's key below the destination is the file's path.
   pub path_back : (f : File) → relative_in w.dest.key (file_key w f) ≡ Some f.0
   path_back f = behind_some w.dest.key (file_key w f) (47 ∷ f.0) f.0 (some_dest j) (below_is w.dest.key f.0 (some_dest j)) refl
 
@@ -41,7 +41,7 @@ module _ {w : Script} (j : IsLegal w) where
     one_of (f ∷ fs) zero c e = (f, inl refl, some_is e)
     one_of (f ∷ fs) (suc n) c e = let old = one_of fs n c e in (old.0, inr old.1, old.2)
 
-    -- two uploads of one key are one
+    -- Two uploads to the same key are the same upload.
     apart_at : (fs : List File) → ApartFiles fs → (i n : ℕ) (c d : Pending) → slice_get (uploads_of fs) i ≡ Some c
         → slice_get (uploads_of fs) n ≡ Some d → c.destination ≡ d.destination → i ≡ n
     apart_at [] h i n c d e g k = absurd (none_some refl e)
@@ -68,12 +68,12 @@ module _ {w : Script} (j : IsLegal w) where
     apart = λ i n c d g h k. apart_at a ds commits are.once i n c d g h k;
   }
 
-  -- so are those that the driver holds
+  -- The sets that the driver holds are sets of its tasks, too.
   pub are_read : (minimum : ℕ) (sent : Who → Bool) (drawn : Who → List Drawn) (sets : Sets) → Reads w minimum sent drawn sets
       → AreRead (job_of w) sets
   are_read minimum sent drawn sets reads n s e = let h = reads n s e in subst (IsSetOf (job_of w) n) (sym h.is)
       (set_is minimum n h.by (drawn h.by) h.commits h.are h.task)
 
--- the read of a set by the script that the sets tell
+-- The read of a set, by the script that the sets give.
 pub same_read : (c : Committer) (w : Script) (sets : Sets) (t : ℕ) → set_request c (read_script (job_of w) sets) t ≡ set_request c w t
 same_read c w sets t = grind arith

@@ -1,4 +1,4 @@
--- What is to be known of operations beside the facts is kept.
+-- The conditions on operations besides the facts hold on.
 use Rattle.basics.specs.Members.{IsIn}
 use Rattle.job_facts.proofs.Going.{step_so}
 use Rattle.job_facts.proofs.Ordered.{order_each}
@@ -19,7 +19,7 @@ use Rattle.s3_types.specs.declared.journal.Outcome.{Outcome}
 use Rattle.s3_types.specs.declared.reply.Reply.{Reply}
 use Rattle.std.proofs.Common.{Bool, List, arith, false, length, ℕ, ◌≡◌}
 
--- ---- the records that a task's commit reads
+-- ---- the records that a task commit reads
 
 module _ (w : Script) (a : Who) where
   own_reading : (cs fs : List File) → ((f : File) → IsIn f fs → IsIn f (files w a)) → ReadsOwn w a (reading cs fs)
@@ -41,7 +41,7 @@ pub reads_go : (w : Script) (minimum retries : ℕ) (a : Who) (t : Retried TaskC
 reads_go w minimum retries a t o own = step_so retries (task_commit_after w minimum a) t o (ReadsOwn w a)
     (λ x e. own_heard w a minimum t.operation x t.repeated own) (λ none. own) (λ none. tt)
 
--- ---- sets that stand
+-- ---- sets that exist
 
 pub set_stands : (w : Script) (minimum : ℕ) (s : Seen) (m : Told) (c : Commit) → Hold w minimum s m
     → FitsJobCommit w minimum m.publish_sent m.drawn c → m.cleaned ≡ false → AllPublished w s → SetStands w s c

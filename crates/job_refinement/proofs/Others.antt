@@ -1,4 +1,4 @@
--- What others send leaves what is told of an attempt.
+-- Requests of others change nothing that is known of an attempt.
 use Rattle.job_refinement.specs.Laws.{OthersLeave}
 use Rattle.std.proofs.Common.{arith}
 

@@ -1,4 +1,4 @@
--- The answers to requests for pages, where their bucket is there.
+-- The answers to requests for pages, if their bucket exists.
 use Rattle.job_facts.proofs.Shapes.{answer_is}
 use Rattle.job_model.specs.JobScript.{Script}
 use Rattle.list_walk.proofs.Keys.{page_keys}

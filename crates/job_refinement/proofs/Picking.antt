@@ -1,4 +1,4 @@
--- The attempts that the driver's commit has picked are those that are seen.
+-- The attempts that the driver's commit has chosen are those that `see` derives from the entries.
 use Rattle.basics.proofs.Members.{none_some, same_or_not, some_is}
 use Rattle.basics.proofs.Options.{both_hold}
 use Rattle.job_facts.proofs.Reading.{reads_it, reads_other}
@@ -51,7 +51,7 @@ abbrev fetches : Commit → Bool
 fetches (Fetching sets n) = true
 fetches _ = false
 
--- what has read its sets reads none again
+-- A commit that has read its sets reads none again.
 reads_no_more : (w : Script) (c : Commit) (o : Outcome) → fetches c ≡ false → fetches (commit_tells w c o) ≡ false
 reads_no_more w c o e = grind arith
 
@@ -84,17 +84,17 @@ begins_picked w s none missing = (
       [ Some t ↦ tt | None ↦ each_fetching w [] [] refl ],
 )
 
--- ---- a sending
+-- ---- a send
 
 left : (b c : Bool) (x y : Option ℕ) → c ≡ false → cond (b && c) x y ≡ y
 left b c x y h = grind arith
 
--- what is seen of the picks after a sending of the driver's
+-- The chosen attempts that `see` derives after a send of the driver.
 module _ (w : Script) (k : Times) (s : Seen) (n : ℕ) (picked : List ℕ) (are : ArePicked w s picked) where
   abbrev now : Request → Outcome → Seen
   now r o = see w k s (driver_entry n r o)
 
-  -- a request that reads no set
+  -- A request that reads no set.
   other_picked : (r : Request) → ((t : ℕ) → is_reading w t r ≡ false) → (o : Outcome) → ArePicked w (now r o) picked
   other_picked r h o = grind arith
 
@@ -130,7 +130,7 @@ module _ (g : Setting) (j : IsLegal g.script) (k : Times) (s : Seen) (m : Told) 
         subst (λ q. IsEachPicked (picked ++ attempt ∷ []) (fetched w sets q)) (sym is)
         (each_fetching w (picked ++ attempt ∷ []) (sets ++ h ∷ []) both)
 
-    -- it was read
+    -- The set was read.
     with_read : (missed : ℕ) (x : Reply) (h : PendingSet) → set_read x ≡ Some h → h.attempt ≡ attempt
         → Tells (Fetching sets missed) read (Answered x)
     with_read missed x h got is =

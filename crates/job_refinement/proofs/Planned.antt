@@ -1,4 +1,4 @@
--- Machines that go by plans want what their operations ask by the script, and go where that is told.
+-- Machines that follow plans send the requests of their operations by the script, and go on as these do.
 use Rattle.job_facts.specs.Facts.{knowing}
 use Rattle.job_model.specs.Attempts.{Who}
 use Rattle.job_model.specs.Files.{File}
@@ -25,7 +25,7 @@ use Rattle.s3_types.specs.declared.request.Request.TheVariants.{ClusterPut, PutO
 use Rattle.std.proofs.Common.{None, Option, Some, ap, arith, refl, ℕ, [], ◌∙◌, ◌≡◌}
 use Rattle.magic_paths.specs.Layout as layout
 
--- ---- what is learnt, by a plan
+-- ---- what a plan learns
 
 module _ (w : Script) (n : ℕ) (a : Who) (k : Known) where
   abbrev plan : Script
@@ -34,7 +34,7 @@ module _ (w : Script) (n : ℕ) (a : Who) (k : Known) where
   learned_same : (l : Known) (r : Option Request) (i : Item) → learned plan a l r i ≡ learned w a l r i
   learned_same l r i = grind arith
 
-  -- ---- a step of an operation under its retries
+  -- ---- a step of an operation with retries
 
   module _ {O : Type 0} (retries : ℕ) (told : Attempting O → Item → Attempting O) (after : O → Item → O) (wants : O → Option Request)
       (same : (op : O) (i : Item) → told (at_work w n a k op) i ≡ at_work w n a (learned w a k (wants op) i) (after op i)) where
@@ -44,7 +44,7 @@ module _ (w : Script) (n : ℕ) (a : Who) (k : Known) where
 
   -- ---- the operations
 
-  -- what the plan knows then, and where the operation goes
+  -- What the plan then knows, and the next operation.
   abbrev both : {O : Type 0} (l m : Known) (op next : O) → l ≡ m → op ≡ next → at_work w n a l op ≡ at_work w n a m next
   both l m op next e g = ap (λ x. at_work w n a x op) e ∙ ap (at_work w n a m) g
 
@@ -62,7 +62,7 @@ module _ (w : Script) (n : ℕ) (a : Who) (k : Known) where
       (learned w a k (task_abort_asks w a op) i) (task_abort_after w op i)
   abort_same op i = grind arith
 
--- ---- by the uploads that are known
+-- ---- with the known uploads
 
 module _ (w : Script) (a : Who) (k l : Known) (e : k.drawn ≡ l.drawn) where
   same_upload : (f : File) (u : Uploading) → upload_asks w k f u ≡ upload_asks w l f u

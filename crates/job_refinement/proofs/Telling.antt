@@ -1,4 +1,4 @@
--- The script that the sets tell is as good as the job's for the commit that holds them.
+-- For a commit with these sets, the script that they give leads to the same requests as the job's.
 use Rattle.basics.proofs.Members.{false_true, in_append, in_back, in_front, in_map, map_in, none_some, text_is, text_true, true_or_false}
 use Rattle.basics.specs.Members.{IsIn}
 use Rattle.basics.specs.Order.{text_eq}
@@ -72,7 +72,7 @@ same_append xs ys xs' ys' h g = record {
       ys' xs ys (h.back p) (g.back p) i;
 }
 
--- a file has the path where it is among theirs
+-- A file has the path if the path is among theirs.
 path_in : (fs : List File) (p : List ℕ) → has_path fs p ≡ true → IsIn p (paths fs)
 path_in [] p h = absurd (false_true refl h)
 path_in (f ∷ fs) p h = elim (true_or_false (text_eq p f.0)) [ inl e ↦ inl (text_is p f.0 e) | inr e ↦ inr (path_in fs p (rw e at h)) ]
@@ -86,7 +86,7 @@ same_has : (xs ys : List File) → SamePaths xs ys → (p : List ℕ) → has_pa
 same_has xs ys h p = both_ways (has_path xs p) (has_path ys p) (λ e. in_path ys p (h.there p (path_in xs p e)))
     (λ e. in_path xs p (h.back p (path_in ys p e)))
 
--- what is deleted for a replace mode does not matter
+-- The start of a replace mode's deletion does not depend on the sets that are known.
 replacing_same : (w : Script) (known sets : Sets) (ps : List (List ℕ))
     → replacing (read_script (job_of w) known) sets ps ≡ replacing w sets ps
 replacing_same w known sets ps = grind arith
@@ -95,7 +95,7 @@ replacing_same w known sets ps = grind arith
 
 module _ {w : Script} (j : IsLegal w) (minimum : ℕ) (sent : Who → Bool) (drawn : Who → List Drawn) (sets : Sets)
     (reads : Reads w minimum sent drawn sets) where
-  -- the script that they tell
+  -- The script that the sets give.
   abbrev told : Script
   told = read_script (job_of w) sets
 
@@ -125,7 +125,7 @@ module _ {w : Script} (j : IsLegal w) (minimum : ℕ) (sent : Who → Bool) (dra
             (subst (λ q. IsIn q (paths x.commits)) (sym o.2) (map_in (λ (f : File). f.0) o.0 x.commits (x.are.all o.0 o.1)));
       }
 
-  -- a pick's files have the same paths by both scripts
+  -- The files of a chosen attempt have the same paths in both scripts.
   picked_paths : (t : ℕ) → SamePaths (files_picked told t (picks t)) (files_picked w t (picks t))
   picked_paths t = by (slice_get sets t) refl
     where
@@ -204,7 +204,7 @@ swept_same w known sets p ps o = grind arith
 
 module _ (w : Script) (minimum : ℕ) (s : Scene) (last : ℕ → Option ℕ) (m : Told) (j : IsLegal w) (f : Facts w minimum s last m)
     (few : s.content.next ≤ 2 ^ 64) where
-  -- a set that was read, or none
+  -- A set that was read, or none.
   read_same : (sets : Sets) → length sets < w.tasks → Reads w minimum m.publish_sent m.drawn sets → (x : Reply)
       → x ≡ answer s (set_request w.committer w (length sets))
       → fetched (read_script (job_of w) (with_set sets (set_read x))) sets (set_read x) ≡ fetched w sets (set_read x)

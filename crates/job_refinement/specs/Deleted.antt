@@ -1,4 +1,4 @@
--- What the deletion of a replace mode leaves, where nobody else changes the store (Hadoop, S3A committers: conflict mode replace).
+-- What the deletion of a replace mode leaves if nobody else changes the store (Hadoop, S3A committers: conflict mode replace).
 use Rattle.basics.specs.Members.{IsIn}
 use Rattle.conflict.specs.Deletions.{Deletion, deleted, deletion_asks, deletion_hears, spared}
 use Rattle.job_model.specs.JobScript.{Script}
@@ -13,8 +13,8 @@ use Rattle.s3_types.specs.declared.request.Request.{Request}
 use Rattle.std.specs.Prelude.{List, None, Some, false, true, ℕ, ◌≡◌}
 use Rattle.store_frame.specs.Held.{HasBucket}
 
--- A deletion in this bucket came from the one scene and stage to the other: each request that it asked either had the answer that S3
--- must give, which led it on, or got no answer, and was sent again.
+-- A deletion in this bucket led from one scene and state to another. Each of its requests either got the answer that S3 must give, and the
+-- deletion went on, or got no answer and was sent again.
 pub data Deletes (bucket : List ℕ) (s : Scene) (d : Deletion) : Scene → Deletion → Type 0 where
   nothing_sent : Deletes bucket s d s d
   had_answer : (t : Scene) (e : Deletion) (r : Request) → Deletes bucket s d t e → deletion_asks bucket e ≡ Some r
@@ -22,11 +22,11 @@ pub data Deletes (bucket : List ℕ) (s : Scene) (d : Deletion) : Scene → Dele
   had_none : (t : Scene) (e : Deletion) (r : Request) (o : Outcome) → Deletes bucket s d t e → deletion_asks bucket e ≡ Some r
       → is_unanswered o ≡ true → Deletes bucket s d (effect t r o) e
 
--- the deletion of what a script's committer displaces in the mode replace, where these partitions are written, as it begins
+-- The deletion with which the mode replace of a script's committer begins, if the job writes these partitions.
 abbrev pub deleting : Script → List (List ℕ) → Deletion
 deleting w partitions = record { prefixes = deleted w.committer w.dest partitions; sweep = sweep_start; spared = spared w.dest }
 
--- Where such a deletion asks nothing more, no object is left below one of its prefixes but those of the destination's magic directories.
+-- After such a deletion has ended, no object is left below one of its prefixes but those of the destination's magic directories.
 abbrev pub DeletionsLeave : Type 0
 DeletionsLeave = (w : Script) (partitions : List (List ℕ)) (s t : Scene) (e : Deletion) → HasBucket s.content w.dest.bucket
     → Deletes w.dest.bucket s (deleting w partitions) t e → deletion_asks w.dest.bucket e ≡ None

@@ -1,4 +1,4 @@
--- What is asked of the answers that are due, and what must be known of an operation beside the facts of its job.
+-- Which answers must fit, and what must be known of an operation besides the facts of its job.
 use Rattle.basics.specs.Members.{IsIn}
 use Rattle.job_facts.specs.Standing.{HasPublished}
 use Rattle.job_facts.specs.Stores.{sets_at}
@@ -16,25 +16,25 @@ use Rattle.s3_types.specs.declared.reply.Reply.{Reply}
 use Rattle.s3_types.specs.declared.request.Request.{Request}
 use Rattle.std.specs.Prelude.{Bool, List, Option, Some, length, ℕ, ◌<◌, ◌∷◌, ◌≡◌}
 
--- the answer that is due to what is asked fits, whether or not an earlier sending of it was lost
+-- The answer that S3 must give to the current request fits, whether or not an earlier send of it was lost.
 abbrev pub FitsDue : {O : Type 0} → (O → Option Request) → (O → Reply → Bool → Type 0) → O → Scene → Type 0
 FitsDue wants fits o s = (r : Request) → wants o ≡ Some r → (repeated : Bool) → fits o (answer s r) repeated
 
--- the records that a task's commit has yet to read are of its own files
+-- The records that a task commit still has to read are those of the attempt's own files.
 abbrev pub ReadsOwn : Script → Who → TaskCommit → Type 0
 ReadsOwn w a (Reading cs f fs) = (g : File) → IsIn g (f ∷ fs) → IsIn g (files w a)
 ReadsOwn w a _ = Unit {0}
 
--- the set that a job's commit reads next stands
+-- The set that a job commit reads next exists.
 abbrev pub SetStands : Script → Seen → Commit → Type 0
 SetStands w s (Fetching sets n) = (bytes : List ℕ) × (sets_at w s.scene (length sets) ≡ Some bytes)
 SetStands w s _ = Unit {0}
 
--- each task has a last publisher
+-- For each task some attempt published last.
 abbrev pub AllPublished : Script → Seen → Type 0
 AllPublished w s = (t : ℕ) → t < w.tasks → HasPublished s t
 
--- the same is told of an attempt
+-- The same is known of an attempt before and after.
 pub record IsSameTold (m now : Told) (a : Who) : Type 0 where
   pub known : known now a ≡ known m a
   pub undone : now.undone a ≡ m.undone a

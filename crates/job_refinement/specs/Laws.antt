@@ -46,10 +46,10 @@ use Rattle.job_setup.specs.Fits as setups
 use Rattle.cleanup.specs.Fits as cleans
 use Rattle.commit_laws.specs.Fitting as jobs
 
--- ---- answers that are due
+-- ---- the answers that S3 must give
 
--- Where the facts hold of a job, the answer that is due to what a machine asks is one that it takes, for every committer. An attempt's
--- plan is to know the uploads that are told of the attempt.
+-- If the facts of a job hold, each machine takes the answer that S3 must give to its request, for every committer. The attempt's plan must
+-- know the uploads that the replies told the attempt of.
 pub record DueFits : Type 0 where
   pub write : (w : Script) (minimum : ℕ) (s : Scene) (last : ℕ → Option ℕ) (m : Told) → IsLegal w → Facts w minimum s last m
       → (a : Who) (k : Known) → k.drawn ≡ m.drawn a
@@ -58,35 +58,36 @@ pub record DueFits : Type 0 where
       → s.content.next ≤ 2 ^ 64 → (a : Who) (k : Known) → k.drawn ≡ m.drawn a
       → (t : TaskCommit) → FitsCommit w minimum a (known m a) t → ReadsOwn w a t
       → FitsDue task_commit_wants commit_fits (at_work w minimum a k t) s
-  -- these need the bucket alone
+  -- These laws need only that the bucket exists.
   pub abort : (w : Script) (minimum : ℕ) (s : Scene) → HasBucket s.content w.dest.bucket → (a : Who) (k : Known) (t : TaskAbort)
       → FitsDue task_abort_wants abort_fits (at_work w minimum a k t) s
   pub clean : (w : Script) (s : Scene) → HasBucket s.content w.dest.bucket → (t : Clean)
       → FitsDue clean_wants cleans.FitsDriving (driving w t) s
   pub check : (w : Script) (s : Scene) → HasBucket s.content w.dest.bucket → (partitions : List (List ℕ)) (c : Check)
       → FitsDue check_wants FitsCheck (rechecking w partitions c) s
-  -- a set-up finds out whether it is there
+  -- A set-up finds out whether the bucket exists.
   pub setup : (w : Script) (s : Scene) (t : Setup) → SetsUp w s.content t → FitsDue setup_wants setups.FitsDriving (driving w t) s
-  -- of the job's commit every outcome that is honest, where the set that it reads next stands; that a sending of a completion was lost
-  -- is told by the commit itself
+  -- The job's commit takes every honest outcome if the set that it reads next exists. The commit itself keeps whether a send of a
+  -- completion was lost.
   pub job_commit : (w : Script) (minimum : ℕ) (s : Seen) (m : Told) (c : Commit) → IsLegal w → Commits w minimum s m c
       → s.scene.content.next ≤ 2 ^ 64 → SetStands w s c
       → (picked : List ℕ) (r : Request) → commit_wants (committing w picked c) ≡ Some r → (o : Outcome)
       → IsHonestOutcome o (answer s.scene r) → jobs.FitsCommit (committing w picked c) o
 
--- what is to be known for this beside the facts is kept, whatever becomes of a sending
+-- The conditions of `DueFits` besides the facts hold on, whatever the outcome of a send.
 pub record PremisesKeep : Type 0 where
   pub reads_begin : (w : Script) (a : Who) → ReadsOwn w a (task_commit_start w a)
   pub reads_go : (w : Script) (minimum retries : ℕ) (a : Who) (t : Retried TaskCommit) (o : Outcome) → ReadsOwn w a t.operation
       → ReadsOwn w a (step retries (task_commit_after w minimum a) t o).operation
-  -- the set that is read next stands until the driver cleans up, where each task has a last publisher
+  -- The set that a commit reads next exists until the driver cleans up, if each task has a last publisher.
   pub stands : (w : Script) (minimum : ℕ) (s : Seen) (m : Told) (c : Commit) → Hold w minimum s m
       → FitsJobCommit w minimum m.publish_sent m.drawn c → m.cleaned ≡ false → AllPublished w s → SetStands w s c
-  -- a task that has a last publisher has one ever after, whoever sends
+  -- A task that has a last publisher keeps having one, whoever sends.
   pub published : (w : Script) (k : Times) (s : Seen) (e : Entry) (t : ℕ) → HasPublished s t → HasPublished (see w k s e) t
 
--- How far the driver's commit has come (`Commits`) is kept: from its beginning on, where the driver has ended no upload before it, or
--- nothing is to be read or deleted, by each of its requests, which do not clean up, by attempts' and by strangers'.
+-- The facts of the driver's commit (`Commits`) hold from its beginning on. At the beginning, the driver has ended no upload yet, or the
+-- commit reads and deletes nothing. They hold on after each request of the commit, which does not clean up. The requests of attempts and
+-- from outside the job keep them too.
 pub record CommitsKeep : Type 0 where
   pub begins : (w : Script) (minimum : ℕ) (s : Seen) (m : Told) → IsLegal w → Hold w minimum s m → Gone w s.scene.content m
       → (missing : Option ℕ) → (missing ≡ None → (0 < w.tasks) ⊎ (is_magic w.committer ≡ false) → NoneEnded m)
@@ -107,21 +108,22 @@ pub record CommitsKeep : Type 0 where
       → (r : Request) → IsForeign w m.drawn r → (o : Outcome)
       → Commits w minimum (see w k s (strange_entry n r o)) (tell w m (strange_entry n r o)) c
 
--- ---- the driver's commit, which knows of the job's attempts their sets alone
+-- ---- the driver's commit, which knows only the sets of the job's attempts
 
--- where the sets that it holds are those of the script's attempts, the script that they tell is as good as the job's, for every committer
+-- If the sets that the commit has read are those of the script's attempts, the script that they give leads to the same requests as the
+-- job's. This holds for every committer.
 pub record ReadsTell : Type 0 where
   pub begins : (w : Script) → IsLegal w → (missing : Option ℕ) → commit_start (read_script (job_of w) []) missing ≡ commit_start w missing
   pub asks : (w : Script) (minimum : ℕ) (m : Told) → IsLegal w → (c : Commit) → FitsJobCommit w minimum m.publish_sent m.drawn c
       → commit_asks (read_script (job_of w) (sets_in c)) c ≡ commit_asks w c
-  -- a set that is read now is among them
+  -- The same holds after a set is read now.
   pub tells : (w : Script) (minimum : ℕ) (s : Scene) (last : ℕ → Option ℕ) (m : Told) → IsLegal w → Facts w minimum s last m
       → s.content.next ≤ 2 ^ 64 → (c : Commit) → FitsJobCommit w minimum m.publish_sent m.drawn c
       → (r : Request) → commit_asks w c ≡ Some r → (o : Outcome) → IsHonestOutcome o (answer s r)
       → commit_tells (read_script (job_of w) (sets_after c o)) c o ≡ commit_tells w c o
 
--- The attempts that it has picked are those that are seen, where nothing is picked as it begins, its entries are of its event or later
--- ones, and the set that it reads next stands.
+-- The attempts that a commit has chosen are those that `see` derives from the entries. It requires that nothing is chosen at the
+-- beginning, that the commit's entries belong to its own event or later ones, and that the set that it reads next exists.
 pub record PicksTell : Type 0 where
   pub begins : (w : Script) (s : Seen) → ((t : ℕ) → s.picks t ≡ None) → (missing : Option ℕ) → ArePicked w s []
       × IsEachPicked [] (commit_start w missing)
@@ -131,16 +133,17 @@ pub record PicksTell : Type 0 where
       → (o : Outcome) → IsHonestOutcome o (answer s.scene r)
       → let now = picked_after picked c o in ArePicked g.script (see g.script k s (driver_entry n r o)) now
       × IsEachPicked now (commit_tells g.script c o)
-  -- what others send leaves them
+  -- Requests of others do not change the chosen attempts.
   pub attempts : (w : Script) (k : Times) (s : Seen) (a : Who) (n : ℕ) (r : Request) (o : Outcome)
       → (see w k s (entry a n r o)).picks ≡ s.picks
   pub strangers : (w : Script) (k : Times) (s : Seen) (n : ℕ) (r : Request) (o : Outcome)
       → (see w k s (strange_entry n r o)).picks ≡ s.picks
 
--- ---- machines that go by plans
+-- ---- machines that follow plans
 
--- A machine of an actor wants what its operation asks by the script (`wants`). It is led by an item where the operation is (`takes`), and
--- under its retries by an outcome where `tells` leads that (`goes`). An attempt's plan knows k, and l is what is told of the attempt.
+-- A machine sends the request that its operation sends by the script (`wants`). After a reply or fault it goes on as the operation does
+-- (`takes`), and with retries after an outcome as `tells` says (`goes`). The attempt's plan knows `k`, and `l` is what its entries told
+-- the attempt.
 pub record MachinesTell : Type 0 where
   pub write_begins : (w : Script) (minimum : ℕ) (a : Who) (k : Known)
       → let p = task_of w minimum a k in at_work w minimum a k (write_start (task_script p) (who_of p)) ≡ at_work w minimum a k
@@ -194,9 +197,9 @@ pub record MachinesTell : Type 0 where
       → (r : Request) → commit_asks g.script c ≡ Some r → (o : Outcome) → IsHonestOutcome o (answer s r)
       → commit_told (committing g.script picked c) o ≡ committing g.script (picked_after picked c o) (commit_tells g.script c o)
 
--- ---- what others send
+-- ---- requests of others
 
--- What others send leaves what is told of an attempt, and so how far its operation has come.
+-- Requests of others change nothing that is known of an attempt, and so nothing of its operation.
 pub record OthersLeave : Type 0 where
   pub attempts : (w : Script) (m : Told) (a b : Who) → (a ≡ b → ⊥) → (n : ℕ) (r : Request) (o : Outcome)
       → IsSameTold m (tell w m (entry b n r o)) a

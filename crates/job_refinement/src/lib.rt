@@ -1,21 +1,25 @@
-//! What the machines of a job's actors ask of the answers that they are given, where the facts of the job
-//! hold; and that machines which go by plans do what their operations do by the job's script, in `specs/`.
+//! Laws that connect the machines of a job's actors with the job's script, in `specs/`. If the
+//! facts of the job hold, the answers that S3 must give are answers that the machines take.
+//! Machines that follow plans do what their operations do by the job's script.
 //!
 //! # What is proved
 //!
-//! Where the facts of `job_facts` hold, for every committer: the answer that is due to what each
-//! machine asks is one that it takes, whether or not an earlier sending was lost (`answers`). The
-//! script that the driver's commit tells from the sets that it read asks and leads on as the job's own
-//! does, and the attempts that it picked are those that are seen (`sets`). Each machine wants what its
-//! operation asks by the job's script and goes where that is told; what others send leaves it
-//! (`machines`). The deletion of a replace mode, sent to its end over a store that nobody else changes, leaves no object
-//! below what it deletes but those of the destination's magic directories (`deletions`).
+//! For every committer, if the facts of `job_facts` hold:
+//!
+//! - `answers`: each machine takes the answer that S3 must give to its request, whether or not an
+//!   earlier send was lost.
+//! - `sets`: the driver's commit sends and goes on as the job's script says, although it knows only
+//!   the sets that it read. Its chosen attempts are those that `see` derives from the entries.
+//! - `machines`: each machine sends what its operation sends by the job's script, and goes on as
+//!   the operation does. Requests of others do not change it.
+//! - `deletions`: a replace mode's deletion that ends, over a store that nobody else changes,
+//!   leaves no object below its prefixes. Only those of the destination's magic directories stay.
 #![tactic(auto)]
 
 ghost use Rattle.job_refinement.specs.Deleted.{DeletionsLeave};
 ghost use Rattle.job_refinement.specs.Laws.{CommitsKeep, DueFits, MachinesTell, OthersLeave, PicksTell, PremisesKeep, ReadsTell};
 
-/// The answers that are due to what the machines of a job ask.
+/// The answers that S3 must give to the machines of a job.
 pub fn answers()
     ensures fit { DueFits }
     ensures keep { PremisesKeep }
@@ -28,7 +32,7 @@ pub fn sets()
     ensures picks { PicksTell }
 {}
 
-/// Machines by the plans of those who perform them.
+/// Machines by the plans of their actors.
 pub fn machines()
     ensures tell { MachinesTell }
     ensures others { OthersLeave }

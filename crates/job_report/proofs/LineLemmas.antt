@@ -13,11 +13,11 @@ use Rattle.std.specs.List.{enumerate_from, flat_map, zip}
 use Rattle.std.specs.Map.{lookup}
 use Rattle.std.specs.Prelude.{Some, is_some}
 
--- nothing is left to write
+-- No line is left to write.
 pub all_written : {X : Type 0} (f : X → List ℕ) (left : List X) (text all : List ℕ) → text ++ flat_map f left ≡ all → left ≡ [] → text ≡ all
 all_written f left text all h e = sym (append-nil text) ∙ ap (λ l. text ++ flat_map f l) (sym e) ∙ h
 
--- the events from place i on with their ends, of which the first of all has the number n
+-- The events from place i on with their ends. The first of all events has the number n.
 abbrev pub left_at : ℕ → List Event → List EventEnd → ℕ → List (ℕ × (Event × EventEnd))
 left_at n events xs i = enumerate_from (n + i) (zip (drop i events) (drop i xs))
 
@@ -25,7 +25,7 @@ zip_none : {X Y : Type 0} (xs : List X) → zip {K = X} {X = Y} xs [] ≡ []
 zip_none [] = refl
 zip_none (x ∷ xs) = refl
 
--- none is left behind the last end
+-- No event is left after the last end.
 pub none_left : (n : ℕ) (events : List Event) (xs : List EventEnd) (i : ℕ) → length xs ≤ i → left_at n events xs i ≡ []
 none_left n events xs i le = ap (λ (l : List EventEnd). enumerate_from (n + i) (zip (drop i events) l)) (drop_all i xs le) ∙ ap
     (enumerate_from (n + i)) (zip_none (drop i events))
@@ -35,7 +35,7 @@ none_left n events xs i le = ap (λ (l : List EventEnd). enumerate_from (n + i) 
 same_own : (x : Who) → same_name x x ≡ true
 same_own x = rw (eq-eqb x.task x.task refl, eq-eqb x.attempt x.attempt refl) refl
 
--- an attempt among those that are declared is declared
+-- An attempt among the declared ones is declared.
 is_declared : (before rest : List Declared) (d : Declared) → declares (before ++ d ∷ rest) d.0 ≡ true
 is_declared [] rest d = ap (λ b. is_some (cond b (Some d.1) (lookup (same_name d.0) rest))) (same_own d.0)
 is_declared (x ∷ before) rest d = by (same_name d.0 x.0) (is_declared before rest d)
@@ -45,7 +45,7 @@ is_declared (x ∷ before) rest d = by (same_name d.0 x.0) (is_declared before r
     by true h = refl
     by false h = h
 
--- behind those before it and before those that are left
+-- The next attempt of those that are left is declared.
 pub declared_next : (ds before left next : List Declared) (d : Declared) → before ++ left ≡ ds → left ≡ d ∷ next → declares ds d.0 ≡ true
 declared_next ds before left next d all h = subst (λ (l : List Declared). declares l d.0 ≡ true)
     (ap (λ (l : List Declared). before ++ l) (sym h) ∙ all) (is_declared before next d)
@@ -54,7 +54,7 @@ pub one_before : (ds before left next : List Declared) (d : Declared) → before
     → (before ++ d ∷ []) ++ next ≡ ds
 one_before ds before left next d all h = append_assoc before (d ∷ []) next ∙ ap (λ (l : List Declared). before ++ l) (sym h) ∙ all
 
--- one more line is written
+-- One more line is written.
 pub line_more : (f : Declared → List ℕ) (left next : List Declared) (d : Declared) (text now all : List ℕ) → left ≡ d ∷ next
     → now ≡ text ++ f d → text ++ flat_map f left ≡ all → now ++ flat_map f next ≡ all
 line_more f left next d text now all h written rest =
@@ -63,7 +63,7 @@ line_more f left next d text now all h written rest =
 
 -- ---- the whole report
 
--- what is written part by part is the report
+-- The parts that are written one by one are the report.
 pub report_is : (w : Script) (events : List Event) (xs ends : List EventEnd) (picks chosen : List Pick) (due sent : ℕ)
     (none first second third all : List ℕ)
     → events ≡ w.events → xs ≡ ends → chosen ≡ picks → none ≡ [] → first ≡ none ++ event_lines [] 1 events xs

@@ -1,4 +1,4 @@
--- What a turn tells, and what is left behind it.
+-- The lines of a turn, and the events that are left after it.
 use Rattle.job_model.specs.declared.ends.EventEnd.{EventEnd}
 use Rattle.job_model.specs.declared.events.Event.{Event}
 use Rattle.job_report.proofs.Fronts.{drop_same, length_zip, numbered_on, take_same, zip_drop, zip_take}
@@ -17,7 +17,7 @@ use Rattle.twin_script.specs.declared.turns.TwinTurn.{TwinTurn}
 
 -- ---- a side's next events
 
--- the lines of a part of the events and of the ends are those of a part of both
+-- The lines of a part of the events and of the ends are those of a part of their pairs.
 pub next_is : (events : List Event) (ends : List EventEnd) (before : List ℕ) (side : Side) (n told count next : ℕ) → before ≡ letter side
     → next ≡ told + min count (min (length events) (length ends) - told)
     → event_lines before n (take (next - told) (drop told events)) (take (next - told) (drop told ends)) ≡ next_lines side n told count
@@ -53,13 +53,13 @@ second_in_turn zero sides xs ys = refl
 second_in_turn (suc c) sides xs [] = none_of_second c sides xs
 second_in_turn (suc c) sides xs (y ∷ ys) = ap (λ l. (Second, y) ∷ l) (second_in_turn c sides xs ys)
 
--- a side's events are told with its letter
+-- The lines of a side's events have the side's letter.
 one_side : (side : Side) (n : ℕ) (xs : List (Event × EventEnd))
     → flat_map played_line (enumerate_from n (map (λ x. (side, x)) xs)) ≡ flat_map (event_line (letter side)) (enumerate_from n xs)
 one_side side n [] = refl
 one_side side n (x ∷ xs) = ap (λ l. event_line (letter side) (n, x) ++ l) (one_side side (n + 1) xs)
 
--- a side's events, and then others
+-- The lines of a side's events, and then those of others.
 side_and_more : (side : Side) (n m : ℕ) (xs : List (Event × EventEnd)) (more : List (Side × (Event × EventEnd))) → m ≡ n + length xs
     → flat_map played_line (enumerate_from n (map (λ x. (side, x)) xs ++ more)) ≡ flat_map (event_line (letter side)) (enumerate_from n xs)
     ++ flat_map played_line (enumerate_from m more)
@@ -69,19 +69,19 @@ side_and_more side n m xs more h =
     ap (flat_map played_line) (numbered_on n m here more e) ∙ flat_map-append played_line (enumerate_from n here) (enumerate_from m more) ∙
     ap (λ l. l ++ flat_map played_line (enumerate_from m more)) (one_side side n xs)
 
--- the number of those that a turn tells
+-- The number of events of a turn.
 turn_length : {A : Type 0} (xs : List A) (told count next : ℕ) → told ≤ length xs → next ≡ told + min count (length xs - told)
     → next ≡ told + length (take count (drop told xs))
 turn_length xs told count next within goes = omega (arith, length-take count (drop told xs), length-drop told xs)
 
--- the rest behind them
+-- The events that are left after a turn.
 turn_rest : {A : Type 0} (xs : List A) (told count next : ℕ) → told ≤ length xs → next ≡ told + min count (length xs - told)
     → drop count (drop told xs) ≡ drop next xs
 turn_rest xs told count next within goes =
     let same : min (told + count) (length xs) ≡ min next (length xs) = omega arith in
     drop-drop count told xs ∙ drop_same xs (told + count) next same
 
--- what is left before a turn of the first is its lines and what is left behind it
+-- The lines that are left before a turn of the first job are the lines of the turn and those that are left after it.
 first_left : (xs ys : List (Event × EventEnd)) (turn : TwinTurn) (rest : List TwinTurn) (first second next : ℕ) → turn.side ≡ First
     → first ≤ length xs → next ≡ first + min turn.count (length xs - first)
     → left_lines (turn ∷ rest) first second xs ys ≡ next_lines turn.side (first + second + 1) first turn.count xs ++ left_lines rest next
@@ -118,12 +118,12 @@ second_left xs ys turn rest first second next side within goes =
     (enumerate_from (first + next + 1) (in_turn (sides_in rest) here l))) (turn_rest ys second turn.count next within goes)
     ∙ ap (λ s. next_lines s (first + second + 1) second turn.count ys ++ left_lines rest first next xs ys) (sym side)
 
--- ---- once a turn is written
+-- ---- after a turn is written
 
 written_on : (text now part left all : List ℕ) → now ≡ text ++ part → all ≡ part ++ left → now ++ left ≡ text ++ all
 written_on text now part left all written is = ap (λ l. l ++ left) written ∙ append_assoc text part left ∙ ap (λ l. text ++ l) (sym is)
 
--- the same, of events with their ends
+-- The lines of a turn of the first job, for events with their ends.
 pub first_turn : (e f : List Event) (x y : List EventEnd) (turn : TwinTurn) (rest : List TwinTurn) (first second next : ℕ)
     (text now : List ℕ) → turn.side ≡ First → first ≤ length e → first ≤ length x
     → next ≡ first + min turn.count (min (length e) (length x) - first)

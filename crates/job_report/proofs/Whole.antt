@@ -1,11 +1,11 @@
--- The parts of a report of two jobs, written one after another.
+-- The parts of a report on two jobs, written one after another.
 use Rattle.job_report.specs.TwinText.{Told, ended_of, pick_lines, played_lines, side_lines, twins_report}
 use Rattle.job_spec.specs.ReportText.{closing}
 use Rattle.std.proofs.Common.{List, ap, ℕ, [], ◌++◌, ◌∙◌, ◌≡◌}
 use Rattle.twin_script.specs.declared.turns.Side.TheVariants.{First, Second}
 use Rattle.twin_script.specs.declared.turns.TwinTurn.{TwinTurn}
 
--- what is written part by part is the report
+-- The parts that are written one by one are the report.
 pub report_is : (due sent : ℕ) (order : List TwinTurn) (a b : Told) (none one two three four five all : List ℕ) → none ≡ []
     → one ≡ none ++ played_lines order (ended_of a) (ended_of b) → two ≡ one ++ pick_lines First a → three ≡ two ++ pick_lines Second b
     → four ≡ three ++ side_lines First a → five ≡ four ++ side_lines Second b → all ≡ five ++ closing sent due

@@ -13,7 +13,7 @@ fn write_actor_end(text: &mut String, actor_end: &ActorEnd) -> Result<(), AllocE
     write!(text, "{actor} {end}")
 }
 
-/// Writes ends of a mix, of which there are some, with a comma and a blank between each two.
+/// Writes the ends of a mix, at least one, with a comma and a blank between each two.
 fn write_mixed(text: &mut String, first: &ActorEnd, rest: &[ActorEnd]) -> Result<(), AllocError>
     ensures { OnOk result (string_bytes text.new ≡ string_bytes text.old
         ++ join_by actor_end_text (codes ", ") (first.now ∷ rest.now)) }
@@ -26,7 +26,7 @@ fn write_mixed(text: &mut String, first: &ActorEnd, rest: &[ActorEnd]) -> Result
     Ok(())
 }
 
-/// Writes how an event ended. After want of memory the text is cut off somewhere.
+/// Writes how an event ended. If memory runs out, the text may be cut off anywhere.
 pub fn write_end(text: &mut String, end: &EventEnd) -> Result<(), AllocError>
     ensures { OnOk result (string_bytes text.new ≡ string_bytes text.old ++ end_text end.now) }
 {

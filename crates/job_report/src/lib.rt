@@ -1,12 +1,13 @@
-//! The text that tells of a job's run, or of a run of two jobs at one destination.
+//! The text of a report on a job's run, or on a run of two jobs at one destination.
 //!
 //! # What is proved
 //!
-//! `report_text`: Exactly the text that `job_spec` defines of the status that was due, the number of
-//! sendings, the picks, the ends and the script, for any ends.
+//! `report_text`: It returns exactly the text that `job_spec` defines for the status, the number of
+//! sends, the chosen attempts, the ends and the script, for any ends.
 //!
-//! `twins_report`: Exactly the text that `TwinText.antt` defines of the status that was due, the number of sendings, the
-//! order of turns, and each job's script, ends and picks, for any ends.
+//! `twins_report`: It returns exactly the text that `TwinText.antt` defines for the status, the
+//! number of sends, the order of turns, and each job's script, ends and chosen attempts, for any
+//! ends.
 #![tactic(auto)]
 
 mod ends;

@@ -11,7 +11,7 @@ use job_states::States;
 use s3_types::Actor;
 use std::alloc::{AllocError, Global};
 
-/// Writes an event with its number, some text, and its end.
+/// Writes the line of an event: its number, the text `before`, the event and its end.
 fn write_event(
     text: &mut String,
     before: &str,
@@ -27,8 +27,8 @@ fn write_event(
     text.push_str("\n")
 }
 
-/// Writes a line for each event that has its end, numbered from `number` on, with `before` behind the number.
-/// After want of memory the text is cut off somewhere, here and in the calls below.
+/// Writes a line for each event that has ended, numbered from `number` on, with `before` after the
+/// number. If memory runs out, the text may be cut off anywhere, here and in the calls below.
 pub fn write_events(
     text: &mut String,
     before: &str,
@@ -49,7 +49,7 @@ pub fn write_events(
     Ok(())
 }
 
-/// Writes a line for each pick, with `before` in front.
+/// Writes a line for each chosen attempt, which begins with `before`.
 pub fn write_picks(text: &mut String, before: &str, picks: &[Pick]) -> Result<(), AllocError>
     ensures { OnOk result (string_bytes text.new ≡ string_bytes text.old ++ flat_map (pick_line before.now) picks.now) }
 {
@@ -61,7 +61,8 @@ pub fn write_picks(text: &mut String, before: &str, picks: &[Pick]) -> Result<()
     Ok(())
 }
 
-/// Writes the driver's line: its life and stage, and the job attempt's number from the second on.
+/// Writes the driver's line: its life and stage, and the number of the job attempt from the second
+/// one on.
 fn write_driver(
     text: &mut String,
     before: &str,
@@ -118,8 +119,8 @@ fn write_attempts(
     Ok(())
 }
 
-/// Writes the driver's line and one for each declared attempt, with `before` in front: their lives and stages after
-/// events of these ends.
+/// Writes the lines of the driver and of each declared attempt, which begin with `before`: their
+/// lives and stages after events with these ends.
 pub fn write_actors(
     alloc: Global,
     text: &mut String,
@@ -135,7 +136,7 @@ pub fn write_actors(
     write_attempts(text, before, script, &states)
 }
 
-/// Writes the number of sendings and the status that was due.
+/// Writes the lines of the number of sends and of the status.
 pub fn write_closing(text: &mut String, sent: usize, due: u8) -> Result<(), AllocError>
     ensures { OnOk result (string_bytes text.new ≡ string_bytes text.old ++ closing sent due) }
 {

@@ -15,14 +15,14 @@ pub struct Ended<'a> {
     pub ends: &'a [EventEnd],
 }
 
-/// How many events of each job were told.
+/// The number of events of each job that are written.
 #[derive(Clone, Copy)]
 struct Counts {
     first: usize,
     second: usize,
 }
 
-/// A side's letter, with a blank behind it.
+/// The letter of a side and a blank.
 pub fn letter(side: Side) -> &'static str
     ensures { result.now ≡ letter side }
 {
@@ -32,8 +32,8 @@ pub fn letter(side: Side) -> &'static str
     }
 }
 
-/// Writes the lines of a job's next events behind the first `told`, numbered from `number` on: of `count` events, or of
-/// as many as are left. Tells how many of the job's events are told then.
+/// Writes the lines of a job's next events, after the first `told` ones, numbered from `number` on:
+/// `count` events, or as many as are left. Returns how many of the job's events are written then.
 fn write_next(
     text: &mut String,
     side: Side,
@@ -56,7 +56,7 @@ fn write_next(
     Ok(next)
 }
 
-/// Writes the lines of a turn's events behind those that were told, and counts them too.
+/// Writes the lines of a turn's events, after those that are written already, and counts them.
 fn write_turn(
     text: &mut String,
     turn: TwinTurn,
@@ -94,7 +94,7 @@ fn write_turn(
     }
 }
 
-/// Writes a line for each event that was played, in the order of the turns, numbered from 1 on.
+/// Writes a line for each event that ran, in the order of the turns, numbered from 1 on.
 pub fn write_played(
     text: &mut String,
     order: &[TwinTurn],

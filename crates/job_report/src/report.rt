@@ -6,9 +6,9 @@ use job_model::{EndList, PickList, Script};
 use s3_types::Bytes;
 use std::alloc::{AllocError, Global};
 
-/// The report's text: a line for each event that has its end, for each pick, for the driver and for each
-/// declared attempt, then the number of sendings and the status that was due. AllocError comes where memory
-/// ran out alone.
+/// Returns the text of the report: a line for each event that has ended, for each chosen attempt,
+/// for the driver and for each declared attempt, then the number of sends and the status. Fails
+/// with AllocError only if memory runs out.
 pub fn report_text(
     alloc: Global,
     due: u8,

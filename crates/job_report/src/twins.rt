@@ -9,7 +9,8 @@ use s3_types::Bytes;
 use std::alloc::{AllocError, Global};
 use twin_script::{Side, TurnList};
 
-/// What is told of one of two jobs: its script, the ends of its events in their order, and the picks of its commit.
+/// The report's data on one of two jobs: its script, the ends of its events in their order, and the
+/// chosen attempts of its commit.
 #[derive(Clone, Copy)]
 pub struct SideReport<'a> {
     pub script: &'a Script,
@@ -29,7 +30,7 @@ fn ended<'a>(side: SideReport<'a>) -> Ended<'a>
     }
 }
 
-/// Writes a line for each event that was played.
+/// Writes a line for each event that ran.
 fn write_turns(
     text: &mut String,
     order: &TurnList,
@@ -42,7 +43,7 @@ fn write_turns(
     write_played(text, order.as_slice(), ended(first), ended(second))
 }
 
-/// Writes a line for each pick of a job.
+/// Writes a line for each chosen attempt of a job.
 fn write_side_picks(text: &mut String, side: Side, told: SideReport<'_>) -> Result<(), AllocError>
     ensures { OnOk result (string_bytes text.new ≡ string_bytes text.old ++ pick_lines side (told_of told.entry)) }
 {
@@ -61,12 +62,17 @@ fn write_side_actors(
     write_actors(alloc, text, letter(side), told.script, told.ends.as_slice())
 }
 
-/// The text that tells of two jobs that shared a destination: as a job's report has them, a line for each event that was
-/// played, numbered from 1 in the order of the turns; a line for each pick of the first job, and for each of the second; a
-/// line for the driver and for each declared attempt of the first job, and of the second; the number of sendings; and the
-/// status that was due. In front of an event, a pick and an actor stands `a ` or `b `, as it is of the first job or the
-/// second. A turn for which no end is left is passed over. AllocError comes where memory ran out alone. Takes one pass over
-/// the order and what is told.
+/// Returns the text of the report on two jobs that share a destination. The lines are those of a
+/// job's report, in this order:
+///
+/// - each event that ran, numbered from 1 in the order of the turns
+/// - each chosen attempt of the first job, and then of the second
+/// - the driver and each declared attempt of the first job, and then of the second
+/// - the number of sends, and the status
+///
+/// An event, chosen attempt or actor of the first job is preceded by `a `, one of the second by `b
+/// `. A turn of an event without an end is skipped. Fails with AllocError only if memory runs out.
+/// Takes one pass over the order and the data of the jobs.
 pub fn twins_report(
     alloc: Global,
     due: u8,

@@ -1,4 +1,4 @@
--- Once the job's commit is over, its driver does no more than abort and clean, and reads no set.
+-- Once the job's commit is over, its driver only aborts and cleans, and reads no set.
 use Rattle.basics.proofs.Members.{false_true}
 use Rattle.job_facts.specs.Told.{strange_entry}
 use Rattle.job_model.specs.JobScript.{Script}
@@ -27,7 +27,7 @@ use Rattle.std.proofs.Common.{List, None, Option, Some, ap, append-nil, append_a
 use Rattle.std.proofs.Common.{◌++◌, ◌∙◌, ◌∷◌, ◌≡◌}
 use Rattle.job_model.specs.declared.events.Op.TheVariants as ops
 
--- the driver's commit is over, or it aborts or cleans
+-- The driver's commit is over, or it aborts or cleans.
 abbrev pub IsOver : Commit → Type 0
 IsOver (CommitOver end) = Unit {0}
 IsOver _ = ⊥
@@ -43,7 +43,7 @@ no_setup d h g = grind arith
 no_commit : (d : Option Operation) → IsAfter d → is_just_set d ≡ true → ⊥
 no_commit d h g = grind arith
 
--- it reads no set then
+-- The driver reads no set then.
 driver_reads : (g : Setting) (r : Request) (m : Running) → IsAfter (Some m.operation) → wants g Driver m ≡ Some r → (t : ℕ)
     → is_reading g.script t r ≡ false
 driver_reads g r m h e t = grind arith
@@ -74,7 +74,7 @@ module _ (g : Setting) (single : g.shared ≡ false) (opening : Content) (j : Is
       → IsAfter (operation_of (open_running g y ev Driver))
   opened_after y h ev g e = grind (arith, begun_after, begins_so)
 
-  -- of one more sending
+  -- One more send.
   module _ (y : Play) (e : Entry) (may : MaySend g opening y e) (h : IsAfter (operation_of (y.running Driver))) where
     by_driver : Driver ≡ e.actor → IsAfter (Some may.at.operation) × (wants g Driver may.at ≡ Some e.request)
     by_driver s = (
@@ -89,7 +89,7 @@ module _ (g : Setting) (single : g.shared ≡ false) (opening : Content) (j : Is
     sent_after : IsAfter (operation_of then)
     sent_after = grind (arith, same_or_not, by_driver, put_here, heard_after, put_other)
 
-  -- what was sent since then, with no set read for the driver
+  -- What was sent since then, without a set read by the driver.
   pub record After (y x : Play) : Type 0 where
     pub more : List Entry
     pub all : x.journal ≡ y.journal ++ more

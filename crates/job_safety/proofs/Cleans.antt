@@ -57,7 +57,7 @@ has_more a (e ∷ es) fs h = by (same_actor e.actor a) (has_more a es fs h)
     by true g = refl
     by false g = g
 
--- it lies in the part behind, where that has one
+-- It lies in the later part, if that has an entry of the actor.
 last_behind : (a : Actor) (es fs : List Entry) → has_entry a fs ≡ true → until_last a (es ++ fs) ≡ es ++ until_last a fs
 last_behind a [] fs h = refl
 last_behind a (e ∷ es) fs h =
@@ -75,7 +75,7 @@ none_of a (e ∷ es) h = by (same_actor e.actor a) h (λ g. none_of a es g)
 same_so : (e : Entry) → e.actor ≡ Driver → same_actor e.actor Driver ≡ true
 same_so e is = ap (λ a. same_actor a Driver) is
 
--- where all up to there are the driver's, they are all of the driver's
+-- If all entries up to the driver's last one are the driver's, they are all entries of the driver.
 only_last : (es : List Entry) → AllBy Driver (until_last Driver es) → by_actor Driver es ≡ until_last Driver es
 only_last [] h = refl
 only_last (e ∷ es) h = by (has_entry Driver (e ∷ es)) refl h (λ all. only_last es all)
@@ -106,14 +106,14 @@ module _ (g : Setting) (single : g.shared ≡ false) (opening : Content) (j : Is
     follows_so : n.op ≡ first → Follows (wants g Driver) (advance g Driver) (record { operation = first; known = k }) es
     follows_so is = subst (λ v. Follows (wants g Driver) (advance g Driver) (record { operation = v; known = k }) es) is n.follows
 
-    -- it has sent something
+    -- The operation has sent something.
     has_sent : (fs : List Entry) → es ≡ by_actor Driver fs → EndsSo first es → has_entry Driver fs ≡ true
     has_sent fs mine o = elim (true_or_false (has_entry Driver fs)) [
       | inl is ↦ is
       | inr none ↦ absurd (none_some refl (subst (EndsSo first) (mine ∙ none_of Driver fs none) o))
     ]
 
-    -- the entries up to its last one, where nobody else has sent since it began
+    -- The entries up to its last one, if nobody else has sent since it began.
     module _ (done : e ≡ cleans.Done) (o : EndsSo first es)
         (follows : Follows (wants g Driver) (advance g Driver) (record { operation = first; known = k }) es) where
       abbrev s : Play

@@ -67,16 +67,16 @@ use Rattle.job_model.specs.declared.ends.CommitEnd.TheVariants as commits
 use Rattle.job_model.specs.declared.ends.Stage.TheVariants as stages
 use Rattle.job_model.specs.declared.ends.OpEnd.TheVariants as ends
 
--- ---- plain facts
+-- ---- simple facts
 
 over_is : (c : Commit) (e : CommitEnd) → commit_over c ≡ Some e → c ≡ CommitOver e
 over_is c e h = grind arith
 
--- a commit that is over, by its end
+-- A commit that is over, by its end.
 pub commit_back : (c : Commit) (e : CommitEnd) → option_map ends.Commit (commit_over c) ≡ Some (ends.Commit e) → c ≡ CommitOver e
 commit_back c e h = grind arith
 
--- a task that is missing is one of the job's
+-- A missing task is one of the job's.
 missing_below : (w : Script) (f : Actor → Bool) (t : ℕ) → missing w f ≡ Some t → t < w.tasks
 missing_below w f t e = let l : t < 0 + w.tasks = by 0 w.tasks e in omega arith
   where
@@ -88,11 +88,11 @@ missing_below w f t e = let l : t < 0 + w.tasks = by 0 w.tasks e in omega arith
       | inr y ↦ let s : a ≡ t = some_is (sym (ap (λ b. cond b (first_not (is_reported w f) (a + 1) n) (Some a)) y) ∙ e) in omega (arith, s)
     ]
 
--- a commit alone is told of want of memory so
+-- Only the commit ends with a CommitEnd because memory ran out.
 wanting_commit : (op : Op) (e : CommitEnd) → is_wanting Driver op (ends.Commit e) ≡ true → op ≡ ops.Commit
 wanting_commit op e h = grind arith
 
--- where a member stands in its list
+-- The place of a member in its list.
 pub parted_at : {X : Type 0} (x : X) (xs : List X) → IsIn x xs → (before : List X) × (later : List X) × (xs ≡ before ++ x ∷ later)
 parted_at x [] i = absurd i
 parted_at x (y ∷ ys) (inl e) = ([], ys, ap (λ v. v ∷ ys) (sym e))
@@ -103,7 +103,7 @@ module _ (g : Setting) (single : g.shared ≡ false) (opening : Content) (j : Is
   abbrev w : Script
   w = g.script
 
-  -- the event of the commit, if it is any
+  -- The events of the commit and of the first abort or clean, if there are any.
   abbrev k : Times
   k = times w x.ends
 
@@ -135,7 +135,7 @@ module _ (g : Setting) (single : g.shared ≡ false) (opening : Content) (j : Is
               (b.0, b.1 ∙ commit_alone g d.reports single)
         ]
 
-    -- where its own entries lead
+    -- The state to which the commit's own entries led.
     abbrev led : Commit
     led = run (commit_tells w) (commit_start w d.reports.missing) es
 
@@ -146,7 +146,7 @@ module _ (g : Setting) (single : g.shared ≡ false) (opening : Content) (j : Is
     driver_is : operation_of (z.running Driver) ≡ Some (TheCommit led)
     driver_is = ap operation_of n.running ∙ ap (λ v. Some v) leads_alone
 
-    -- the run at the end of the event
+    -- The run at the end of the event.
     abbrev then : IsRun g opening (happen g z (Closes n.event_end)) (times w x.ends)
     then = run_then g opening j is_opening x run_x idle i d (ends.Commit e) es n
 
@@ -178,9 +178,9 @@ module _ (g : Setting) (single : g.shared ≡ false) (opening : Content) (j : Is
     missing_is : (c : Commit) (h : CommitStands g then.stand c) → c ≡ led → h.missing ≡ d.reports.missing
     missing_is c h is = commit_runs.one_start w h.missing d.reports.missing es (sym (commit_leads h.missing) ∙ h.leads ∙ is)
 
-    -- ---- what it was answered
+    -- ---- how its requests were answered
 
-    -- the driver has not cleaned up as it began
+    -- The driver had not cleaned up when the commit began.
     unclean : (tell_all w (nothing_told (clean_event w x.ends)) s.at.journal).cleaned ≡ false
     unclean =
         let r = is_run g opening j is_opening (happen g s.at (Opens s.event)) (happens s.at (Opens s.event) s.happened s.may) x.ends
@@ -190,7 +190,7 @@ module _ (g : Setting) (single : g.shared ≡ false) (opening : Content) (j : Is
         (λ c. (tell_all w (nothing_told c) s.at.journal).cleaned) r.cleans) ∙
         (in_commit g k opening j is_opening s.at.journal r.stand r.runs (commit_start w (missing w s.at.past.reported)) at).2.uncleaned
 
-    -- where it has sent a request no task was missing, and each has a last publisher from then on
+    -- If the commit has sent a request, no task was missing, and each is published from then on.
     none_missing : (u : Entry) → IsIn u es → d.reports.missing ≡ None
     none_missing u i = elim (none_or_some d.reports.missing) [
       | inl none ↦ none
@@ -217,7 +217,7 @@ module _ (g : Setting) (single : g.shared ≡ false) (opening : Content) (j : Is
     none_of f u (v ∷ l) h (inl is) = ap f is ∙ (or_parts (f v) (list_any f l) h).0
     none_of f u (v ∷ l) h (inr more) = none_of f u l (or_parts (f v) (list_any f l) h).1 more
 
-    -- none of its entries is behind the beginning of an abort or clean
+    -- None of its entries comes after the beginning of an abort or clean.
     before_clean : (u : Entry) → IsIn u es → is_begun k.clean u.event ≡ false
     before_clean u here_in =
         let own = in_filter (λ (v : Entry). same_actor v.actor Driver) u s.entries
@@ -249,7 +249,7 @@ module _ (g : Setting) (single : g.shared ≡ false) (opening : Content) (j : Is
           at_led before u later why (commit_is_es ∙ is) stage got;
     }
 
-    -- ---- one that ended otherwise than for want of memory
+    -- ---- a commit that ended without running out of memory
 
     module _ (o : over (run (advance g Driver) (record { operation = n.op; known = known }) es).operation ≡ Some (ends.Commit e)) where
       leads : led ≡ CommitOver e
@@ -261,7 +261,7 @@ module _ (g : Setting) (single : g.shared ≡ false) (opening : Content) (j : Is
       stands : CommitStands g then.stand (CommitOver e)
       stands = commit_runs.stands g j k opening is_opening z.journal then.stand then.runs (CommitOver e) at_end
 
-      -- ---- what is seen then
+      -- ---- what the journal shows then
 
       due_so : CommitEnded w (seen_until w opening x.journal x.ends (i + 1)) d.reports.missing es e
       due_so =
@@ -279,7 +279,7 @@ module _ (g : Setting) (single : g.shared ≡ false) (opening : Content) (j : Is
             answered = o.answered;
           }
 
-      -- ---- where no stranger sends
+      -- ---- if no stranger sends
 
       module _ (alone : AreOwn x.journal) where
         alone_then : AreOwn z.journal
@@ -310,7 +310,7 @@ module _ (g : Setting) (single : g.shared ≡ false) (opening : Content) (j : Is
             (reverted_now g k opening j is_opening z.journal then.stand then.runs alone_then d
             (subst (NoDeletionWorn w.retries) (sym commit_is_es) none))
 
-      -- ---- where it ended before its first completion
+      -- ---- if it ended before its first completion
 
       missed_below : (t : ℕ) → e ≡ commits.Missing t → t < w.tasks
       missed_below t is =
@@ -318,7 +318,7 @@ module _ (g : Setting) (single : g.shared ≡ false) (opening : Content) (j : Is
           missing_below w s.at.past.reported t (sym (ap (λ (r : Reports). r.missing) s.reports_is) ∙ sym
           (missing_is (CommitOver e) stands (sym leads)) ∙ at.0)
 
-      -- what came behind it
+      -- What came after it.
       behind : After g single opening j is_opening (happen g z (Closes n.event_end)) x
       behind = after_commit g single opening j is_opening (happen g z (Closes n.event_end)) x n.closed.since_then
           (subst IsAfter (sym (driver_is ∙ ap (λ c. Some (TheCommit c)) leads)) tt)
@@ -339,7 +339,7 @@ module _ (g : Setting) (single : g.shared ≡ false) (opening : Content) (j : Is
   commits_among i d e es h =
       let n = ending g opening x run_x idle i Driver refl d (ends.Commit e) es h in (
         elim n.ended [
-          -- for want of memory
+          -- Memory ran out.
           | inl memory ↦ record {
             worn = first_worn w.retries es;
             first = computed w.retries [] es (none_sent w.retries);

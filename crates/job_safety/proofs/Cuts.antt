@@ -1,4 +1,4 @@
--- A journal that is cut in two where an event begins or ends: its parts by events and actors, and its moments.
+-- A journal that is cut in two at the beginning or the end of an event: its parts by events and actors, and its moments.
 use Rattle.job_outcomes.proofs.EventRows.{all_since, none_before}
 use Rattle.job_spec.specs.States.{same_actor}
 use Rattle.job_spec.specs.Turns.{AllBy, AllFrom, AllUpTo, before, by_actor, since}
@@ -18,9 +18,9 @@ pub from_more : (n m : ℕ) (es : List Entry) → m ≤ n → AllFrom n es → A
 from_more n m [] h all = tt
 from_more n m (e ∷ es) h all = let one : n ≤ e.event = all.0 in (omega arith, from_more n m es h all.1)
 
--- ---- a cut behind event n, and one before event n + 1
+-- ---- a cut after event n, and one before event n + 1
 
--- of later entries nothing is before
+-- Later entries add nothing to what was before.
 pub before_front : (n : ℕ) (es fs : List Entry) → AllFrom n fs → before n (es ++ fs) ≡ before n es
 before_front n es fs late = filter-append (λ e. nat_lt e.event n) es fs ∙ ap (λ l. before n es ++ l) (none_before n n fs (omega arith) late)
     ∙ append-nil (before n es)
@@ -33,15 +33,15 @@ since_cut n es fs early late =
     filter-append (λ e. nat_le (n + 1) e.event) es fs ∙ ap (λ l. l ++ since (n + 1) fs) (since_none n es early) ∙ all_since (n + 1) (n + 1)
     fs (omega arith) late
 
--- ---- those of an actor
+-- ---- the entries of an actor
 
--- what an actor sent before, by the front alone
+-- What an actor sent before the cut is in the first part.
 pub before_by_front : (n : ℕ) (a : Actor) (es fs : List Entry) → AllFrom n fs → before n (by_actor a (es ++ fs)) ≡ before n (by_actor a es)
 before_by_front n a es fs late =
     ap (before n) (filter-append (λ e. same_actor e.actor a) es fs) ∙ before_front n (by_actor a es) (by_actor a fs)
     (from_part n (λ e. same_actor e.actor a) fs late)
 
--- and what it sent since, by the back alone
+-- What it sent since is in the second part.
 pub since_by_cut : (n : ℕ) (a : Actor) (es fs : List Entry) → AllUpTo n es → AllFrom (n + 1) fs
     → since (n + 1) (by_actor a (es ++ fs)) ≡ by_actor a fs
 since_by_cut n a es fs h g = grind (arith, filter-append, since_cut, up_to_part, from_part)

@@ -1,4 +1,4 @@
--- Until the driver's set-up is over all of the job's entries are the driver's: no attempt has begun before.
+-- Until the driver's set-up is over, all of the job's entries are the driver's: no attempt has begun before.
 use Rattle.basics.proofs.Members.{none_some}
 use Rattle.job_model.specs.JobScript.{Script}
 use Rattle.job_model.specs.Legal.{IsLegal}
@@ -41,7 +41,7 @@ use Rattle.job_model.specs.declared.states.ActorStage.TheVariants as stage
 behind_none : (op : Operation) → IsBehind (Some op) → kind op ≡ OfSetup → ⊥
 behind_none op h g = grind arith
 
--- a busy driver at its set-up is at its first stage
+-- A busy driver that runs its set-up is new.
 new_of : (s : ActorStage) (op : Operation) → DriverAt s Busy (Some op) → kind op ≡ OfSetup → is_new s ≡ true
 new_of s op h g = grind arith
 
@@ -49,32 +49,32 @@ open_new : (w : Script) (p : Past) (ev : Event) → is_new ((open_event w p ev).
     → is_new (p.state Driver).stage ≡ true
 open_new w p ev h = grind arith
 
--- ---- what is kept
+-- ---- what each step keeps
 
 pub record Early (x : Play) : Type 0 where
-  -- the first stage is never come back to
+  -- A driver that is not new any more never is again.
   pub kept : is_new (x.live.state Driver).stage ≡ true → is_new (x.past.state Driver).stage ≡ true
-  -- in an event that began at it all is the driver's
+  -- In an event that began with a new driver, all entries are the driver's.
   pub alone : is_new (x.past.state Driver).stage ≡ true → AllBy Driver (own x.journal)
   pub nobody : is_new (x.past.state Driver).stage ≡ true → (a : Actor) → (a ≡ Driver → ⊥) → x.running a ≡ None
-  -- and in such an event alone a set-up ends
+  -- A set-up ends only in such an event.
   pub set : (i : ℕ) (e : SetupEnd) → slice_get x.finished i ≡ Some (record { actor = Driver; end = ends.Setup e })
       → (is_memory (ends.Setup e) ≡ true) ⊎ (is_new (x.past.state Driver).stage ≡ true)
 
 module _ (g : Setting) (opening : Content) (j : IsLegal g.script) (is_opening : IsOpening g opening) where
-  -- where the run may go on
+  -- However the run may go on.
   pub driver_now : (x : Play) → Reachable g opening x
       → DriverAt (x.live.state Driver).stage (x.live.state Driver).life (operation_of (x.running Driver))
   driver_now x past = (carried g opening j is_opening x past (x.ends ++ Done ∷ [])
       (record { rest = Done ∷ []; is = refl; going = λ ev e. (Done, [], refl, refl) })).along.driver_at
 
-  -- the driver is at the operation that it is at between events, and at its stage
+  -- Between two events, the driver's operation fits its stage.
   pub driver_past : (y : Play) → Reachable g opening y → y.now ≡ None
       → DriverAt (y.past.state Driver).stage (y.past.state Driver).life (operation_of (y.running Driver))
   driver_past y past idle = subst (λ (p : Past). DriverAt (p.state Driver).stage (p.state Driver).life (operation_of (y.running Driver)))
       ((told_all g opening y past).closed idle).0 (driver_now y past)
 
-  -- a busy driver at this operation
+  -- The operation of a busy driver.
   pub driver_busy : (x : Play) → Reachable g opening x → (m : Running) → (x.live.state Driver).life ≡ Busy → x.running Driver ≡ Some m
       → DriverAt (x.live.state Driver).stage Busy (Some m.operation)
   driver_busy x past m busy is = subst (λ l. DriverAt (x.live.state Driver).stage l (Some m.operation)) busy
@@ -101,7 +101,7 @@ module _ (g : Setting) (opening : Content) (j : IsLegal g.script) (is_opening : 
 
   -- ---- an operation ends
 
-  -- the driver's
+  -- The driver's operation ends.
   ended_new : (y : Play) → Reachable g opening y → (e : OpEnd) → (y.live.state Driver).life ≡ Busy → (is_memory e ≡ true)
       ⊎ ((m : Running) × (y.running Driver ≡ Some m) × (over m.operation ≡ Some e))
       → is_new (ended e (y.live.state Driver).stage).stage ≡ true → is_new (y.live.state Driver).stage ≡ true
@@ -122,7 +122,7 @@ module _ (g : Setting) (opening : Content) (j : IsLegal g.script) (is_opening : 
   setup_new y past e busy (inr q) = inr (new_of (y.live.state Driver).stage q.0.operation (driver_busy y past q.0 busy q.1)
       (over_kind q.0.operation (ends.Setup e) q.2))
 
-  -- ---- whatever happens
+  -- ---- any step
 
   pub early : (x : Play) → Reachable g opening x → Early x
   early x (nothing_happened) = record { kept = λ n. n; alone = λ n. tt; nobody = λ n a ne. refl; set = λ i e h. absurd (none_some refl h) }

@@ -1,4 +1,4 @@
--- An operation that ended in an event of a run, at the moment right before that event was over.
+-- An operation that ended in an event of a run, in the state right before that event was over.
 use Rattle.basics.proofs.Members.{none_some, some_is}
 use Rattle.job_model.specs.JobScript.{Script}
 use Rattle.job_model.specs.declared.ends.ActorEnd.{ActorEnd}
@@ -28,7 +28,7 @@ use Rattle.std.proofs.Common.{take, true, ℕ, [], ◌++◌, ◌+◌, ◌∙◌,
 use Rattle.std.proofs.lemmas.List.{take-append-le}
 use Rattle.std.proofs.lemmas.List.Elements.{filter-append}
 
--- Of an operation that ended so: the event that closed over it, and how its own entries led to its end.
+-- What is known of an operation that ended: how its event came to its end, and how its own entries led to its end.
 pub record Ending (g : Setting) (opening : Content) (x : Play) (j : ℕ) (a : Actor) (d : Doing) (end : OpEnd) (es : List Entry) : Type 0
   where
     pub event_end : EventEnd
@@ -47,11 +47,11 @@ pub record Ending (g : Setting) (opening : Content) (x : Play) (j : ℕ) (a : Ac
     pub ended : (is_memory end ≡ true) ⊎ (over (run (advance g a) (record
         { operation = op; known = known_then g a d (by_actor a closed.at.journal) }) es).operation ≡ Some end)
 
--- a refused event ends no operation
+-- A refused event ends no operation.
 told_fine : (ev : Event) (end : EventEnd) (i : ℕ) (y : ActorEnd) → slice_get (told ev end) i ≡ Some y → is_refused end ≡ false
 told_fine ev end i y h = grind arith
 
--- the ends of a run between its events
+-- Between two events, the ends of a run are its own.
 pub ahead_none : (x : Play) → x.now ≡ None → Ahead x x.ends
 ahead_none x idle = record { rest = []; is = sym (append-nil x.ends); going = λ ev e. absurd (none_some idle e) }
 
@@ -63,7 +63,7 @@ module _ (g : Setting) (opening : Content) (x : Play) (run_x : Reachable g openi
     abbrev z : Play
     z = c.at
 
-    -- the ends before it
+    -- The ends before that event.
     ends_before : take j x.ends ≡ z.ends
     ends_before =
         let h = c.ahead x.ends (ahead_none x idle) in
@@ -72,12 +72,12 @@ module _ (g : Setting) (opening : Content) (x : Play) (run_x : Reachable g openi
         ap (λ n. take n x.ends) (sym c.count) ∙ ap (take (length z.ends)) parts ∙ take-append-le (length z.ends) z.ends (end ∷ [] ++ h.rest)
         short ∙ take_whole z.ends
 
-    -- what was begun last, before the event was over
+    -- The operation that an actor began last, before the event was over.
     doing_is : (a : Actor) (ev : Event) (d : Doing) → c.may.event ≡ ev → (after_event w (past w (take j x.ends)) ev end).doing a ≡ Some d
         → z.live.doing a ≡ Some d
     doing_is a ev d h g = grind (arith, told_all, ends_before, after_is, turns_refused)
 
-    -- up to the end of the event nothing of the job's has come behind it
+    -- Up to the end of the event, the job sent nothing after it.
     pub journal_until : until (j + 1) x.journal ≡ z.journal ++ until (j + 1) c.entries
     journal_until = grind (arith, told_all, filter-append, until_all)
 
@@ -85,7 +85,7 @@ module _ (g : Setting) (opening : Content) (x : Play) (run_x : Reachable g openi
     until_strange = let two : j + 2 ≡ j + 1 + 1 = omega arith in strange_until (j + 1) c.entries
         (subst (λ n. AllFrom n (own c.entries)) two c.own_after)
 
-  -- among none it is the journal then
+  -- If no stranger sends, the entries up to the event's end are the journal then.
   pub until_own : AreOwn x.journal → (j : ℕ) (end : EventEnd) (c : Closed g opening x j end) → until (j + 1) x.journal ≡ c.at.journal
   until_own mine j end c =
       let none = strange_none (until (j + 1) c.entries) (own_part (λ e. nat_le e.event (j + 1)) c.entries

@@ -1,4 +1,4 @@
--- That the facts of one job hold of what happened in its run, at each moment from the end of its set-up on.
+-- The facts of one job hold of what happened in its run, at each moment from the end of its set-up on.
 use Rattle.basics.proofs.Bools.{not_so}
 use Rattle.basics.proofs.Members.{false_true}
 use Rattle.job_facts.specs.Facts.{Hold}
@@ -43,13 +43,13 @@ use Rattle.std.proofs.lemmas.List.Elements.{filter-append}
 use Rattle.std.specs.Prelude.{suc, zero}
 use Rattle.job_model.specs.declared.events.Op.TheVariants as ops
 
--- ---- the driver does not come back to its first stage
+-- ---- the driver never is new again
 
 still_false : (a b : Bool) → (a ≡ true → b ≡ true) → b ≡ false → a ≡ false
 still_false true b f h = absurd (false_true h (f refl))
 still_false false b f h = refl
 
--- the driver is behind its first stage
+-- The driver is not new any more.
 abbrev IsBehind : (Actor → ActorState) → Type 0
 IsBehind st = is_new (st Driver).stage ≡ false
 
@@ -94,13 +94,13 @@ module _ (g : Setting) (opening : Content) (j : IsLegal g.script) (is_opening : 
   ended_behind x ends past ahead (Attempt t n) e busy end h = h
   ended_behind x ends past ahead Shell e busy end h = h
 
-  -- between events what is past tells it
+  -- Between two events, the states that follow from the ends say so.
   behind_now : (x : Play) → Reachable g opening x → x.now ≡ None → IsBehind (past w x.ends).state → IsBehind x.live.state
   behind_now x run idle h =
       let t = told_all g opening x run in
       ap (λ (p : Past). is_new (p.state Driver).stage) ((t.closed idle).0 ∙ t.past_is) ∙ h
 
-  -- it was so behind the first i events
+  -- It was not new after the first i events.
   abbrev WasBehind : List EventEnd → ℕ → Type 0
   WasBehind xs i = IsBehind (past w (take i xs)).state
 
@@ -108,7 +108,7 @@ module _ (g : Setting) (opening : Content) (j : IsLegal g.script) (is_opening : 
   never_first zero h = false_true h refl
   never_first (suc i) h = false_true h refl
 
-  -- the first i of the ends are those before the last one, or all
+  -- The first i ends are those before the last one, or all.
   shorter : (xs : List EventEnd) (end : EventEnd) (i : ℕ) → i ≤ length xs → WasBehind (xs ++ end ∷ []) i → WasBehind xs i
   shorter xs end i few h = subst (λ ys. IsBehind (past w ys).state) (take-append-le i xs (end ∷ []) few) h
 
@@ -166,7 +166,7 @@ module _ (g : Setting) (opening : Content) (j : IsLegal g.script) (is_opening : 
   abbrev HoldFrom : Play → List EventEnd → Type 0
   HoldFrom x ends = (i m : ℕ) → WasBehind x.ends i → length (until i x.journal) ≤ m → m ≤ length x.journal → Holds ends (take m x.journal)
 
-  -- one more entry
+  -- One more entry.
   entry_more : (y : Play) (e : Entry) (ends : List EventEnd) → HoldFrom y ends
       → ((i : ℕ) → WasBehind y.ends i → Holds ends (y.journal ++ e ∷ []))
       → (i m : ℕ) → WasBehind y.ends i → length (until i (y.journal ++ e ∷ [])) ≤ m → m ≤ length (y.journal ++ e ∷ []) → Holds ends
@@ -182,7 +182,7 @@ module _ (g : Setting) (opening : Content) (j : IsLegal g.script) (is_opening : 
         subst (Holds ends) (sym (take-append-le m y.journal (e ∷ []) few)) (old i m h from_then few)
   ]
 
-  -- one more end
+  -- One more end.
   end_more : (y : Play) (end : EventEnd) (x : Play) (ends : List EventEnd) → x.ends ≡ y.ends ++ end ∷ [] → x.journal ≡ y.journal
       → x.now ≡ None → Reachable g opening x → Ahead x ends
       → HoldFrom y ends → HoldFrom x ends

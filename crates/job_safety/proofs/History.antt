@@ -1,4 +1,4 @@
--- What happened, looked back at: how an event came to its end, how an operation began, and what came later.
+-- The past of a run: how an event came to its end, how an operation began, and what came later.
 use Rattle.basics.proofs.Members.{false_true, none_some, some_is}
 use Rattle.job_facts.specs.Told.{strange_entry}
 use Rattle.job_model.specs.declared.ends.EventEnd.{EventEnd}
@@ -25,16 +25,16 @@ use Rattle.std.proofs.Common.{List, None, Option, Some, ap, append-nil, append_a
 use Rattle.std.proofs.Common.{subst, sym, ℕ, [], ◌++◌, ◌+◌, ◌<◌, ◌∙◌, ◌∷◌, ◌≡◌, ◌≤◌, ◌⊎◌}
 use Rattle.std.proofs.lemmas.Option.{slice_get_within}
 
--- what happened since then
+-- What happened since then.
 pub data Later (g : Setting) (opening : Content) (y : Play) : Play → Type 0 where
   at_once : Later g opening y y
   later : (x : Play) (h : Transition) → Reachable g opening x → Later g opening y x → Enabled g opening x h
       → Later g opening y (happen g x h)
 
--- what happened since then, in which this actor began nothing, and what was sent
+-- What happened since then, while this actor began nothing, and what was sent.
 pub data Meanwhile (g : Setting) (opening : Content) (a : Actor) (y : Play) : List Entry → Play → Type 0 where
   nothing_since : Meanwhile g opening a y [] y
-  -- nothing is sent, and the actor is at what it was at
+  -- Nothing is sent, and the actor's operation stays.
   was_silent : (es : List Entry) (x z : Play) → Meanwhile g opening a y es x → z.journal ≡ x.journal → z.running a ≡ x.running a
       → ((ends : List EventEnd) → Ahead z ends → Ahead x ends) → Meanwhile g opening a y es z
   was_sent : (es : List Entry) (x : Play) (e : Entry) → Reachable g opening x → Meanwhile g opening a y es x → MaySend g opening x e
@@ -43,25 +43,25 @@ pub data Meanwhile (g : Setting) (opening : Content) (a : Actor) (y : Play) : Li
       → MayStray g opening x r o
       → Meanwhile g opening a y (es ++ strange_entry (length x.ends) r o ∷ []) (happen g x (Strays r o))
 
--- event j + 1 came to this end, and went on here until then
+-- Event j + 1 came to this end, and was in progress until then.
 pub record Closed (g : Setting) (opening : Content) (x : Play) (j : ℕ) (end : EventEnd) : Type 0 where
   pub at : Play
   pub happened : Reachable g opening at
   pub may : MayClose g at end
   pub count : length at.ends ≡ j
   pub since_then : Later g opening (happen g at (Closes end)) x
-  -- the entries since then: the job's own are of later events
+  -- The entries since then; the job's own belong to later events.
   pub entries : List Entry
   pub all : x.journal ≡ at.journal ++ entries
   pub after : AllFrom (j + 1) entries
   pub own_after : AllFrom (j + 2) (own entries)
   pub ahead : (ends : List EventEnd) → Ahead x ends → Ahead (happen g at (Closes end)) ends
 
--- the event begins this
+-- The event begins this operation.
 abbrev pub IsBegin : Event → Actor → Op → Type 0
 IsBegin ev a op = (ev ≡ Do a op) ⊎ (ev ≡ Start a op)
 
--- an actor began this last, here
+-- An actor began its last operation in this state.
 pub record Began (g : Setting) (opening : Content) (x : Play) (a : Actor) (d : Doing) : Type 0 where
   pub at : Play
   pub happened : Reachable g opening at
@@ -205,7 +205,7 @@ module _ (g : Setting) (opening : Content) where
   abbrev begun_now : Play → Actor → Op → Option Running
   begun_now y b op = begun (start_of g b op (reports g.script y.past.reported) (knows_now g y b)) (knows_now g y b)
 
-  -- what an actor that begins nothing began last
+  -- What an actor that begins nothing began last.
   abbrev Kept : Play → Event → Type 0
   Kept y ev = (a : Actor) (d : Doing) → y.past.doing a ≡ Some d → open_running g y ev a ≡ y.running a
       → Began g opening (happen g y (Opens ev)) a d
@@ -227,7 +227,7 @@ module _ (g : Setting) (opening : Content) where
   opened_began y (Start b op) past may old a d e = began_one y (Start b op) b op past may (inr refl) old (begun_now y b op) refl a d e
   opened_began y _ past may old a d e = old a d e refl
 
-  -- between events what is past is how it stands
+  -- Between two events, the states that follow from the ends are those of now.
   lived : (y : Play) → Reachable g opening y → y.now ≡ None → (a : Actor) (d : Doing) → y.past.doing a ≡ Some d → y.live.doing a ≡ Some d
   lived y past idle a d e = ap (λ (p : Past). p.doing a) ((told_all g opening y past).closed idle).0 ∙ e
 

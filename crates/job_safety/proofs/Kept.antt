@@ -1,4 +1,4 @@
--- That all that is promised of a job holds of what happened in its run.
+-- All that is promised of a job holds of what happened in its run.
 use Rattle.job_model.specs.JobScript.{Script}
 use Rattle.job_protocol.specs.Operations.{Setting}
 use Rattle.job_safety.proofs.Cleans.{cleans_kept}
@@ -15,7 +15,7 @@ use Rattle.job_traces.proofs.Changes.{runs_outside, runs_rename}
 use Rattle.job_traces.proofs.Entries.{always}
 use Rattle.std.proofs.Common.{ap, false, subst, sym, ℕ, ◌∙◌}
 
--- a setting with this least size of a part
+-- A setting with this least size of a part.
 abbrev with_least : Script → ℕ → Setting
 with_least w n = record { script = w; minimum = n; shared = false }
 

@@ -53,7 +53,7 @@ module _ (g : Setting) (opening : Content) (j : IsLegal g.script) (is_opening : 
     follows_so : n.op ≡ TheSetup first → Follows (wants g Driver) (advance g Driver) (record { operation = TheSetup first; known = k }) es
     follows_so is = subst (λ v. Follows (wants g Driver) (advance g Driver) (record { operation = v; known = k }) es) is n.follows
 
-    -- by what stood as it began, where these are all there are since then
+    -- By what the store held when it began, if all entries since then are its own.
     setup_so : AreOwn x.journal → EndsSo n.op → is_new (n.closed.at.past.state Driver).stage ≡ true
         → (worn : Option Request) × WornFirst g.script.retries es worn
         × SetupIs g.script (moment opening x.journal (length (before d.since x.journal))).content worn e

@@ -1,4 +1,4 @@
--- Of which kind an operation is, from its beginning to its end.
+-- The kind of an operation, from its beginning to its end.
 use Rattle.basics.proofs.Options.{end_of}
 use Rattle.job_model.specs.Attempts.{Who}
 use Rattle.job_model.specs.Known.{Known}
@@ -70,7 +70,7 @@ pub kind_run : (g : Setting) (a : Actor) (m : Running) (es : List Entry) → kin
 kind_run g a m [] = refl
 kind_run g a m (e ∷ es) = kind_run g a (advance g a m e.outcome) es ∙ kind_tells g (who a) m.operation e.outcome
 
--- ---- the driver's, by its kind
+-- ---- the driver's operations, by their kind
 
 commit_kind : (g : Setting) (r : Reports) → kind (commit_of g r) ≡ OfCommit
 commit_kind g r = commit_of_so g (λ op. kind op ≡ OfCommit) (λ missing. refl) (λ t. refl) r
@@ -79,7 +79,7 @@ pub driver_setup : (g : Setting) (op : Op) (reports : Reports) (k : Known) (m : 
     → kind m ≡ OfSetup → m ≡ TheSetup (fresh g.script.retries setup_start)
 driver_setup g op reports k m h e = grind arith
 
--- a commit, or the check before it; and an abort or clean
+-- A commit, or the check before it; and an abort or clean.
 pub driver_commit : (g : Setting) (op : Op) (reports : Reports) (k : Known) (m : Operation) → start_of g Driver op reports k ≡ Some m
     → kind m ≡ OfCommit → (op ≡ ops.Commit) × (m ≡ commit_of g reports)
 driver_commit g op reports k m h e = grind arith
@@ -88,7 +88,7 @@ pub driver_clean : (g : Setting) (op : Op) (reports : Reports) (k : Known) (m : 
     → kind m ≡ OfClean → ((op ≡ ops.Abort) ⊎ (op ≡ ops.Clean)) × (m ≡ clean_of g)
 driver_clean g op reports k m h e = grind arith
 
--- ---- ends for want of memory
+-- ---- ends because memory ran out
 
 pub memory_setup : (e : SetupEnd) → is_memory (ends.Setup e) ≡ true → e ≡ setups.NoMemory
 memory_setup e h = grind arith

@@ -1,4 +1,4 @@
--- The journal of a run where an operation began and ended: what was before, what was between, and what the actor itself sent.
+-- The journal of a run in which an operation began and ended: what was before, what was between, and what the actor itself sent.
 use Rattle.job_model.specs.declared.ends.OpEnd.{OpEnd}
 use Rattle.job_outcomes.proofs.EventRows.{honest_back}
 use Rattle.job_protocol.specs.Operations.{Setting}
@@ -22,7 +22,7 @@ module _ (g : Setting) (opening : Content) (x : Play) (j : ℕ) (a : Actor) (d :
   abbrev z : Play
   z = n.closed.at
 
-  -- where it began
+  -- The state in which it began.
   abbrev pub start : Began g opening z a d
   start = began g opening z n.closed.happened a d n.doing
 
@@ -32,7 +32,7 @@ module _ (g : Setting) (opening : Content) (x : Play) (j : ℕ) (a : Actor) (d :
   pub early : AllUpTo (length s.ends) s.journal
   early = ((told_all g opening s start.happened).closed start.may.idle).1
 
-  -- all that came after the event it ended in is of later events than that it began in
+  -- All that came after its last event belongs to later events than its first one.
   pub late : AllFrom d.since n.closed.entries
   late = let then : d.since ≤ j + 1 = n.from_then in from_more (j + 1) d.since n.closed.entries then n.closed.after
 
@@ -42,7 +42,7 @@ module _ (g : Setting) (opening : Content) (x : Play) (j : ℕ) (a : Actor) (d :
   pub before_is : before d.since x.journal ≡ s.journal
   before_is = grind (arith, before_cut, early, before_front, late)
 
-  -- the scene that it began in
+  -- The scene in which it began.
   pub scene_is : moment opening x.journal (length (before d.since x.journal)) ≡ after_all (store.opening opening) s.journal
   scene_is = ap (λ l. moment opening x.journal (length l)) before_is ∙ ap (λ l. moment opening l (length s.journal)) whole ∙ moment_cut
       opening s.journal (start.entries ++ n.closed.entries)
@@ -51,7 +51,7 @@ module _ (g : Setting) (opening : Content) (x : Play) (j : ℕ) (a : Actor) (d :
   since_is = ap (since d.since) start.all ∙ subst (λ k. AllFrom k start.entries → since k (s.journal ++ start.entries) ≡ start.entries)
       (sym start.since_is) (since_cut (length s.ends) s.journal start.entries early) start.after
 
-  -- its own entries
+  -- Its own entries.
   pub mine : es ≡ by_actor a start.entries
   mine = grind (arith, since_by_cut, early)
 
@@ -62,6 +62,6 @@ module _ (g : Setting) (opening : Content) (x : Play) (j : ℕ) (a : Actor) (d :
   pub after_is : after_all (store.opening opening) z.journal ≡ after_all (after_all (store.opening opening) s.journal) start.entries
   after_is = ap (after_all (store.opening opening)) start.all ∙ after_parts (store.opening opening) s.journal start.entries
 
-  -- what its actor had sent before
+  -- What its actor had sent before.
   pub known_is : before d.since (by_actor a x.journal) ≡ before d.since (by_actor a z.journal)
   known_is = ap (λ l. before d.since (by_actor a l)) n.closed.all ∙ before_by_front d.since a z.journal n.closed.entries late

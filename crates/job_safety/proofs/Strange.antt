@@ -1,4 +1,4 @@
--- Entries of strangers between the events of a run: no actor of the job sent them, and nothing is told of them.
+-- Entries of strangers between the events of a run: no actor of the job sent them, and they say nothing of the job.
 use Rattle.basics.proofs.Members.{false_true}
 use Rattle.job_model.specs.JobScript.{Script}
 use Rattle.job_outcomes.proofs.RunEntries.{last_other}
@@ -18,7 +18,7 @@ abbrev pub AreStrange : List Entry → Type 0
 AreStrange [] = Unit {0}
 AreStrange (e ∷ es) = (is_own e.actor ≡ false) × AreStrange es
 
--- what is not of a later event is a stranger's, where all own entries are
+-- If all of the job's own entries are of later events, each entry up to event n is a stranger's.
 pub strange_until : (n : ℕ) (es : List Entry) → AllFrom (n + 1) (own es) → AreStrange (until n es)
 strange_until n [] h = tt
 strange_until n (e ∷ es) h = by (is_own e.actor) refl (nat_le e.event n) refl h (λ g. strange_until n es g)
@@ -53,7 +53,7 @@ pub own_all : (es : List Entry) → AreOwn es → own es ≡ es
 own_all [] h = refl
 own_all (e ∷ es) h = ap (λ b. cond b (e ∷ own es) (own es)) h.0 ∙ ap (λ l. e ∷ l) (own_all es h.1)
 
--- none is behind an actor's last entry
+-- None of them is an actor's last entry.
 strange_any : (a : Actor) → is_own a ≡ true → (es : List Entry) → AreStrange es → list_any (λ x. same_actor x.actor a) es ≡ false
 strange_any a own [] h = refl
 strange_any a own (e ∷ es) h = ap (λ b. b || list_any (λ x. same_actor x.actor a) es)
@@ -62,7 +62,7 @@ strange_any a own (e ∷ es) h = ap (λ b. b || list_any (λ x. same_actor x.act
 pub strange_last : (a : Actor) → is_own a ≡ true → (es fs : List Entry) → AreStrange fs → until_last a (es ++ fs) ≡ until_last a es
 strange_last a own es fs h = last_other a es fs (strange_any a own fs h)
 
--- and nothing is picked
+-- They change no pick.
 pub strange_picks : (w : Script) (k : Times) (s : Seen) (es : List Entry) → AreStrange es → (see_all w k s es).picks ≡ s.picks
 strange_picks w k s [] h = refl
 strange_picks w k s (e ∷ es) h = strange_picks w k (see w k s e) es h.1 ∙ (λ i t. entry_picks w k s e

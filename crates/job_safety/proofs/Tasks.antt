@@ -41,7 +41,7 @@ use Rattle.job_model.specs.declared.events.Op.TheVariants as ops
 use Rattle.job_model.specs.declared.ends.TaskEnd.TheVariants as tasks
 use Rattle.job_model.specs.declared.ends.OpEnd.TheVariants as ends
 
--- ---- of which operation
+-- ---- the kind of an operation
 
 abort_tells : (g : Setting) (a : Who) (op : Operation) (o : Outcome) → is_abort (tells g a op o) ≡ is_abort op
 abort_tells g a op o = grind arith
@@ -68,7 +68,7 @@ commit_run g t n m [] h = h
 commit_run g t n m (e ∷ es) h = commit_run g t n (advance g (Attempt t n) m e.outcome) es
     (commit_tells g (attempt t n) m.operation e.outcome h)
 
--- a commit that is done
+-- A commit that is done.
 abbrev IsDoneCommit : Operation → Type 0
 IsDoneCommit op = (spare : ℕ) × (repeated : Bool) × (op ≡ TheTaskCommit
     (record { operation = TaskCommitOver tasks.Done; spare = spare; repeated = repeated }))
@@ -99,7 +99,7 @@ module _ (g : Setting) (opening : Content) (j : IsLegal g.script) (is_opening : 
     abbrev at : Operation
     at = (run (advance g (Attempt t a)) (record { operation = n.op; known = k }) es).operation
 
-    -- the run at the end of the event
+    -- The run at the end of the event.
     then : IsRun g opening (happen g z (Closes n.event_end)) (times g.script x.ends)
     then = is_run g opening j is_opening (happen g z (Closes n.event_end)) (happens z (Closes n.event_end) n.closed.happened n.closed.may)
         x.ends (n.closed.ahead x.ends (ahead_none x idle))
@@ -107,7 +107,7 @@ module _ (g : Setting) (opening : Content) (j : IsLegal g.script) (is_opening : 
     is_at : then.stand.attempts (attempt t a) ≡ Some at
     is_at = then.attempts (attempt t a) ∙ ap operation_of n.running
 
-    -- whether the driver's abort or clean had begun at its last entry
+    -- Whether the driver's abort or clean had begun before the attempt's last entry.
     abbrev cleaned : Bool
     cleaned = has_cleaned (clean_event g.script x.ends) (until_last (Attempt t a) (until (i + 1) x.journal))
 
@@ -138,7 +138,7 @@ module _ (g : Setting) (opening : Content) (j : IsLegal g.script) (is_opening : 
               (task_joined d.op g.script (attempt t a) es k.publish_sent cleaned r.0 e r.2 (gone_so o)),
         )
 
-    -- a commit that is done
+    -- A commit that is done.
     publishes_so : d.op ≡ ops.Commit → cleaned ≡ false → e ≡ tasks.Done → over at ≡ Some (ends.Task e)
         → WasPublished g.script opening x.journal t a (i + 1)
     publishes_so is clean done o =

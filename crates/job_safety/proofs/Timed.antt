@@ -1,4 +1,5 @@
--- At the end of an event in which the driver's operation ended: the run then, the event in which its commit began, and what is seen.
+-- At the end of an event in which an operation of the driver ended: the run then, the event in which the commit began, and what the journal
+-- shows.
 use Rattle.job_facts.specs.Told.{Told, nothing_told}
 use Rattle.job_model.specs.JobScript.{Script}
 use Rattle.job_model.specs.Legal.{IsLegal}
@@ -36,16 +37,16 @@ use Rattle.std.proofs.Common.{List, None, Option, Some, ap, arith, false, inl, i
 use Rattle.std.proofs.Math.Seq.{take-append_seam}
 use Rattle.job_model.specs.declared.events.Op.TheVariants as ops
 
--- ---- plain facts
+-- ---- simple facts
 
 just_setting : (d : Option Operation) → is_just_set d ≡ true → IsSettingUp d
 just_setting d h = grind arith
 
--- the commit's event is the next one where it has begun then and not before
+-- If the commit has begun after the next event and not before it, the next event is that of the commit.
 commit_number : (k : Option ℕ) (n : ℕ) → is_begun k n ≡ false → is_begun k (n + 1) ≡ true → k ≡ Some (n + 1)
 commit_number k n h g = grind arith
 
--- what a driver begins it may begin
+-- The driver begins only what it may begin.
 pub begins_at : (g : Setting) (y : Play) (ev : Event) (op : Op) → MayOpen g y ev None → IsBegin ev Driver op
     → Begins (y.past.state Driver).stage Driver op (y.past.state Driver).life (y.past.state Driver).stage
 begins_at g y ev op may (inl is) = begins_so (y.past.state Driver).stage Driver op (y.past.state Driver).life (y.past.state Driver).stage
@@ -59,14 +60,14 @@ module _ (g : Setting) (opening : Content) (j : IsLegal g.script) (is_opening : 
   abbrev w : Script
   w = g.script
 
-  -- the event of the commit, if it is any
+  -- The events of the commit and of the first abort or clean, if there are any.
   abbrev k : Times
   k = times w x.ends
 
   abbrev z : Play
   z = n.closed.at
 
-  -- the run at the end of the event
+  -- The run at the end of the event.
   pub ahead_then : Ahead (happen g z (Closes n.event_end)) x.ends
   ahead_then = n.closed.ahead x.ends (ahead_none x idle)
 
@@ -74,7 +75,7 @@ module _ (g : Setting) (opening : Content) (j : IsLegal g.script) (is_opening : 
   run_then = is_run g opening j is_opening (happen g z (Closes n.event_end)) (happens z (Closes n.event_end) n.closed.happened n.closed.may)
       x.ends ahead_then
 
-  -- and where the operation began
+  -- The run when the operation began.
   pub ahead_end : Ahead z x.ends
   ahead_end = closed_ahead g z n.event_end x.ends (not_refused w z.past.state n.closed.may.event n.event_end _ n.closed.may.turns)
       ahead_then
@@ -116,11 +117,11 @@ module _ (g : Setting) (opening : Content) (j : IsLegal g.script) (is_opening : 
         commit_of_so g (λ op. IsTimed b (Some op) → b.commit ≡ true) (λ missing h. h.0) (λ t h. h.0) (reports w s.at.past.reported)
         (subst (IsTimed b) (opened_commit s.event (subst (λ v. IsBegin s.event Driver v) is s.begins)) h.timed)
 
-    -- its event is the one in which it began
+    -- The commit's event is the one in which it began.
     pub number_is : k.commit ≡ Some d.since
     number_is = commit_number k.commit (length s.at.ends) timed_before timed_now ∙ ap (λ v. Some v) (sym s.since_is)
 
-  -- no abort or clean has begun where the driver is at its commit
+  -- While the driver runs its commit, no abort or clean has begun.
   pub unclean_then : (c : Commit) → run_then.stand.driver ≡ Some (TheCommit c) → has_cleaned k.clean z.journal ≡ false
   unclean_then c at =
       let told = tells_so g k opening j is_opening z.journal run_then.stand run_then.runs in
@@ -128,9 +129,9 @@ module _ (g : Setting) (opening : Content) (j : IsLegal g.script) (is_opening : 
       sym (ap (λ (m : Told). m.cleaned) told ∙ cleaned_is w z.journal (nothing_told run_then.stand.told.cleans_at) ∙ ap
       (λ c. has_cleaned c z.journal) run_then.cleans) ∙ uncleaned
 
-  -- ---- what is seen then
+  -- ---- what the journal shows then
 
-  -- up to the end of the event strangers may have sent behind it
+  -- Up to the end of the event, strangers may have sent after the operation.
   abbrev strays : List Entry
   strays = until (i + 1) n.closed.entries
 

@@ -1,4 +1,4 @@
--- That every run keeps what is promised of its job.
+-- Every run keeps what is promised of its job.
 use Rattle.job_facts.specs.Facts.{Hold}
 use Rattle.job_facts.specs.Told.{nothing_told, tell_all}
 use Rattle.job_model.specs.JobScript.{Script}
@@ -33,12 +33,13 @@ use Rattle.job_model.specs.declared.ends.OpEnd.TheVariants as ends
 
 -- ---- among strangers that leave the job's own alone
 
--- the driver's set-up ends by what its own pages listed
+-- How the driver's set-up ends: out of memory, or by its own entries, that is, by the keys that they listed and the first request that ran
+-- out of retries.
 abbrev pub SetupsEndAmong : Script → List Entry → List EventEnd → Type 0
 SetupsEndAmong w journal xs = (j : ℕ) (d : Doing) (e : SetupEnd) (es : List Entry) → EndedIn w xs journal j Driver d (ends.Setup e) es
     → (e ≡ setups.NoMemory) ⊎ ((worn : Option Request) × WornFirst w.retries es worn × SetupListed w (keys_listed es) worn e)
 
--- an attempt's operation as is promised of it where nobody else sends
+-- How an attempt's operation ends: as is promised also without strangers, or out of memory.
 abbrev pub TasksEndAmong : Script → Content → List Entry → List EventEnd → Type 0
 TasksEndAmong w opening journal xs = (j t a : ℕ) (d : Doing) (e : TaskEnd) (es : List Entry)
     → EndedIn w xs journal j (Attempt t a) d (ends.Task e) es
@@ -47,19 +48,20 @@ TasksEndAmong w opening journal xs = (j t a : ℕ) (d : Doing) (e : TaskEnd) (es
     (by_actor (Attempt t a) journal)).publish_sent (has_cleaned (clean_event w xs) (until_last (Attempt t a) (until (j + 1) journal)))
     worn e)
 
--- among strangers too, a task's commit that ended Done has published
+-- An attempt's commit that ended Done has published, unless the driver had begun to clean up before the attempt's last entry.
 abbrev pub PublishesAmong : Script → Content → List Entry → List EventEnd → Type 0
 PublishesAmong w opening journal xs = (j t a : ℕ) (d : Doing) (es : List Entry)
     → EndedIn w xs journal j (Attempt t a) d (ends.Task tasks.Done) es → d.op ≡ ops.Commit
     → has_cleaned (clean_event w xs) (until_last (Attempt t a) (until (j + 1) journal)) ≡ false → WasPublished w opening journal t a (j + 1)
 
--- the driver's commit has the end that is due, and is served
+-- The job's commit has the end that is due. Each answered read of a set gave one, and a completion was refused only if an earlier send of
+-- it was lost.
 abbrev pub CommitsEndAmong : Script → Content → List Entry → List EventEnd → Type 0
 CommitsEndAmong w opening journal xs = (j : ℕ) (d : Doing) (e : CommitEnd) (es : List Entry)
     → EndedIn w xs journal j Driver d (ends.Commit e) es
     → CommitEnded w (seen_until w opening journal xs (j + 1)) d.reports.missing es e × CommitServed w es
 
--- what no stranger can break; how a commit, an abort or a clean ends is told here of a job that is alone at its destination
+-- What no stranger can break. How a commit, an abort or a clean ends is said only of a job that does not share its destination.
 pub record KeptAmong (g : Setting) (opening : Content) (journal : List Entry) (ps : List Pick) (xs : List EventEnd) : Type 0 where
   pub plays : Plays g xs journal
   pub picks : ArePicked ps (all_picks g.script opening journal xs)
@@ -72,29 +74,29 @@ pub record KeptAmong (g : Setting) (opening : Content) (journal : List Entry) (p
 
 -- ---- the laws
 
--- between events all that no stranger can break holds of what has happened
+-- At each point between two events, all that no stranger can break holds.
 abbrev pub RunsAreKeptAmong : Type 0
 RunsAreKeptAmong = (g : Setting) → (opening : Content) (x : Play) → IsLegal g.script → IsOpening g opening → Reachable g opening x
     → x.now ≡ None
     → (ps : List Pick) → ArePicked ps (all_picks g.script opening x.journal x.ends) → KeptAmong g opening x.journal ps x.ends
 
--- between events all that is promised holds of what has happened
+-- At each point between two events, all that is promised holds of a job that does not share its destination.
 abbrev pub RunsAreKept : Type 0
 RunsAreKept = (g : Setting) → g.shared ≡ false → (opening : Content) (x : Play) → IsLegal g.script → IsOpening g opening
     → Reachable g opening x → x.now ≡ None
     → (ps : List Pick) → ArePicked ps (all_picks g.script opening x.journal x.ends) → Promised g.script opening x.journal ps x.ends
 
--- the set-up of the job has ended Done
+-- A set-up of the job has ended Done.
 abbrev pub is_set_up : Script → List EventEnd → Bool
 is_set_up w xs = not (is_new ((past w xs).state Driver).stage)
 
--- from the end of the event by which a set-up has ended Done, what holds of one job between any two requests holds after each send
+-- From the end of the event in which a set-up ended Done, the facts of the job hold after each send.
 abbrev pub FactsHold : Script → Content → List Entry → List EventEnd → Type 0
 FactsHold w opening journal xs = (j m : ℕ) → is_set_up w (take j xs) ≡ true → length (until j journal) ≤ m → m ≤ length journal
     → Hold w opening.minimum (see_all w (times w xs) (nothing_seen opening) (take m journal))
     (tell_all w (nothing_told (clean_event w xs)) (take m journal))
 
--- of what has happened between two events the facts hold at each moment, from the end of a set-up on
+-- At each point between two events, the facts have held after each send since the end of a set-up.
 abbrev pub RunsHoldFacts : Type 0
 RunsHoldFacts = (g : Setting) (opening : Content) (x : Play) → IsLegal g.script → IsOpening g opening → Reachable g opening x → x.now ≡ None
     → FactsHold g.script opening x.journal x.ends

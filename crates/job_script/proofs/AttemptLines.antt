@@ -1,4 +1,4 @@
--- The lines of attempts and their files: what is printed is read again, and what is read is within bounds.
+-- The lines of attempts and their files. Reading a printed line gives its attempt or file, and what is read keeps the bounds.
 use Rattle.basics.proofs.Lists.{one_longer}
 use Rattle.basics.proofs.Reading.{needed, parted}
 use Rattle.basics.proofs.Round.{number_in-decimal, two_numbers}
@@ -35,7 +35,7 @@ use Rattle.s3_types.specs.declared.request.Actor.TheVariants as actor
 use Rattle.job_script.specs.declared.draft.Group.TheVariants as group
 use Rattle.job_script.specs.declared.kinds.Kind.TheVariants as kind
 
--- ---- what is counted
+-- ---- counts
 
 files_end : (xs ys : List Declared) → files_in (xs ++ ys) ≡ files_in xs + files_in ys
 files_end [] ys = omega arith
@@ -49,7 +49,7 @@ bytes_over : (fs gs : List File) → bytes_of (fs ++ gs) ≡ bytes_of fs + bytes
 bytes_over [] gs = omega arith
 bytes_over (f ∷ fs) gs = let old = bytes_over fs gs in omega (arith, old)
 
--- ---- a file is read again
+-- ---- reading a printed file
 
 last_of : (before : List Declared) (a : Declared) → last_files (before ++ a ∷ []) ≡ a.1
 last_of (b ∷ c ∷ cs) a = last_of (c ∷ cs) a
@@ -86,13 +86,13 @@ file_printed f h =
       shown = refl;
     }
 
--- the files of the last attempt are few in all
+-- Holds if the files of the last attempt keep the limits of the whole script.
 record Fits (before : List Declared) (last : List File) : Type 0 where
   pub files : files_in before + length last ≤ 20000
   pub bytes : bytes_in before + bytes_of last ≤ 67108864
 
 module _ (h : Head) (before : List Declared) (name : AttemptName) where
-  -- the last attempt has these files so far
+  -- The draft in which the last attempt has these files so far.
   abbrev filed : List File → Draft
   filed fs = drafted group.Attempts h (before ++ (name, fs) ∷ []) []
 
@@ -130,7 +130,7 @@ module _ (h : Head) (before : List Declared) (name : AttemptName) where
         is.2,
       )) n [] fs refl are
 
--- ---- an attempt is read again
+-- ---- reading a printed attempt
 
 name_from : (n t a : ℕ) (parts : List (List ℕ)) (word : List ℕ) → parts_of 46 word ≡ parts → parts ≡ decimal t ∷ decimal a ∷ [] → t ≤ 999
     → a ≤ 99 → name_at n word ≡ Ok (record { task = t; attempt = a })
@@ -143,7 +143,7 @@ name_from n t a parts word e f g h = rw (
       (lit< tt),
 ) refl
 
--- T.A names the attempt again
+-- T.A is read as the name of the attempt.
 pub name_again : (n t a : ℕ) → t ≤ 999 → a ≤ 99 → name_at n (actor_text (actor.Attempt t a)) ≡ Ok (record { task = t; attempt = a })
 name_again n t a g h = name_from n t a (decimal t ∷ decimal a ∷ []) (actor_text (actor.Attempt t a))
     (two_numbers 46 t a (lit< tt) (omega (arith, g)) (omega (arith, h))) refl g h
@@ -158,7 +158,7 @@ name_lettered t a g h =
     (letters_end (decimal t) (46 ∷ decimal a) (decimal_letters t (omega (arith, g)))
     (letters_end (46 ∷ []) (decimal a) refl (decimal_letters a (omega (arith, h)))))
 
--- the group behind some lines of a group
+-- The group after some lines of a group.
 abbrev pub group_after : {A : Type 0} → Group → Group → List A → Group
 group_after g k [] = g
 group_after g k (x ∷ xs) = k
@@ -178,18 +178,18 @@ attempt_from : (n : ℕ) (h : Head) (all : List Declared) (tasks : ℕ) (word : 
 unfolding attempt_at
 attempt_from n h all tasks word name a t new few inside = rw (a, new, lt-ltb (length all) 2000 few, t, lt-ltb name.task tasks inside) refl
 
--- the counts of attempts
+-- Holds if the counts of attempts, files and bytes keep their limits.
 pub record AreFew (all : List Declared) : Type 0 where
   pub attempts : length all ≤ 2000
   pub files : files_in all ≤ 20000
   pub bytes : bytes_in all ≤ 67108864
 
 module _ (h : Head) (tasks : ℕ) (given : h.tasks ≡ Some tasks) (most : tasks ≤ 1000) where
-  -- behind these attempts
+  -- The draft after these attempts.
   abbrev attempted : List Declared → Draft
   attempted all = drafted (group_after group.Head group.Attempts all) h all []
 
-  -- an attempt is read, and its files
+  -- Reading the lines of an attempt adds the attempt and its files.
   attempt_goes : (n : ℕ) (before : List Declared) (a : Declared) → a.0.task < tasks → a.0.attempt ≤ 99 → declares before a.0 ≡ false
       → AreFiles [] a.1 → length before < 2000 → Fits before a.1
       → Goes n (attempted before) (attempt_lines a) (attempted (before ++ a ∷ []))
@@ -224,7 +224,7 @@ module _ (h : Head) (tasks : ℕ) (given : h.tasks ≡ Some tasks) (most : tasks
       (attempt_goes m before a is.0 is.1 is.2 is.3 (omega arith) (record { files = omega arith; bytes = omega arith }), is.4)) n [] all refl
       are
 
--- ---- what is read is within bounds
+-- ---- what is read keeps the bounds
 
 files_more : (before fs : List File) (f : File) → IsFile f → has_path (before ++ fs) f.0 ≡ false → AreFiles before fs
     → AreFiles before (fs ++ f ∷ [])
@@ -268,7 +268,7 @@ file_more tasks before (a ∷ b ∷ rest) path bytes is new h = (
       new h.4,
 )
 
--- no attempt and no file more than one is added
+-- A new file adds no attempt, at most one file, and at most its bytes.
 counted : (all : List Declared) (path bytes : List ℕ) → (length (with_file all path bytes) ≡ length all)
     × (files_in (with_file all path bytes) ≤ files_in all + 1) × (bytes_in (with_file all path bytes) ≤ bytes_in all + length bytes)
 counted [] path bytes = (refl, omega arith, omega arith)
@@ -279,7 +279,7 @@ counted (a ∷ []) path bytes =
 counted (a ∷ b ∷ rest) path bytes = let old = counted (b ∷ rest) path bytes in
     (omega (arith, old.0), omega (arith, old.1), omega (arith, old.2))
 
--- the bounds of the attempts so far, beside the number of tasks and the first attempt outside it
+-- The bounds of the attempts so far, with the number of tasks and the line of the first attempt outside it.
 pub record IsSoundAttempts (given outside : Option ℕ) (all : List Declared) (files bytes : ℕ) : Type 0 where
   pub attempts : (tasks : ℕ) → given ≡ Some tasks → outside ≡ None → AreAttempts tasks [] all
   pub few : length all ≤ 2000
@@ -288,7 +288,7 @@ pub record IsSoundAttempts (given outside : Option ℕ) (all : List Declared) (f
   pub measured : bytes_in all ≤ bytes
   pub few_bytes : bytes ≤ 67108864
 
--- attempts that are within bounds behind a line
+-- Holds if a line changed only attempts and their counts, and they keep the bounds.
 pub record Grown (d e : Draft) : Type 0 where
   pub outside : Option ℕ
   pub all : List Declared
@@ -297,7 +297,7 @@ pub record Grown (d e : Draft) : Type 0 where
   pub sound : IsSoundAttempts d.head.tasks outside all files bytes
   pub is : record d { attempts = all; outside = outside; files = files; bytes = bytes } ≡ e
 
--- the numbers of a name
+-- Holds if the numbers of a name are in their ranges.
 record IsName (name : AttemptName) : Type 0 where
   pub task : name.task ≤ 999
   pub attempt : name.attempt ≤ 99

@@ -1,4 +1,4 @@
--- The text of a destination is read as it again, and what is read as a path.
+-- Reading the text of a destination gives the destination, and a path that is read keeps the bounds.
 use Rattle.basics.proofs.Bools.{not_so}
 use Rattle.basics.proofs.Cuts.{no_return}
 use Rattle.basics.proofs.Lists.{weaker}
@@ -35,7 +35,7 @@ use Rattle.std.specs.List.{ends_with, join_with_byte, list_all, starts_with}
 use Rattle.std.specs.Option.{option_or}
 use Rattle.std.specs.Prelude.{codes, nat_eq, nat_le}
 
--- ---- what is printed is read again
+-- ---- reading a printed destination
 
 bucket_bytes : (name : List ℕ) → is_bucket name ≡ true → list_all is_name_byte name ≡ true
 bucket_bytes name h = (and_parts _ (list_all is_name_byte name) (and_parts _ _ (and_parts _ _ h).0).0).1
@@ -57,7 +57,7 @@ elements_kept (e ∷ es) h = let p = and_parts (is_element e) (list_all is_eleme
 key_again : (key : List ℕ) → 0 < length key → is_key key ≡ true → key_of (parts_of 47 key) ≡ Ok key
 key_again key some h = let k = some_key key some h in text_fits key (sym (elements_kept (parts_of 47 key) k.0)) k.1
 
--- a key has no `/` at its end
+-- A key does not end in `/`.
 no_slash_end : (key front : List ℕ) → 0 < length key → is_key key ≡ true → key ≢ front ++ 47 ∷ []
 no_slash_end key front some h e =
     let k = some_key key some h in
@@ -67,7 +67,7 @@ no_slash_end key front some h e =
     all).1 in
     absurd cc
 
--- what ends a text ends with its end
+-- If a text ends in a byte, so does its end.
 cut_front : (xs : List ℕ) (x : ℕ) (ys front : List ℕ) (b : ℕ) → xs ++ x ∷ ys ≡ front ++ b ∷ [] → (back : List ℕ) × (x ∷ ys ≡ back ++ b ∷ [])
 cut_front [] x ys front b e = (front, e)
 cut_front (a ∷ []) x ys [] b e = absurd cc
@@ -88,7 +88,7 @@ named_again p b some k =
 pub key_some : (p : Path) → IsDest p → 0 < length p.key
 key_some p h = omega (arith, leb-true 1 (length p.key) (and_parts _ _ (and_parts _ _ (and_parts _ _ h.below).0).0).0)
 
--- the destination of a script is read in its text
+-- Reading the text of a script's destination gives the destination.
 pub path_again : (p : Path) → IsDest p → path_in (path_text p) ≡ Ok p
 path_again p h =
     let some = key_some p h in
@@ -107,7 +107,7 @@ path_word p h =
     let name = weaker is_name_byte is_bare name_byte_bare p.bucket (bucket_bytes p.bucket h.bucket) in
     (is_utf8-from_IsUtf8 (path_text p) utf8, list_all-append is_bare p.bucket (47 ∷ p.key) ∙ rw (name, h.word.1) refl)
 
--- a word without CR at its end is a last word
+-- A word that does not end in CR may be the last word of a line.
 ends_last : (w : List ℕ) → 0 < length w → ends_with nat_eq w (13 ∷ []) ≡ false → IsLast w
 ends_last [] some h front = absurd (omega (arith, some))
 ends_last (x ∷ xs) some h front = sym (no_return (front ++ x ∷ xs) (λ f e. let c = cut_front front x xs f 13 e in true≢false
@@ -124,9 +124,9 @@ path_last p h front =
     (append_assoc front before p.key) in
     ap without_return whole ∙ ends_last p.key some kept (front ++ before) ∙ sym whole
 
--- ---- what is read is within bounds
+-- ---- what is read keeps the bounds
 
--- a path of a bucket and a key, whose bytes are of a clean text
+-- Holds if the path has a bucket and a key, and the key's bytes are those of a clean text.
 pub record IsCleanPath (p : Path) : Type 0 where
   pub bucket : is_bucket p.bucket ≡ true
   pub key : is_key p.key ≡ true
@@ -139,7 +139,7 @@ key_at rest x None e h =
     (subst (λ (l : List ℕ). is_key l ≡ true) p.1 (key_is rest e (leb-true (length rest) 1023 p.0)), p.1)
 key_at rest x (Some f) e h = let k = sym (key_of_text rest (Some f) e) ∙ h in absurd cc
 
--- the elements behind the bucket's name are the parts of what stands behind it and a `/`
+-- The elements after the bucket's name are the parts of a clean text, so they make a clean key.
 key_sound : (text name : List ℕ) (elements : List (List ℕ)) (key : List ℕ) → IsClean is_bare text → is_bucket name ≡ true
     → parts_of 47 text ≡ name ∷ elements → key_of elements ≡ Ok key → (is_key key ≡ true) × IsClean is_bare key
 key_sound text name [] key c b e h = subst (λ (x : List ℕ). (is_key x ≡ true) × IsClean is_bare x) (same_ok [] key h)
@@ -171,7 +171,7 @@ scheme_clean text c rest h =
     let halves = clean_cut is_bare 47 (codes "s3a:/") (drop 6 text) (omega arith) (subst (IsClean is_bare) whole c) in
     subst (IsClean is_bare) p.1 halves.1
 
--- a path that was read has a bucket and a key, of bytes of the text
+-- A path that was read has a bucket and a key, whose bytes are those of the text.
 pub path_sound : (text : List ℕ) (p : Path) → IsClean is_bare text → path_in text ≡ Ok p → IsCleanPath p
 path_sound text p c h =
     let a = parted (need (without_scheme text) BadScheme) _ p h in

@@ -1,4 +1,4 @@
--- The lines of events: what is printed is read again, and what is read is within bounds.
+-- The lines of events. Reading a printed line gives its event, and what is read keeps the bounds.
 use Rattle.basics.proofs.Bools.{contrary}
 use Rattle.basics.proofs.Reading.{checked, made_so, needed, parted, same_ok}
 use Rattle.basics.proofs.Round.{number_in-decimal, two_numbers}
@@ -48,12 +48,12 @@ use Rattle.job_script.specs.declared.kinds.Kind.TheVariants as kind
 
 -- ---- actors
 
--- the bounds of an attempt's numbers
+-- The bounds of an attempt's numbers.
 pub record IsNamed (t a : ℕ) : Type 0 where
   pub task : t ≤ 999
   pub attempt : a ≤ 99
 
--- the names of attempts are in range
+-- Holds if the names of attempts are in their ranges.
 abbrev pub AreNamed : List Declared → Type 0
 AreNamed all = AllByRecursion (λ (a : Declared). IsNamed a.0.task a.0.attempt) all
 
@@ -75,7 +75,7 @@ declared_named [] t a h k = absurd cc
 declared_named (d ∷ all) t a h k = named_or t a d.0 d.1 (lookup (same_name (record { task = t; attempt = a })) all) h.0
     (declared_named all t a h.1) k
 
--- T.A is not the word `driver`, which has no dot
+-- T.A is not the word `driver`, which has no dot.
 not_driver : (t a : ℕ) → IsNamed t a → is_driver (actor_text (actor.Attempt t a)) ≡ false
 not_driver t a h = contrary (is_driver (actor_text (actor.Attempt t a))) (λ e.
     let same : actor_text (actor.Attempt t a) ≡ codes "driver" = (bytes_eq-Decides (actor_text (actor.Attempt t a)) (codes "driver")).0 e in
@@ -89,7 +89,7 @@ unfolding actor_at
 actor_from n t a word d e h = rw d (ap (λ r. r >>= λ (name : AttemptName). Ok (actor.Attempt name.task name.attempt))
     (ap (name_at n) e ∙ name_again n t a h.task h.attempt))
 
--- what an actor that is known is read as, and that its word is of letters
+-- Holds if reading the text of an actor gives the actor, and the text is a word of letters.
 record IsAgain (n : ℕ) (x : Actor) : Type 0 where
   pub read : actor_at n (actor_text x) ≡ Ok x
   pub lettered : is_lettered (actor_text x) ≡ true
@@ -125,9 +125,9 @@ op_lettered : (o : Op) → is_lettered (op_word o) ≡ true
 op_lettered op.Setup = refl
 op_lettered o = refl
 
--- ---- an event is read again
+-- ---- reading a printed event
 
--- behind these events
+-- The draft after these events.
 abbrev happened : Group → Head → List Declared → List Event → Draft
 happened g h all es = drafted (group_after g group.Events es) h all es
 
@@ -141,7 +141,7 @@ event_words n g h all before e word k values is read few =
     (rw (read, lt-ltb (length before) 100000 few) (ap (λ (z : Group). Ok (drafted z h all (before ++ e ∷ [])))
     (sym (group_ended g group.Events before e))))
 
--- an event's line is printed and read again
+-- Holds if the line of an event can be printed, and reading it adds the event.
 record IsBack (n : ℕ) (g : Group) (h : Head) (all : List Declared) (before : List Event) (e : Event) : Type 0 where
   pub printed : IsPrinted (event_line e)
   pub read : words_at n (happened g h all before) (event_line e) ≡ Ok (happened g h all (before ++ e ∷ []))
@@ -216,9 +216,9 @@ events_go n g h all es named are few =
     let b = event_again m g h all before e named is.0 (omega arith) in
     (goes_on m (happened g h all before) (happened g h all (before ++ e ∷ [])) (event_line e) b.printed b.read, is.1)) n [] es refl are
 
--- ---- what is read is within bounds
+-- ---- what is read keeps the bounds
 
--- the operation is one of the actor's
+-- The operation that is read is one of the actor's.
 has_op_at : (b : Bool) (n : ℕ) (word name : List ℕ) (a : Actor) (o : Op)
     → (if b then named driver_ops name else named attempt_ops name) ≡ Some o
     → (if b then Ok actor.Driver else (name_at n word >>= λ m. Ok (actor.Attempt m.task m.attempt))) ≡ Ok a → HasOp a o
@@ -285,7 +285,7 @@ pub events_more : (attempts : List Declared) (es : List Event) (e : Event) → I
 events_more attempts [] e is all = (is, tt)
 events_more attempts (f ∷ es) e is all = (all.0, events_more attempts es e is all.1)
 
--- a line that adds an event
+-- Holds if a line changed only the events, to which it added one.
 pub record Added (d e : Draft) : Type 0 where
   pub event : Event
   pub is : IsEvent d.attempts event

@@ -1,4 +1,4 @@
--- The bytes of a file: what is printed is read again, and what is read are bytes.
+-- The bytes of a file. Reading printed bytes gives the bytes, and the contents that are read are bytes.
 use Rattle.basics.proofs.Reading.{needed}
 use Rattle.basics.specs.Shapes.{text}
 use Rattle.basics.specs.Words.{joined}
@@ -21,7 +21,7 @@ use Rattle.std.specs.Prelude.{if◌then◌else◌, nat_lt, replicate, ◌&&◌}
 use Rattle.std.specs.Result.{result_ok}
 use Rattle.std.specs.Str.{IsUtf8, chars}
 
--- ---- what is printed is read again
+-- ---- reading printed bytes
 
 letter_at : (t : List ℕ) (d : ℕ) → list_all is_letter t ≡ true → is_letter (slice_index t d) ≡ true
 letter_at [] d h = refl
@@ -43,7 +43,7 @@ bytes_at [] h i = omega arith
 bytes_at (b ∷ bytes) h zero = ltb-true b 256 (and_parts (nat_lt b 256) (are_bytes bytes) h).0
 bytes_at (b ∷ bytes) h (suc i) = bytes_at bytes (and_parts (nat_lt b 256) (are_bytes bytes) h).1 i
 
--- two digits a byte are not the one `-`
+-- Reading the hex digits of bytes gives the bytes. Two digits a byte are never the word `-`.
 pub hex_again : (bytes : List ℕ) → are_bytes bytes ≡ true → hex_bytes (hex_word bytes) ≡ Some bytes
 unfolding encode_with
 hex_again [] h = refl
@@ -57,12 +57,12 @@ hex_again (b ∷ bytes) h = long (slice_index lower_digits (b / 16)) (slice_inde
     long : (x y : ℕ) (rest : List ℕ) → hex_bytes (x ∷ y ∷ rest) ≡ result_ok (decode_of (x ∷ y ∷ rest))
     long x y rest = long_if (x == 45) (nat_lt 0 (length (x ∷ y ∷ rest))) (x ∷ y ∷ rest) (lt-ltb 0 (length (x ∷ y ∷ rest)) (omega arith))
 
--- the digits of some bytes are their word
+-- The hex digits of some bytes are their word.
 pub word_is : (bytes text : List ℕ) → (length bytes ≡ 0 → ⊥) → text ≡ encode_lower bytes → text ≡ hex_word bytes
 word_is [] text some e = absurd (some refl)
 word_is (b ∷ bytes) text some e = e
 
--- ---- what is read are bytes
+-- ---- the contents that are read are bytes
 
 bytes_end : (xs ys : List ℕ) → are_bytes xs ≡ true → are_bytes ys ≡ true → are_bytes (xs ++ ys) ≡ true
 bytes_end xs ys h k = list_all-append (λ b. nat_lt b 256) xs ys ∙ rw (h, k) refl
@@ -97,7 +97,7 @@ encodes_bytes [] h = refl
 encodes_bytes (c ∷ cs) h = let p = and_parts (scalar c) (scalars cs) h in bytes_end (encode c) (encodes cs) (encoded_bytes c p.0)
     (encodes_bytes cs p.1)
 
--- what is UTF-8 has bytes alone
+-- A text in UTF-8 consists of bytes.
 utf8_bytes : (bs : List ℕ) → IsUtf8 bs → are_bytes bs ≡ true
 utf8_bytes bs h = subst (λ (l : List ℕ). are_bytes l ≡ true) (encodes-chars bs h) (encodes_bytes (chars bs) (scalars-chars bs h))
 
@@ -141,7 +141,7 @@ fill_sound : (n : ℕ) (words : List (List ℕ)) (x : List ℕ) → fill_at n wo
 unfolding fill_at
 fill_sound n words x h = grind (arith, number_bounds, fill_bytes)
 
--- what a file's line says of its bytes are bytes
+-- The contents that a file's line gives are bytes.
 pub content_sound : (n : ℕ) (form : List ℕ) (words : List (List ℕ)) (x : List ℕ) → AllByRecursion IsScriptWord words
     → content_at n form words ≡ Ok x → are_bytes x ≡ true
 unfolding content_at

@@ -1,4 +1,4 @@
--- The lines of a script's head that give one value: what is printed is read again, and what is read is within bounds.
+-- The lines of a script's head that give one value. Reading a printed line gives its value, and what is read keeps the bounds.
 use Rattle.basics.proofs.Naturals.{positive}
 use Rattle.basics.proofs.Reading.{checked, needed, parted, same_ok}
 use Rattle.basics.proofs.Round.{number_in-decimal}
@@ -41,11 +41,11 @@ use Rattle.job_script.specs.declared.kinds.Kind.TheVariants as kind
 
 -- ---- a kind of line
 
--- from low to high
+-- Holds if the number is from low to high.
 abbrev Between : ℕ → ℕ → ℕ → Type 0
 Between low high n = (low ≤ n) × (n ≤ high)
 
--- the bounds of what a line of this kind gives
+-- Holds if the value of a line of this kind keeps its bounds.
 abbrev pub Holds : (w : HeadWord) → Value w → Type 0
 Holds head.Job id = is_job_id id ≡ true
 Holds head.Dest p = IsDest p
@@ -56,13 +56,13 @@ Holds head.Lanes n = Between 1 8 n
 Holds head.Stamp n = Between 0 999999999999999999 n
 Holds w x = Unit {0}
 
--- a value within bounds is printed and read again, and what is read is within bounds
+-- Holds if each value within its bounds can be printed, reading it gives the value, and a value that is read keeps the bounds.
 record IsRow {A : Type 0} (word : List ℕ) (read : ℕ → List ℕ → Result A ScriptFault) (text : A → List ℕ) (Fits : A → Type 0) : Type 0 where
   pub printed : (x : A) → Fits x → IsPrinted (word ∷ text x ∷ [])
   pub again : (n : ℕ) (x : A) → Fits x → read n (text x) ≡ Ok x
   pub sound : (n : ℕ) (value : List ℕ) (x : A) → IsScriptWord value → read n value ≡ Ok x → Fits x
 
--- a word of letters, and such a value
+-- A line of a word of letters and a value that is a word of letters can be printed.
 valued : (word value : List ℕ) → is_lettered word ≡ true → is_lettered value ≡ true → is_skipped (word ++ 32 ∷ value) ≡ false
     → IsPrinted (word ∷ value ∷ [])
 valued word value w v shown = printed word (value ∷ []) (rw (w, v) refl) shown
@@ -76,7 +76,7 @@ number_row word low high most w shown = record {
   sound = λ n value x is h. number_bounds low high value x (needed _ (BadNumber n) x h);
 }
 
--- a name of a table is of letters, and read again
+-- Holds if the text of x is a word of letters, and the table gives x for it.
 abbrev pub IsName : {A : Type 0} → Names A → (A → List ℕ) → A → Type 0
 IsName names text x = (named names (text x) ≡ Some x) × (is_lettered (text x) ≡ true)
 
@@ -120,7 +120,7 @@ dest_sound n word p is h =
     let path = path_sound word a.value (word_clean word is) (as_path_ok n (path_in word) a.value a.first) in
     subst IsDest (same_ok a.value p c.next) (dest_legal a.value path (checked _ (BadPath n) _ c.first))
 
--- each kind of line is so
+-- Each kind of line has these properties.
 is_row : (w : HeadWord) → IsRow (row w).word (row w).read (row w).text (Holds w)
 unfolding job_of
 is_row head.Job = record {
@@ -142,17 +142,17 @@ is_row head.Block = number_row (codes "block") 1 67108864 (lit< tt) refl (λ v. 
 is_row head.Lanes = number_row (codes "lanes") 1 8 (lit< tt) refl (λ v. refl)
 is_row head.Stamp = number_row (codes "stamp") 0 999999999999999999 (lit< tt) refl (λ v. refl)
 
--- ---- what is printed is read again
+-- ---- reading a printed head
 
--- what lines without a fault have said
+-- The draft after lines without a fault.
 abbrev pub drafted : Group → Head → List Declared → List Event → Draft
 drafted g h all es = record { group = g; head = h; attempts = all; outside = None; files = files_in all; bytes = bytes_in all; events = es }
 
--- what head lines have said
+-- The draft after head lines.
 abbrev pub headed : Head → Draft
 headed h = drafted group.Head h [] []
 
--- each kind has its word
+-- The word of each kind gives the kind.
 its_kind : (w : HeadWord) → kind_of (row w).word ≡ Some (kind.Head w)
 its_kind head.Job = refl
 its_kind w = refl
@@ -166,7 +166,7 @@ value_again : (n : ℕ) (w : HeadWord) (h : Head) (x : Value w) → Holds w x �
 unfolding said_at
 value_again n w h x b none = rw (by_row n w h ((row w).text x ∷ []), (is_row w).again n x b, none) refl
 
--- the line of a value, if there is one
+-- The line of a value, if there is one.
 value_goes : (n : ℕ) (w : HeadWord) (h : Head) (o : Option (Value w)) → IfSome o (Holds w) → (row w).kept h ≡ None
     → (row w).put n None h ≡ h
     → Goes n (headed h) (value_lines (row w).word (option_map (row w).text o)) (headed ((row w).put n o h))
@@ -182,7 +182,7 @@ unless_so default n P f = grind arith
 stamp_fits : (o : Option ℕ) → IfSome o (λ n. n < 10 ^ 18) → IfSome o (Holds head.Stamp)
 stamp_fits o h = grind arith
 
--- what a script says is within bounds
+-- The values of a script keep their bounds.
 legal_said : (s : Script) → IsLegal s → (w : HeadWord) → IfSome ((row w).said s) (Holds w)
 legal_said s h head.Job = h.job
 legal_said s h head.Dest = h.dest
@@ -193,12 +193,12 @@ legal_said s h head.Lanes = unless_so 1 s.lanes (Holds head.Lanes) (λ e. (h.one
 legal_said s h head.Stamp = stamp_fits s.stamp h.stamp
 legal_said s h w = tt
 
--- the head behind the lines of these kinds, of which the first may be the n-th
+-- The head after the lines of these kinds; the first line has number n.
 abbrev pub said_by : Script → ℕ → List HeadWord → Head → Head
 said_by s n [] h = h
 said_by s n (w ∷ ws) h = said_by s (n + length (row_lines s w)) ws ((row w).put n ((row w).said s) h)
 
--- none of these kinds of lines has come when its turn comes
+-- Holds if none of these kinds of lines has come before its turn.
 abbrev AreFree : Script → ℕ → List HeadWord → Head → Type 0
 AreFree s n [] h = Unit {0}
 AreFree s n (w ∷ ws) h = ((row w).kept h ≡ None) × ((row w).put n None h ≡ h)
@@ -212,7 +212,7 @@ rows_go s l n (w ∷ ws) h f =
     (value_goes n w h ((row w).said s) (legal_said s l w) f.0 f.1)
     (rows_go s l (n + length (row_lines s w)) ws ((row w).put n ((row w).said s) h) f.2)
 
--- the lines of a script's head are read as what it says
+-- Reading the lines of a script's head gives its values.
 pub head_goes : (losses : ℕ) (s : Script) → IsLegal s
     → Goes 1 (nothing losses) (flat_map (row_lines s) head_order) (headed (said_by s 1 head_order (no_head losses)))
 head_goes losses s l =
@@ -238,14 +238,14 @@ head_goes losses s l =
       ),
     )
 
--- ---- what is read is within bounds
+-- ---- what is read keeps the bounds
 
--- the bounds of what head lines gave
+-- The bounds of the values that the head lines gave.
 pub record IsSoundHead (h : Head) : Type 0 where
   pub values : (w : HeadWord) → IfSome ((row w).kept h) (Holds w)
   pub fates : AreFates h.fates
 
--- a value that a line gives, beside those before
+-- The value of a line keeps its bounds beside those of other lines.
 put_sound : (w v : HeadWord) (n : ℕ) (x : Value w) (h : Head) → Holds w x → IfSome ((row v).kept h) (Holds v)
     → IfSome ((row v).kept ((row w).put n (Some x) h)) (Holds v)
 put_sound head.Job head.Job n x h b old = b
@@ -260,7 +260,7 @@ put_sound head.Lanes head.Lanes n x h b old = b
 put_sound head.Stamp head.Stamp n x h b old = b
 put_sound w v n x h b old = old
 
--- no such line gives a fate
+-- No such line gives a fate.
 put_fates : (w : HeadWord) (n : ℕ) (x : Value w) (h : Head) → AreFates h.fates → AreFates ((row w).put n (Some x) h).fates
 put_fates head.Job n x h f = f
 put_fates w n x h f = f
@@ -272,7 +272,7 @@ row_parts : {A : Type 0} (r : Row A) (n : ℕ) (h k : Head) (values : List (List
     × (one values ≡ Some word) × (r.read n word ≡ Ok x) × (r.put n (Some x) h ≡ k)
 row_parts r n h k values e = grind arith
 
--- a line that gives one value keeps the bounds
+-- A line that gives one value keeps the bounds.
 pub value_sound : (n : ℕ) (w : HeadWord) (h k : Head) (values : List (List ℕ)) → AllByRecursion IsScriptWord values
     → head_at n w h values ≡ Ok k → IsSoundHead h → IsSoundHead k
 value_sound n w h k values words e s =
@@ -280,7 +280,7 @@ value_sound n w h k values words e s =
     let bound = (is_row w).sound n p.0 p.1 (one_word values p.0 p.2 words) p.3 in
     subst IsSoundHead p.4 (record { values = λ v. put_sound w v n p.1 h bound (s.values v); fates = put_fates w n p.1 h s.fates })
 
--- before the first line
+-- The head before the first line keeps the bounds.
 pub none_sound : (losses : ℕ) (w : HeadWord) → IfSome ((row w).kept (no_head losses)) (Holds w)
 none_sound losses head.Job = tt
 none_sound losses w = tt

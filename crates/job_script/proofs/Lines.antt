@@ -1,4 +1,4 @@
--- The lines of a printed text are read again, one after another.
+-- Reading the lines of a printed text, one after another.
 use Rattle.basics.proofs.Lists.{one_byte}
 use Rattle.basics.proofs.Round.{AreLines, bare-joined, kept_end, lines_again}
 use Rattle.basics.specs.Lines.{lines_of, without_return}
@@ -22,17 +22,17 @@ use Rattle.std.specs.Str.{IsUtf8, is_utf8}
 
 -- ---- a printed line
 
--- a last word that keeps its end
+-- Holds if the word, as the last one of a line, keeps its end: it loses no CR.
 abbrev pub IsLast : List ℕ → Type 0
 IsLast w = (front : List ℕ) → without_return (front ++ w) ≡ front ++ w
 
--- a line whose last word is so
+-- Holds if the last word of a line keeps its end.
 abbrev pub IsKept : Line → Type 0
 IsKept [] = ⊥
 IsKept (w ∷ []) = IsLast w
 IsKept (w ∷ v ∷ ws) = IsKept (v ∷ ws)
 
--- a line of words that is not skipped and keeps its end
+-- Holds if the line's words are allowed, it is not skipped, and it keeps its end.
 pub record IsPrinted (ws : Line) : Type 0 where
   pub words : AllByRecursion IsScriptWord ws
   pub kept : IsKept ws
@@ -45,12 +45,12 @@ kept_joined front (w ∷ v ∷ ws) k =
     let e : front ++ (w ++ 32 ∷ joined (v ∷ ws)) ≡ (front ++ (w ++ 32 ∷ [])) ++ joined (v ∷ ws) = simp append_assoc in
     ap without_return e ∙ kept_joined (front ++ (w ++ 32 ∷ [])) (v ∷ ws) k ∙ sym e
 
--- a word of letters, one at least, keeps its end
+-- A word of at least one letter keeps its end.
 pub plain_last : (w : List ℕ) → is_lettered w ≡ true → IsLast w
 plain_last [] h = absurd cc
 plain_last (x ∷ xs) h = λ front. kept_end front x xs (plain_word (x ∷ xs) (and_parts (nat_lt 0 (length (x ∷ xs))) _ h).1)
 
--- such a word may stand in a script
+-- A script may have a word of letters.
 pub lettered_word : (w : List ℕ) → is_lettered w ≡ true → IsScriptWord w
 lettered_word w h = literal_word w (and_parts (nat_lt 0 (length w)) (list_all is_letter w) h).1
 
@@ -62,7 +62,7 @@ letters_words : (ws : Line) → list_all is_lettered ws ≡ true → AllByRecurs
 letters_words [] h = tt
 letters_words (w ∷ ws) h = let p = and_parts (is_lettered w) _ h in (lettered_word w p.0, letters_words ws p.1)
 
--- a line of words of letters
+-- A line of words of letters can be printed.
 pub printed : (w : List ℕ) (ws : Line) → list_all is_lettered (w ∷ ws) ≡ true → is_skipped (joined (w ∷ ws)) ≡ false → IsPrinted (w ∷ ws)
 printed w ws h shown = record { words = letters_words (w ∷ ws) h; kept = letters_kept w ws h; shown = shown }
 
@@ -77,7 +77,7 @@ are_lines [] h = tt
 are_lines ([] ∷ ls) h = absurd h.0.kept
 are_lines ((w ∷ ws) ∷ ls) h = (record { bare = bares (w ∷ ws) h.0.words; kept = kept_joined [] (w ∷ ws) h.0.kept }, are_lines ls h.1)
 
--- what the text of printed lines is read as
+-- Reading the text of printed lines gives the lines.
 pub lines_printed : (ls : List Line) → AllByRecursion IsPrinted ls → lines_of (text_of ls) ≡ map joined ls
 lines_printed ls h = lines_again ls (are_lines ls h)
 
@@ -97,7 +97,7 @@ printed_utf8 ls h = is_utf8-from_IsUtf8 (text_of ls) (text_utf8 ls h)
 
 -- ---- from one draft to the next
 
--- these lines are printed, and reading goes over them from the draft d at line n to the draft e
+-- Holds if these lines can be printed, and reading them from line n on changes the draft d to the draft e.
 pub record Goes (n : ℕ) (d : Draft) (ls : List Line) (e : Draft) : Type 0 where
   pub printed : AllByRecursion IsPrinted ls
   pub reads : (rest : List (List ℕ)) → lines_at n d (map joined ls ++ rest) ≡ lines_at (n + length ls) e rest
@@ -114,7 +114,7 @@ next_line : (n : ℕ) (d e : Draft) (text : List ℕ) (texts : List (List ℕ)) 
 unfolding lines_at
 next_line n d e text texts h = ap (λ r. r >>= λ (next : Draft). lines_at (n + 1) next texts) h
 
--- one line
+-- One line.
 pub goes_on : (n : ℕ) (d e : Draft) (l : Line) → IsPrinted l → words_at n d l ≡ Ok e → Goes n d (l ∷ []) e
 goes_on n d e l is h = record { printed = (is, tt); reads = λ rest. next_line n d e (joined l) rest (line_printed n d l is ∙ h) }
 
@@ -122,7 +122,7 @@ printed_end : (ls ms : List Line) → AllByRecursion IsPrinted ls → AllByRecur
 printed_end [] ms h k = k
 printed_end (l ∷ ls) ms h k = (h.0, printed_end ls ms h.1 k)
 
--- lines behind lines
+-- Lines after lines.
 pub goes_through : (n : ℕ) (d : Draft) (ls : List Line) (e : Draft) (ms : List Line) (f : Draft) → Goes n d ls e
     → Goes (n + length ls) e ms f → Goes n d (ls ++ ms) f
 goes_through n d ls e ms f first second =
@@ -135,17 +135,17 @@ goes_through n d ls e ms f first second =
           (λ (m : ℕ). lines_at m f rest) all;
     }
 
--- lines up to the last
+-- Lines up to the last one.
 pub goes_all : (n : ℕ) (d : Draft) (ls : List Line) (e : Draft) → Goes n d ls e → lines_at n d (map joined ls) ≡ Ok e
 unfolding lines_at
 goes_all n d ls e h = ap (lines_at n d) (sym (append-nil (map joined ls))) ∙ h.reads []
 
--- a list of things, each printed in some lines: `state` is the draft behind those before, and `Are` is what holds of those before and those
--- behind
+-- A list of items, each printed in some lines. `state` is the draft after the items so far, and `Are` is a property of these items and of
+-- those that follow.
 module _ {A : Type 0} (lines : A → List Line) (print : List A → List Line) (none : print [] ≡ [])
     (more : (x : A) (xs : List A) → print (x ∷ xs) ≡ lines x ++ print xs)
     (state : List A → Draft) (whole : List A) (Are : List A → List A → Type 0) where
-  -- one more goes from the state before it to the one behind it
+  -- One more item leads from the state before it to the state after it.
   abbrev pub GoesOne : Type 0
   GoesOne = (n : ℕ) (before : List A) (x : A) (after : List A) → before ++ x ∷ after ≡ whole → Are before (x ∷ after)
       → Goes n (state before) (lines x) (state (before ++ x ∷ [])) × Are (before ++ x ∷ []) after
@@ -160,9 +160,9 @@ module _ {A : Type 0} (lines : A → List Line) (print : List A → List Line) (
       (goes_through n (state before) (lines x) (state (before ++ x ∷ [])) (print xs) (state whole) g.0
       (each_goes one (n + length (lines x)) (before ++ x ∷ []) xs (append_assoc before (x ∷ []) xs ∙ e) g.1))
 
--- ---- what a line is read by
+-- ---- how a line is read
 
--- a line is read by its kind, where it may stand there
+-- A line is read by its kind, if that kind is allowed in the group.
 pub said : (n : ℕ) (word : List ℕ) (k : Kind) (g : Group) (values : List (List ℕ)) (d e : Draft) → kind_of word ≡ Some k
     → enters k d.group ≡ Some g → said_at n k (record d { group = g }) values ≡ Ok e → words_at n d (word ∷ values) ≡ Ok e
 unfolding words_at

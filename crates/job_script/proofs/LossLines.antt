@@ -1,4 +1,4 @@
--- The lines of sendings that have a fate: what is printed is read again, and what is read is within bounds.
+-- The lines of sends that have a fate. Reading a printed line gives its fate, and what is read keeps the bounds.
 use Rattle.basics.proofs.Bools.{contrary}
 use Rattle.basics.proofs.EntriesFrom.{AreAbove, all_entries_from, entries_from, entry_from, find_head, find_other, no_entry_from, not_found}
 use Rattle.basics.proofs.EntriesFrom.{other_key}
@@ -47,14 +47,14 @@ use Rattle.job_script.specs.declared.head.HeadWord.TheVariants as head
 use Rattle.job_script.specs.declared.draft.Group.TheVariants as group
 use Rattle.job_script.specs.declared.kinds.Kind.TheVariants as kind
 
--- ---- what is printed is read again
+-- ---- reading printed fates
 
--- the map with these entries too
+-- The map with these entries added.
 abbrev pub made : FateMap → List (ℕ × Fate) → FateMap
 made m [] = m
 made m (e ∷ es) = made (fin.insert m e.0 e.1) es
 
--- the first of two values
+-- The first value if there is one, otherwise the second.
 abbrev either_value : Option Fate → Option Fate → Option Fate
 either_value (Some x) o = Some x
 either_value None o = o
@@ -78,7 +78,7 @@ get_made (e ∷ es) m q s =
         at_most k = grind (arith, nat_tests)
     by false k = refl
 
--- a map made of its own entries is the map
+-- A map that is made of a map's entries is that map.
 made_again : (m : FateMap) → made fin.empty (fin.entries m) ≡ m
 made_again m =
     fin.same_map nat_cmp_total exact_unsigned (made fin.empty (fin.entries m)) m
@@ -89,7 +89,7 @@ made_again m =
     alone (Some x) = refl
     alone None = refl
 
--- a sending that may be named, and its fate
+-- Holds if a `loss` line may give this send this fate.
 pub record IsLost (e : ℕ × Fate) : Type 0 where
   pub low : 1 ≤ e.0
   pub high : e.0 ≤ 1000000000
@@ -99,7 +99,7 @@ fate_is : (f : Fate) → is_answer f ≡ false → IsName fates fate_word f
 fate_is fate.Answer h = absurd cc
 fate_is f h = (refl, refl)
 
--- one sending alone
+-- A loss of one send.
 abbrev lone : ℕ × Fate → Loss
 lone e = record { first = e.0; fate = e.1; count = 1 }
 
@@ -130,7 +130,7 @@ loss_printed : (e : ℕ × Fate) → IsLost e → IsPrinted (loss_line e)
 loss_printed e h = printed (codes "loss") (decimal e.0 ∷ fate_word e.1 ∷ []) (rw
     (decimal_lettered e.0 (omega (arith, h.high)), (fate_is e.1 h.lost).1) refl) refl
 
--- the head behind one more such line
+-- The head after one more such line.
 abbrev with_loss : Head → ℕ × Fate → Head
 with_loss h e = record h { fates = fin.insert h.fates e.0 e.1; losses_left = h.losses_left - 1 }
 
@@ -143,7 +143,7 @@ loss_read n h e is new few =
     (ap (λ r. r >>= λ (k : Head). Ok (headed k)) (line_again n h values (lone e) (fin.insert h.fates e.0 e.1) (loss_again n e is)
     (named_again n h.fates e new) few))
 
--- none of the entries is in the map yet
+-- Holds if the map has none of these entries yet.
 abbrev AreNew : FateMap → List (ℕ × Fate) → Type 0
 AreNew m es = AllByRecursion (λ e. fin.get m e.0 ≡ None) es
 
@@ -160,7 +160,7 @@ all_new : (es : List (ℕ × Fate)) → AreNew fin.empty es
 all_new [] = tt
 all_new (e ∷ es) = (fin.get-empty nat_cmp e.0, all_new es)
 
--- the head behind the lines of these entries
+-- The head after the lines of these entries.
 abbrev lost : Head → List (ℕ × Fate) → Head
 lost h [] = h
 lost h (e ∷ es) = lost (with_loss h e) es
@@ -195,7 +195,7 @@ entries_lost : (m : FateMap) → AreFates m → AllByRecursion IsLost (fin.entri
 entries_lost m h = all_lost (fin.entries m) (map_sorted nat_cmp m) (λ k f found. let b = h k f (fin.get-entries m k ∙ found) in record
     { low = b.0; high = b.1; lost = b.2 })
 
--- how many more lines might come is of no account in the end
+-- How many more lines might come does not matter in the end.
 pub losses_go : (n : ℕ) (h : Head) (m : FateMap) → h.fates ≡ fin.empty → AreFates m → fin.len m ≤ h.losses_left
     → (k : ℕ) × Goes n (headed h) (loss_lines m) (headed (record h { fates = m; losses_left = k }))
 losses_go n h m e are few =
@@ -209,12 +209,12 @@ losses_go n h m e are few =
           (map_sorted nat_cmp m) new count),
     )
 
--- ---- what is read is within bounds
+-- ---- what is read keeps the bounds
 
 count_bounds : (third : Option (List ℕ)) (e : ScriptFault) (x : ℕ) → need (count_of third) e ≡ Ok x → (1 ≤ x) × (x ≤ 1000)
 count_bounds third e x h = grind (arith, number_bounds)
 
--- the bounds of a row of sendings
+-- The bounds of consecutive sends with a fate.
 pub record IsLoss (l : Loss) : Type 0 where
   pub first : 1 ≤ l.first
   pub last : l.first + l.count ≤ 1000000001
@@ -246,7 +246,7 @@ named_is n l m after e = grind arith
 named_sound : (n : ℕ) (l : Loss) (m after : FateMap) → named_at n l m ≡ Ok after → IsLoss l → AreFates m → AreFates after
 named_sound n l m after e is old = subst AreFates (named_is n l m after e) (fates_sound m l is old)
 
--- a line `loss` gives none of the values
+-- A line `loss` gives none of the other values.
 fates_kept : (w : HeadWord) (h : Head) (m : FateMap) (k : ℕ) → IfSome ((row w).kept h) (Holds w)
     → IfSome ((row w).kept (record h { fates = m; losses_left = k })) (Holds w)
 fates_kept head.Job h m k b = b
@@ -265,7 +265,7 @@ loss_line_sound n h k values e s =
           (loss_sound n values a.value a.first) s.fates;
     })
 
--- ---- sendings in a row of which one has a fate
+-- ---- consecutive sends of which one has a fate
 
 or_right : (b : Bool) → b || true ≡ true
 or_right b = grind arith
@@ -273,7 +273,7 @@ or_right b = grind arith
 or_none : (a b : Bool) → a || b ≡ false → (a ≡ false) × (b ≡ false)
 or_none a b h = grind arith
 
--- a sending in the row that has a fate is one
+-- If a send among these has a fate, the test finds one.
 pub some_named : (m : FateMap) (first count n : ℕ) → first ≤ n → n < first + count → is_some (fin.get m n) ≡ true
     → has_one m first count ≡ true
 unfolding has_one
@@ -285,7 +285,7 @@ some_named m first (suc c) n low high some =
           (λ (b : Bool). has_one m first c || b) some ∙ or_right (has_one m first c)
     ]
 
--- none in the row has one
+-- If the test finds none, no send among these has a fate.
 pub none_named : (m : FateMap) (first count n : ℕ) → has_one m first count ≡ false → first ≤ n → n < first + count → fin.get m n ≡ None
 unfolding has_one
 none_named m first zero n h low high = absurd (omega (arith, low, high))
@@ -299,7 +299,7 @@ none_named m first (suc c) n h low high =
 wider : (m : FateMap) (first c : ℕ) → ((n : ℕ) × IsFirstNamed m first c n) → (n : ℕ) × IsFirstNamed m first (suc c) n
 wider m first c f = (f.0, record { from = f.1.from; within = omega (arith, f.1.within); named = f.1.named; least = f.1.least })
 
--- where one has a fate, there is a first that has one
+-- If one has a fate, there is a first one that has.
 pub first_of_some : (m : FateMap) (first count : ℕ) → has_one m first count ≡ true → (n : ℕ) × IsFirstNamed m first count n
 unfolding has_one
 first_of_some m first zero h = absurd (true≢false (sym h))
@@ -319,7 +319,7 @@ first_of_some m first (suc c) h = by (has_one m first c) refl (first_of_some m f
           },
         )
 
--- the sendings got their fate
+-- The result if the sends got their fate.
 pub named_where_ok : (r : Result ⊤ FateFault) (u : ⊤) (n : ℕ) (loss : Loss) (m new : FateMap) → r ≡ Ok u
     → OnOk r (new ≡ with_fates m loss.first loss.fate loss.count) → ((k : ℕ) → IsErrOf r (Taken k) ↔ IsFirstNamed m loss.first loss.count k)
     → named_at n loss m ≡ Ok new
@@ -328,7 +328,7 @@ named_where_ok (Err f) u n loss m new e ok taken = absurd cc
 named_where_ok (Ok v) u n loss m new e ok taken = rw (contrary (has_one m loss.first loss.count)
     (λ h. let f = first_of_some m loss.first loss.count h in let t = (taken f.0).1 f.1 in absurd cc)) (ap Ok (sym ok))
 
--- one of them had one
+-- The result if one of them had a fate.
 pub named_where_taken : (r : Result ⊤ FateFault) (f : FateFault) (j n : ℕ) (loss : Loss) (m : FateMap) → r ≡ Err f → f ≡ Taken j
     → ((k : ℕ) → IsErrOf r (Taken k) ↔ IsFirstNamed m loss.first loss.count k) → named_at n loss m ≡ Err (RepeatedName n)
 unfolding named_at
@@ -338,7 +338,7 @@ named_where_taken r f j n loss m e g taken =
 
 -- ---- the lines as they are written
 
--- the lines of the sendings from n on
+-- The lines of the sends from n on.
 abbrev pub losses_from : ℕ → FateMap → List ℕ
 losses_from n m = text_of (map loss_line (entries_from n m))
 

@@ -12,15 +12,15 @@ use Rattle.std.proofs.lemmas.List.{append-nil}
 use Rattle.std.proofs.lemmas.List.Concat.{flat_map-append}
 use Rattle.std.specs.List.{flat_map}
 
--- lines behind lines
+-- The text of lines after lines.
 text_of_both : (xs ys : List Line) → text_of (xs ++ ys) ≡ text_of xs ++ text_of ys
 text_of_both xs ys = flat_map-append ended xs ys
 
--- a text that is written behind another
+-- Holds if the text is appended.
 pub record Wrote (old new text : List ℕ) : Type 0 where
   pub is : new ≡ old ++ text
 
--- a line of a name and a value
+-- A line of a name and a value.
 pub line : (old new name : List ℕ) (value same : Option (List ℕ)) → new ≡ old ++ text_of (value_lines name value) → value ≡ same
     → Wrote old new (text_of (value_lines name same))
 line old new name value same e f = record { is = e ∙ ap (λ v. old ++ text_of (value_lines name v)) f }
@@ -37,7 +37,7 @@ each_text s [] = refl
 each_text s (w ∷ ws) = ap (λ l. text_of (row_lines s w) ++ l) (each_text s ws) ∙ sym
     (text_of_both (row_lines s w) (flat_map (row_lines s) ws))
 
--- what is written line by line is the head
+-- The lines that are written one by one are the head.
 pub head_is : (s t : Script) (old values : List ℕ) → t ≡ s → Wrote old values (flat_map (λ w. text_of (row_lines t w)) head_order)
     → values ++ text_of (loss_lines t.fates) ≡ old ++ text_of (head_lines s)
 head_is s t old values same e =
@@ -45,7 +45,7 @@ head_is s t old values same e =
     ∙ ap (λ l. old ++ l) (sym (text_of_both (flat_map (row_lines t) head_order) (loss_lines t.fates)))
     ∙ ap (λ (w : Script). old ++ text_of (head_lines w)) same
 
--- what is written part by part is the script
+-- The parts that are written one by one are the script.
 pub script_is : (s t : Script) (events : List Event) (none head attempts all : List ℕ) → t ≡ s → events ≡ t.events → none ≡ []
     → head ≡ none ++ text_of (head_lines s)
     → attempts ≡ head ++ text_of (flat_map attempt_lines t.attempts)

@@ -1,4 +1,4 @@
--- The whole script: its printed text is read again, and what is read has the bounds of a script.
+-- The whole script. Reading its printed text gives the script, and a script that is read keeps the bounds.
 use Rattle.basics.proofs.Lists.{one_longer}
 use Rattle.basics.proofs.Reading.{needed, parted, same_ok}
 use Rattle.basics.proofs.Split.{none_left}
@@ -41,9 +41,9 @@ use Rattle.job_script.specs.declared.draft.Group.TheVariants as group
 use Rattle.job_script.specs.declared.head.HeadWord.TheVariants as head
 use Rattle.job_script.specs.declared.kinds.Kind.TheVariants as kind
 
--- ---- the code's loop over lines, and the checks after the last
+-- ---- the code's loop over lines, and the checks after the last line
 
--- where no line is left
+-- No line is left.
 pub at_end : (n : ℕ) (d : Draft) (rest : List ℕ) {b : Bool} → b ≡ (length rest == 0) → b ≡ true → lines_at n d (lines_of rest) ≡ Ok d
 unfolding lines_at lines_from
 at_end n d rest is h = rw (none_left rest rest refl is h) refl
@@ -73,7 +73,7 @@ pub completed : (d : Draft) (job : List ℕ) (dest : Path) (committer : Committe
 unfolding complete
 completed d job dest committer tasks mode unique retries block lanes u a b c e f g r k m h = rw (a, b, c, e, f, g, h, r, k, m) refl
 
--- ---- what is printed is read again
+-- ---- reading a printed script
 
 mode_again : (c : Committer) (n : ℕ) (m : Mode) (u : Bool) → FitsMagic c m u → mode_in c (Some (n, m)) ≡ Ok m
 mode_again c n m u h = grind arith
@@ -84,11 +84,11 @@ unique_again c n m u h = grind arith
 unless_kept : (default n : ℕ) → n ≡ unwrap_or (unless default n) default
 unless_kept default n = grind arith
 
--- the head of a script's lines, behind which so many lines `loss` might still come
+-- The head after a script's lines, where k more lines `loss` might still come.
 abbrev whole_head : Script → ℕ → Head
 whole_head s k = record (said_by s 1 head_order (no_head k)) { fates = s.fates }
 
--- all that a script's lines have said
+-- The draft after all lines of a script.
 abbrev whole_draft : Script → ℕ → Draft
 whole_draft s k = drafted (group_after (group_after group.Head group.Attempts s.attempts) group.Events s.events) (whole_head s k) s.attempts
     s.events
@@ -125,7 +125,7 @@ read_from : (most size : ℕ) (bytes : List ℕ) (d : Draft) (s : Script) → le
     → lines_at 1 (nothing most) (lines_of bytes) ≡ Ok d → complete d ≡ Ok s → script_within most size bytes ≡ Ok s
 read_from most size bytes d s short a b c = rw (le-leb (length bytes) size short, a, b) c
 
--- the printed text of a script means the script, where the reader's limits are at least what the text needs
+-- The printed text of a script means the script, if the reader's limits are large enough for the text.
 pub read_within : (most size : ℕ) (s : Script) → IsLegal s → fin.len s.fates ≤ most → length (script_text s) ≤ size
     → script_within most size (script_text s) ≡ Ok s
 unfolding script_text
@@ -135,20 +135,20 @@ read_within most size s h few short =
     (ap (lines_at 1 (nothing most)) (lines_printed (script_lines s) g.1.printed)
     ∙ goes_all 1 (nothing most) (script_lines s) (whole_draft s g.0) g.1) (whole_script s g.0 h)
 
--- so it does within the limits that the reader has
+-- It does so within the limits of the reader.
 pub read_again : (s : Script) → IsLegal s → fin.len s.fates ≤ 10000 → length (script_text s) ≤ 67108864 → script_of (script_text s) ≡ Ok s
 unfolding script_of
 read_again s h few short = read_within 10000 67108864 s h few short
 
--- ---- what is read is within bounds
+-- ---- what is read keeps the bounds
 
--- what a group's lines have not said yet
+-- Holds if later groups have no lines yet.
 abbrev IsEarly : Group → List Declared → List Event → Type 0
 IsEarly group.Head all es = (all ≡ []) × (es ≡ [])
 IsEarly group.Attempts all es = es ≡ []
 IsEarly group.Events all es = Unit {0}
 
--- the bounds of what the lines so far said
+-- The bounds of the draft after the lines so far.
 record IsSound (d : Draft) : Type 0 where
   pub head : IsSoundHead d.head
   pub attempts : IsSoundAttempts d.head.tasks d.outside d.attempts d.files d.bytes
@@ -156,7 +156,7 @@ record IsSound (d : Draft) : Type 0 where
   pub few : length d.events ≤ 100000
   pub early : IsEarly d.group d.attempts d.events
 
--- a head line, before any attempt
+-- A head line, before any attempt.
 head_kept : (d : Draft) (h : Head) → d.attempts ≡ [] → IsSoundHead h → IsSound d → IsSound (record d { head = h })
 head_kept d h none is s = record {
   head = is;
@@ -174,7 +174,7 @@ head_kept d h none is s = record {
   early = s.early;
 }
 
--- a line of attempts or files, before any event
+-- A line of an attempt or a file, before any event.
 grown : (d e : Draft) → Grown d e → d.group ≡ group.Attempts → d.events ≡ [] → IsSound d → IsSound e
 grown d e g at none s =
     subst IsSound g.is (record {
@@ -186,7 +186,7 @@ grown d e g at none s =
           subst (λ (x : Group). IsEarly x g.all d.events) (sym at) none;
     })
 
--- one more event
+-- One more event.
 added : (d e : Draft) → Added d e → d.group ≡ group.Events → IsSound d → IsSound e
 added d e a at s =
     let longer = one_longer d.events a.event in
@@ -199,14 +199,14 @@ added d e a at s =
       early = subst (λ (x : Group). IsEarly x d.attempts (d.events ++ a.event ∷ [])) (sym at) tt;
     })
 
--- the group that a kind of line is of
+-- The group of a kind of line.
 abbrev group_of : Kind → Group
 group_of (kind.Head w) = group.Head
 group_of kind.Loss = group.Head
 group_of (kind.Event w) = group.Events
 group_of k = group.Attempts
 
--- a line's group is its kind's, and comes behind those before it
+-- The group of a line is that of its kind, and no later group has lines yet.
 grouped : (k : Kind) (now g : Group) (all : List Declared) (es : List Event) → enters k now ≡ Some g → IsEarly now all es → (g ≡ group_of k)
     × IsEarly (group_of k) all es
 grouped k now g all es h e = grind arith
@@ -274,14 +274,14 @@ magic_fits : (c : Committer) (m : Option (ℕ × Mode)) (u : Option (ℕ × Bool
     → unique_in c u ≡ Ok unique → FitsMagic c mode unique
 magic_fits c m u mode unique h k = grind arith
 
--- a value that must be there, and one that may stand for none
+-- A required value, which exists.
 there : {A : Type 0} (P : A → Type 0) (o : Option A) (x : A) → need o MissingHead ≡ Ok x → IfSome o P → P x
 there P o x h b = grind arith
 
 or_else : {A : Type 0} (P : A → Type 0) (o : Option A) (default : A) → P default → IfSome o P → P (unwrap_or o default)
 or_else P o default d b = grind arith
 
--- a weaker bound
+-- A weaker bound.
 some_weaker : {A : Type 0} (P Q : A → Type 0) (o : Option A) → ((x : A) → P x → Q x) → IfSome o P → IfSome o Q
 some_weaker P Q o f b = grind arith
 
@@ -321,7 +321,7 @@ complete_sound d s h is =
       few_events = is.few;
     })
 
--- what lines in UTF-8 mean as a script has the bounds of one
+-- A script that lines in UTF-8 mean keeps the bounds.
 pub draft_legal : (most : ℕ) (bytes : List ℕ) (d : Draft) → is_utf8 bytes ≡ true → lines_at 1 (nothing most) (lines_of bytes) ≡ Ok d
     → (s : Script) → complete d ≡ Ok s → IsLegal s
 draft_legal most bytes d utf8 h s k =

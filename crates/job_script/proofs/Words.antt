@@ -1,4 +1,4 @@
--- Numbers and names that words tell, words of letters, and the words of a text in UTF-8.
+-- Numbers and names in words, words of letters, and the words of a text in UTF-8.
 use Rattle.basics.proofs.Lists.{weaker}
 use Rattle.basics.proofs.Round.{digit_inside, word_bare}
 use Rattle.basics.proofs.Utf8.{utf8_cut}
@@ -28,7 +28,7 @@ either P false x y f g = g refl
 
 -- ---- numbers and names
 
--- a number that was read is within its bounds
+-- A number that was read is within its bounds.
 pub number_bounds : (low high : ℕ) (word : List ℕ) (x : ℕ) → number_in low high word ≡ Some x → (low ≤ x) × (x ≤ high)
 number_bounds low high word x h = grind arith
 
@@ -36,7 +36,7 @@ named_at : {A : Type 0} (P : A → Type 0) (b : Bool) (y x : A) (later : Option 
     → (if b then Some y else later) ≡ Some x → P x
 named_at P b y x later p old h = grind arith
 
--- what holds of each row of a table holds of what it names
+-- A property of all rows of a table holds for the meaning of a word.
 pub named_all : {A : Type 0} (P : A → Type 0) (rows : Names A) (word : List ℕ) (x : A) → AllByRecursion (λ row. P row.1) rows
     → named rows word ≡ Some x → P x
 named_all P [] word x all h = absurd cc
@@ -45,7 +45,7 @@ named_all P (row ∷ rows) word x all h = named_at P (bytes_eq word row.0) row.1
 
 -- ---- words of letters
 
--- ASCII without blank and line ends
+-- True for ASCII bytes except blank and line ends.
 abbrev pub is_letter : ℕ → Bool
 is_letter b = nat_lt b 128 && is_plain b
 
@@ -62,11 +62,11 @@ letter_plain b h = (and_parts (nat_lt b 128) (is_plain b) h).1
 pub plain_word : (w : List ℕ) → list_all is_letter w ≡ true → IsWord w
 plain_word w h = weaker is_letter is_plain letter_plain w h
 
--- such a word may stand in a script
+-- A script may have a word of letters.
 pub literal_word : (w : List ℕ) → list_all is_letter w ≡ true → IsScriptWord w
 literal_word w h = (is_utf8-from_IsUtf8 w (IsUtf8-from_ascii w (letters_ascii w h)), word_bare w (plain_word w h))
 
--- a word of letters, one at least
+-- True for a word of at least one letter.
 abbrev pub is_lettered : List ℕ → Bool
 is_lettered w = nat_lt 0 (length w) && list_all is_letter w
 
@@ -95,7 +95,7 @@ id_lettered id h =
 
 -- ---- a text in UTF-8
 
--- UTF-8 whose bytes all pass a test
+-- Holds if the text is UTF-8 and each of its bytes passes the test.
 pub record IsClean (p : ℕ → Bool) (w : List ℕ) : Type 0 where
   pub utf8 : IsUtf8 w
   pub all : list_all p w ≡ true
@@ -107,14 +107,14 @@ clean_cut p b xs ys small h =
     let f = and_parts (p b) (list_all p ys) e.1 in
     (record { utf8 = u.0; all = e.0 }, record { utf8 = u.1; all = f.1 })
 
--- a text up to an ASCII byte
+-- The text up to an ASCII byte.
 clean_take : (p : ℕ → Bool) (w : List ℕ) (i : ℕ) → i < length w → get_or w i 0 < 128 → IsClean p w → IsClean p (take i w)
 clean_take p w i fits at h =
     let whole : list_all p (take i w ++ drop i w) ≡ true = ap (list_all p) (take-append-drop i w) ∙ h.all in
     let e = and_parts (list_all p (take i w)) (list_all p (drop i w)) (sym (list_all-append p (take i w) (drop i w)) ∙ whole) in
     record { utf8 = IsUtf8-take w i h.utf8 (IsCharBoundary-before_ascii w i fits at); all = e.0 }
 
--- a text without an ASCII byte at its end
+-- The text without an ASCII byte at its end.
 pub clean_end : (p : ℕ → Bool) (b : ℕ) (w : List ℕ) → b < 128 → IsClean p w
     → IsClean p (cond (nat_lt 0 (length w) && (slice_index w (length w - 1) == b)) (take (length w - 1) w) w)
 clean_end p b w small h =
@@ -149,7 +149,7 @@ lines_clean line (x ∷ xs) h k =
     (λ e. lines_clean (line ++ x ∷ []) xs (subst IsUtf8 (sym (append_assoc line (x ∷ []) xs)) h)
     (one_more is_inside line x k (no_line_end x e)))
 
--- the lines of a text in UTF-8 are so, and have no LF
+-- The lines of a text in UTF-8 are in UTF-8, and have no LF.
 pub text_clean : (bytes : List ℕ) → is_utf8 bytes ≡ true → AllByRecursion (IsClean is_inside) (lines_of bytes)
 text_clean bytes h = lines_clean [] bytes (IsUtf8-from_is_utf8 bytes h) refl
 
@@ -176,6 +176,6 @@ words_clean part (x ∷ xs) h b k =
     (λ e. words_clean (part ++ x ∷ []) xs (subst IsUtf8 (sym (append_assoc part (x ∷ []) xs)) h)
     (one_more is_bare part x b (bare_byte x e q.0)) q.1)
 
--- the words of such a line are words of a script
+-- The words of such a line may be words of a script.
 pub line_words : (line : List ℕ) → IsClean is_inside line → AllByRecursion IsScriptWord (words_of line)
 line_words line h = words_clean [] line h.utf8 refl h.all

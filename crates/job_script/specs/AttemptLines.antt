@@ -1,4 +1,4 @@
--- What an attempt's line and a file's line say.
+-- The lines of attempts and files.
 use Rattle.basics.specs.Numbers.{number_in}
 use Rattle.basics.specs.Parts.{parts_of}
 use Rattle.basics.specs.Reading.{check, need, ◌>>=◌}
@@ -15,7 +15,7 @@ use Rattle.s3_types.specs.declared.limits.TheConstants.{MOST_SCRIPT_BYTES}
 use Rattle.std.specs.Option.{option_or}
 use Rattle.std.specs.Prelude.{List, None, Ok, Option, Result, Some, if◌then◌else◌, length, nat_le, nat_lt, not, ℕ, [], ◌++◌, ◌+◌, ◌∷◌}
 
--- T.A
+-- The name of an attempt, T.A.
 unfoldable pub name_at : ℕ → List ℕ → Result AttemptName ScriptFault
 name_at n word = do
   parts ← need (two (parts_of 46 word)) (BadLine n)
@@ -23,12 +23,12 @@ name_at n word = do
   attempt ← need (number_in 0 99 parts.1) (BadNumber n)
   Ok (record { task = task; attempt = attempt })
 
--- the line of an attempt whose task is not below the number of tasks
+-- The line of an attempt whose task is not below the number of tasks, or none.
 abbrev pub outside_at : ℕ → Option ℕ → AttemptName → Option ℕ
 outside_at n None name = None
 outside_at n (Some tasks) name = if nat_lt name.task tasks then None else Some n
 
--- attempt T.A
+-- The draft after `attempt T.A`.
 unfoldable pub attempt_at : ℕ → Draft → List (List ℕ) → Result Draft ScriptFault
 attempt_at n d values = do
   word ← need (one values) (BadLine n)
@@ -37,7 +37,7 @@ attempt_at n d values = do
   few ← check (nat_lt (length d.attempts) 2000) TooLarge
   Ok (record d { attempts = d.attempts ++ (name, []) ∷ []; outside = option_or d.outside (outside_at n d.head.tasks name) })
 
--- file PATH and what its bytes are
+-- The draft after `file PATH` and the file's bytes.
 unfoldable pub file_at : ℕ → Draft → List (List ℕ) → Result Draft ScriptFault
 file_at n d values = do
   words ← need (two_and_more values) (BadLine n)

@@ -1,4 +1,4 @@
--- What an event's line says.
+-- The lines of events.
 use Rattle.basics.specs.Numbers.{number_in}
 use Rattle.basics.specs.Reading.{check, need, ◌>>=◌}
 use Rattle.basics.specs.Shapes.{one, two}
@@ -18,19 +18,19 @@ use Rattle.s3_types.specs.declared.request.Actor.TheVariants as actor
 use Rattle.job_model.specs.declared.events.Event.TheVariants as event
 use Rattle.job_script.specs.declared.kinds.EventWord.TheVariants as words
 
--- the word `driver`
+-- True for the word `driver`.
 abbrev pub is_driver : List ℕ → Bool
 is_driver word = bytes_eq word (codes "driver")
 
--- `driver`, or T.A
+-- The actor of `driver` or T.A.
 unfoldable pub actor_at : ℕ → List ℕ → Result Actor ScriptFault
 actor_at n word = if is_driver word then Ok actor.Driver else (name_at n word >>= λ name. Ok (actor.Attempt name.task name.attempt))
 
--- an operation of the actor that a word names
+-- The operation with this name, if the actor has it.
 abbrev pub op_of : List ℕ → List ℕ → Option Op
 op_of actor word = if is_driver actor then named driver_ops word else named attempt_ops word
 
--- ACTOR OP, of the driver or a declared attempt
+-- ACTOR OP: the actor is the driver or a declared attempt.
 unfoldable pub order_at : ℕ → Draft → List (List ℕ) → Result (Actor × Op) ScriptFault
 order_at n d values = do
   words ← need (two values) (BadLine n)
@@ -39,7 +39,7 @@ order_at n d values = do
   known ← check (is_known d.attempts actor) (UnknownActor n)
   Ok (actor, op)
 
--- ACTOR, the driver or a declared attempt
+-- ACTOR: the driver or a declared attempt.
 unfoldable pub alone_at : ℕ → Draft → List (List ℕ) → Result Actor ScriptFault
 alone_at n d values = do
   word ← need (one values) (BadLine n)
@@ -47,7 +47,7 @@ alone_at n d values = do
   known ← check (is_known d.attempts actor) (UnknownActor n)
   Ok actor
 
--- step ACTOR N
+-- The event of `step ACTOR N`.
 unfoldable pub step_at : ℕ → Draft → List (List ℕ) → Result Event ScriptFault
 step_at n d values = do
   words ← need (two values) (BadLine n)
@@ -56,14 +56,14 @@ step_at n d values = do
   known ← check (is_known d.attempts actor) (UnknownActor n)
   Ok (event.Step actor count)
 
--- restart driver
+-- The event of `restart driver`.
 unfoldable pub restart_at : ℕ → List (List ℕ) → Result Event ScriptFault
 restart_at n values = do
   word ← need (one values) (BadLine n)
   driver ← check (is_driver word) (BadLine n)
   Ok event.Restart
 
--- recover T.A, a declared attempt
+-- The event of `recover T.A`, a declared attempt.
 unfoldable pub recover_at : ℕ → Draft → List (List ℕ) → Result Event ScriptFault
 recover_at n d values = do
   word ← need (one values) (BadLine n)
@@ -71,7 +71,7 @@ recover_at n d values = do
   known ← check (declares d.attempts name) (UnknownActor n)
   Ok (event.Recover (actor_of name))
 
--- the event of a line of this kind: do ACTOR OP, start ACTOR OP, step ACTOR N, run ACTOR, kill ACTOR, mix SEED, restart driver, recover T.A
+-- The event of a line: do ACTOR OP, start ACTOR OP, step ACTOR N, run ACTOR, kill ACTOR, mix SEED, restart driver, recover T.A.
 abbrev pub event_at : ℕ → EventWord → Draft → List (List ℕ) → Result Event ScriptFault
 event_at n words.Do d values = order_at n d values >>= λ order. Ok (event.Do order.0 order.1)
 event_at n words.Start d values = order_at n d values >>= λ order. Ok (event.Start order.0 order.1)
@@ -82,7 +82,7 @@ event_at n words.Mix d values = value_at (number 0 2147483647) n values >>= λ s
 event_at n words.Restart d values = restart_at n values
 event_at n words.Recover d values = recover_at n d values
 
--- one more event
+-- The draft with one more event.
 unfoldable pub event_line_at : ℕ → EventWord → Draft → List (List ℕ) → Result Draft ScriptFault
 event_line_at n word d values = do
   event ← event_at n word d values

@@ -1,11 +1,11 @@
--- Faults by their numbers and lines, and what a call returned of what reading gives.
+-- The numbers and lines of faults, and how a call's result relates to the definition of reading.
 use Rattle.job_script.specs.declared.fault.ScriptFault.{ScriptFault}
 use Rattle.job_script.specs.declared.fault.ScriptFault.TheVariants.{BadLine, BadNumber, BadPath, DestIsRoot, HiddenPath, MissingHead}
 use Rattle.job_script.specs.declared.fault.ScriptFault.TheVariants.{NoMemory, NotUtf8, RepeatedName, TooLarge, UnknownActor, UnknownWord}
 use Rattle.std.specs.Prelude.{Bool, Result, false, true, ℕ, ⊤}
 use Rattle.basics.specs.Reading as reading
 
--- a fault's number
+-- The number of a fault.
 abbrev pub number_of : ScriptFault → ℕ
 number_of NotUtf8 = 1
 number_of (BadLine n) = 2
@@ -20,7 +20,7 @@ number_of TooLarge = 10
 number_of (BadNumber n) = 11
 number_of NoMemory = 12
 
--- a fault's line, 0 where it has none
+-- The line of a fault, or 0 if it has none.
 abbrev pub line_of : ScriptFault → ℕ
 line_of (BadLine n) = n
 line_of (UnknownWord n) = n
@@ -31,15 +31,15 @@ line_of (UnknownActor n) = n
 line_of (BadNumber n) = n
 line_of fault = 0
 
--- want of memory
+-- True if memory ran out.
 abbrev pub wanting : ScriptFault → Bool
 wanting NoMemory = true
 wanting fault = false
 
--- what a call returned is what reading gives, unless memory ran out
+-- Holds if a call returned the result of reading, unless memory ran out.
 abbrev pub Gives : {A : Type 0} → Result A ScriptFault → Result A ScriptFault → Type 0
 Gives result read = reading.Gives wanting result read
 
--- what a call changed its argument to is what reading gives, unless memory ran out
+-- Holds if a call changed its argument to the result of reading, unless memory ran out.
 abbrev pub Makes : {A : Type 0} → Result ⊤ ScriptFault → A → Result A ScriptFault → Type 0
 Makes result new read = reading.Makes wanting result new read

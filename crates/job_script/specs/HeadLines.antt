@@ -1,4 +1,4 @@
--- What a head line with these values says, after the head lines before it, and how a script's head is printed.
+-- The lines of a script's head: how they are read, one after another, and how they are printed.
 use Rattle.basics.specs.Numbers.{number_in}
 use Rattle.basics.specs.Reading.{check, free, need, ◌>>=◌}
 use Rattle.basics.specs.Shapes.{at_most_one, one, two_and_more}
@@ -26,7 +26,7 @@ use Rattle.std.specs.Prelude.{nat_lt, not, option_map, suc, zero, ℕ, [], ◌++
 use Rattle.std.specs.FinMap as fin
 use Rattle.job_script.specs.declared.head.HeadWord.TheVariants as head
 
--- before the first line, where at most so many lines `loss` may come
+-- The head before the first line. At most `losses` lines `loss` may come.
 abbrev pub no_head : ℕ → Head
 no_head losses = record {
   job = None;
@@ -45,24 +45,24 @@ no_head losses = record {
 
 -- ---- lines that give one value
 
--- what the one word behind the first of the n-th line is
+-- The value of the n-th line, which has one word after its first one.
 abbrev pub value_at : {A : Type 0} → (ℕ → List ℕ → Result A ScriptFault) → ℕ → List (List ℕ) → Result A ScriptFault
 value_at read n values = need (one values) (BadLine n) >>= λ word. read n word
 
--- the value that the n-th line gives, unless a line before it gave one
+-- The value of the n-th line, unless an earlier line gave one.
 abbrev pub first_value : {A : Type 0} → ℕ → Option A → A → Result (Option A) ScriptFault
 first_value n before value = free before (RepeatedName n) >>= λ first. Ok (Some value)
 
--- a job's id
+-- The job's id in a word.
 unfoldable pub job_of : ℕ → List ℕ → Result (List ℕ) ScriptFault
 job_of n word = check (is_job_id word) (BadLine n) >>= λ stated. Ok word
 
--- the path that a word was read as
+-- The path in a word, or BadPath.
 abbrev pub as_path : ℕ → Result Path PathFault → Result Path ScriptFault
 as_path n (Ok path) = Ok path
 as_path n (Err fault) = Err (BadPath n)
 
--- a destination
+-- The destination in a word.
 unfoldable pub dest_of : ℕ → List ℕ → Result Path ScriptFault
 dest_of n word = do
   path ← as_path n (path_in word)
@@ -70,23 +70,23 @@ dest_of n word = do
   stated ← check (is_dest_key path.key) (BadPath n)
   Ok path
 
--- s3a://BUCKET/KEY
+-- The text of a path: s3a://BUCKET/KEY.
 abbrev pub path_text : Path → List ℕ
 path_text p = codes "s3a://" ++ (p.bucket ++ 47 ∷ p.key)
 
--- a name of a table
+-- The meaning of a word in a table, or BadLine.
 abbrev pub name : {A : Type 0} → Names A → ℕ → List ℕ → Result A ScriptFault
 name names n word = need (named names word) (BadLine n)
 
--- a number from low to high
+-- The number that a word writes, from `low` to `high`.
 unfoldable pub number : ℕ → ℕ → ℕ → List ℕ → Result ℕ ScriptFault
 number low high n word = need (number_in low high word) (BadNumber n)
 
--- the number, unless it is the one that stands for no line
+-- The number, or none if it is the default, which has no line.
 abbrev pub unless : ℕ → ℕ → Option ℕ
 unless default n = if n == default then None else Some n
 
--- what a line of this kind gives
+-- The type of the value of a line of this kind.
 abbrev pub Value : HeadWord → Type 0
 Value head.Job = List ℕ
 Value head.Dest = Path
@@ -95,22 +95,22 @@ Value head.Mode = Mode
 Value head.Unique = Bool
 Value w = ℕ
 
--- a kind of line that gives one value
+-- A kind of line that gives one value.
 pub record Row (A : Type 0) : Type 0 where
-  -- its word
+  -- The first word of the line.
   pub word : List ℕ
-  -- what the word behind it is, in the n-th line
+  -- The value of the second word, in the n-th line.
   pub read : ℕ → List ℕ → Result A ScriptFault
-  -- how a value is written
+  -- The text of a value.
   pub text : A → List ℕ
-  -- what such a line gave, if there was one
+  -- The value that an earlier line of this kind gave, if there was one.
   pub kept : Head → Option A
-  -- the head with what the n-th line gives, or with nothing
+  -- The head with the value of the n-th line, or with none.
   pub put : ℕ → Option A → Head → Head
-  -- what a script's line gives, or that it has none
+  -- The value in a script, or none if the script has no such line.
   pub said : Script → Option A
 
--- the kinds of such lines; a mode and a word `unique` are kept with their lines
+-- The kinds of such lines. A mode and a word `unique` are kept with their lines.
 abbrev pub row : (w : HeadWord) → Row (Value w)
 row head.Job = record {
   word = codes "job";
@@ -202,44 +202,44 @@ row head.Stamp = record {
   said = λ s. s.stamp;
 }
 
--- the order in which the format lists them
+-- The order in which the format lists them.
 abbrev pub head_order : List HeadWord
 head_order = head.Job ∷ head.Dest ∷ head.Committer ∷ head.Tasks ∷ head.Mode ∷ head.Unique ∷ head.Retries ∷ head.Block ∷ head.Lanes ∷
     head.Stamp ∷ []
 
--- their words
+-- The words of the head.
 abbrev pub head_words : Names HeadWord
 head_words = map (λ w. ((row w).word, w)) head_order
 
--- the head after the n-th line, of this kind
+-- The head after the n-th line, of the kind of this row.
 abbrev pub row_at : {A : Type 0} → Row A → ℕ → Head → List (List ℕ) → Result Head ScriptFault
 row_at r n h values = do
   value ← value_at r.read n values
   first ← first_value n (r.kept h) value
   Ok (r.put n first h)
 
--- the same by the kind's word
+-- The head after the n-th line, of this kind.
 abbrev pub head_at : ℕ → HeadWord → Head → List (List ℕ) → Result Head ScriptFault
 head_at n head.Job h values = row_at (row head.Job) n h values
 head_at n w h values = row_at (row w) n h values
 
--- the line of a word and a value, if there is one
+-- The line of a word and a value, or none if there is no value.
 abbrev pub value_lines : List ℕ → Option (List ℕ) → List Line
 value_lines word None = []
 value_lines word (Some value) = (word ∷ value ∷ []) ∷ []
 
--- the line of this kind that a script has
+-- The line of this kind that a script has, or none.
 abbrev pub row_lines : Script → HeadWord → List Line
 row_lines s w = value_lines (row w).word (option_map (row w).text ((row w).said s))
 
--- ---- sendings that have a fate
+-- ---- sends that have a fate
 
--- COUNT, which is 1 where it is absent
+-- COUNT, or 1 if it is absent.
 abbrev pub count_of : Option (List ℕ) → Option ℕ
 count_of None = Some 1
 count_of (Some word) = number_in 1 1000 word
 
--- N FATE or N FATE COUNT: sendings in a row, the last at most the 1,000,000,000th
+-- N FATE or N FATE COUNT: consecutive sends, the last one at most the 1,000,000,000th.
 unfoldable pub loss_of : ℕ → List (List ℕ) → Result Loss ScriptFault
 loss_of n values = do
   words ← need (two_and_more values) (BadLine n)
@@ -250,18 +250,18 @@ loss_of n values = do
   fits ← check (nat_le (first + count) 1000000001) (BadNumber n)
   Ok (record { first = first; fate = fate; count = count })
 
--- one of so many sendings from `first` on has a fate
+-- True if one of the `n` sends from `first` on has a fate.
 unfoldable pub has_one : FateMap → ℕ → ℕ → Bool
 has_one m first zero = false
 has_one m first (suc n) = has_one m first n || is_some (fin.get m (first + n))
 
--- the fates with these, none of whose sendings may have one
+-- The fates with these sends, none of which may have one yet.
 unfoldable pub named_at : ℕ → Loss → FateMap → Result FateMap ScriptFault
 named_at n loss m = do
   new ← check (not (has_one m loss.first loss.count)) (RepeatedName n)
   Ok (with_fates m loss.first loss.fate loss.count)
 
--- loss N FATE or loss N FATE COUNT
+-- The head after `loss N FATE` or `loss N FATE COUNT`.
 unfoldable pub loss_at : ℕ → Head → List (List ℕ) → Result Head ScriptFault
 loss_at n h values = do
   loss ← loss_of n values
@@ -269,16 +269,16 @@ loss_at n h values = do
   few ← check (nat_lt 0 h.losses_left) TooLarge
   Ok (record h { fates = fates; losses_left = h.losses_left - 1 })
 
--- a line for one sending
+-- The line for one send.
 abbrev pub loss_line : ℕ × Fate → Line
 loss_line l = codes "loss" ∷ decimal l.0 ∷ fate_word l.1 ∷ []
 
--- a line for each sending that has a fate, rising
+-- A line for each send that has a fate, by rising number.
 abbrev pub loss_lines : FateMap → List Line
 loss_lines fates = map loss_line (fin.entries fates)
 
 -- ---- the head of a script
 
--- every head line, in the order in which the format lists them
+-- All head lines, in the order in which the format lists them.
 abbrev pub head_lines : Script → List Line
 head_lines s = flat_map (row_lines s) head_order ++ loss_lines s.fates

@@ -1,4 +1,4 @@
--- What the bytes of a script mean.
+-- The script that bytes mean.
 use Rattle.basics.specs.Lines.{lines_of}
 use Rattle.basics.specs.Reading.{check, need, ◌>>=◌}
 use Rattle.basics.specs.Words.{words_of}
@@ -25,16 +25,16 @@ use Rattle.s3_types.specs.declared.request.Mode.TheVariants as mode
 use Rattle.job_script.specs.declared.draft.Group.TheVariants as group
 use Rattle.job_script.specs.declared.kinds.Kind.TheVariants as kind
 
--- the words of the other kinds of lines but events
+-- The words of the lines that are no head line with one value and no event.
 abbrev pub lone_words : Names Kind
 lone_words = (codes "loss", kind.Loss) ∷ (codes "attempt", kind.Attempt) ∷ (codes "file", kind.File) ∷ []
 
--- the kind of line that begins with this word
+-- The kind of a line that begins with this word, or none.
 abbrev pub kind_of : List ℕ → Option Kind
 kind_of word = option_or (option_map kind.Head (named head_words word)) (option_or (named lone_words word)
     (option_map kind.Event (named event_words word)))
 
--- the group after a line of this kind, where it may stand there
+-- The group after a line of this kind, or none if the line is not allowed in this group.
 abbrev pub enters : Kind → Group → Option Group
 enters (kind.Head w) group.Head = Some group.Head
 enters kind.Loss group.Head = Some group.Head
@@ -44,12 +44,12 @@ enters kind.File group.Attempts = Some group.Attempts
 enters (kind.Event w) g = Some group.Events
 enters k g = None
 
--- an empty line, and one that begins with #
+-- True for an empty line, and for one that begins with #.
 abbrev pub is_skipped : List ℕ → Bool
 is_skipped [] = true
 is_skipped (x ∷ xs) = x == 35
 
--- what a line of this kind with these values behind its first word adds
+-- The draft after a line of this kind, with these words after its first one.
 unfoldable pub said_at : ℕ → Kind → Draft → List (List ℕ) → Result Draft ScriptFault
 said_at n (kind.Head word) d values = head_at n word d.head values >>= λ head. Ok (record d { head = head })
 said_at n kind.Loss d values = loss_at n d.head values >>= λ head. Ok (record d { head = head })
@@ -57,7 +57,7 @@ said_at n kind.Attempt d values = attempt_at n d values
 said_at n kind.File d values = file_at n d values
 said_at n (kind.Event word) d values = event_line_at n word d values
 
--- what a line of words adds: its kind, then its group, then the rest
+-- The draft after a line of words. The line's kind is checked first, then its group, then the other words.
 unfoldable pub words_at : ℕ → Draft → List (List ℕ) → Result Draft ScriptFault
 words_at n d [] = Err (UnknownWord n)
 words_at n d (word ∷ values) = do
@@ -65,40 +65,40 @@ words_at n d (word ∷ values) = do
   group ← need (enters kind d.group) (BadLine n)
   said_at n kind (record d { group = group }) values
 
--- what a line adds
+-- The draft after a line.
 abbrev pub line_at : ℕ → Draft → List ℕ → Result Draft ScriptFault
 line_at n d text = if is_skipped text then Ok d else words_at n d (words_of text)
 
--- the lines from the n-th on, after those before; the first faulty one gives the fault
+-- The draft after these lines, numbered from n on, or the fault of the first faulty one.
 unfoldable pub lines_at : ℕ → Draft → List (List ℕ) → Result Draft ScriptFault
 lines_at n d [] = Ok d
 lines_at n d (text ∷ texts) = do
   next ← line_at n d text
   lines_at (n + 1) next texts
 
--- before the first line, where at most so many lines `loss` may come
+-- The draft before the first line. At most `losses` lines `loss` may come.
 abbrev pub nothing : ℕ → Draft
 nothing losses = record { group = group.Head; head = no_head losses; attempts = []; outside = None; files = 0; bytes = 0; events = [] }
 
--- the mode, which is `append` where no line gives one, and under `magic`
+-- The mode. It is `append` if no line gives one, and must be `append` with `magic`.
 abbrev pub mode_in : Committer → Option (ℕ × Mode) → Result Mode ScriptFault
 mode_in c None = Ok mode.Append
 mode_in committer.Magic (Some (n, mode.Append)) = Ok mode.Append
 mode_in committer.Magic (Some (n, m)) = Err (BadLine n)
 mode_in c (Some (n, m)) = Ok m
 
--- whether names are made unique; not where no line says so, and not under `magic`
+-- True if names are made unique. It is false if no line says so, and must be false with `magic`.
 abbrev pub unique_in : Committer → Option (ℕ × Bool) → Result Bool ScriptFault
 unique_in c None = Ok false
 unique_in committer.Magic (Some (n, true)) = Err (BadLine n)
 unique_in c (Some (n, unique)) = Ok unique
 
--- the fault of the first attempt whose task is not below the number of tasks
+-- The fault of the first attempt whose task is not below the number of tasks.
 abbrev pub all_inside : Option ℕ → Result ⊤ ScriptFault
 all_inside None = Ok tt
 all_inside (Some n) = Err (UnknownActor n)
 
--- what a draft's head lines choose, where none is missing and no check finds a fault
+-- Holds if these are the values that the head lines choose: no head line is missing, and no check finds a fault.
 pub record IsChosen (d : Draft) (chosen : Chosen) : Type 0 where
   pub job : IsSome d.head.job
   pub dest : IsSome d.head.dest
@@ -108,7 +108,7 @@ pub record IsChosen (d : Draft) (chosen : Chosen) : Type 0 where
   pub unique : unique_in chosen.committer d.head.unique ≡ Ok chosen.unique
   pub inside : all_inside d.outside ≡ Ok tt
 
--- the checks after the last line, and the whole script
+-- The script after the checks that follow the last line, or their first fault.
 unfoldable pub complete : Draft → Result Script ScriptFault
 complete d = do
   job ← need d.head.job MissingHead
@@ -135,7 +135,7 @@ complete d = do
     events = d.events;
   })
 
--- what the bytes mean as a script of at most so many lines `loss` and so many bytes, or the first fault
+-- The script that the bytes mean, or the first fault. It may have at most `losses` lines `loss`, and `size` bytes.
 abbrev pub script_within : ℕ → ℕ → List ℕ → Result Script ScriptFault
 script_within losses size bytes = do
   small ← check (nat_le (length bytes) size) TooLarge
@@ -143,6 +143,6 @@ script_within losses size bytes = do
   d ← lines_at 1 (nothing losses) (lines_of bytes)
   complete d
 
--- what the bytes mean as a script, or the first fault: at most 10,000 lines `loss`, and MOST_SCRIPT_BYTES bytes
+-- The script that the bytes mean, or the first fault. It may have at most 10,000 lines `loss`, and MOST_SCRIPT_BYTES bytes.
 unfoldable pub script_of : List ℕ → Result Script ScriptFault
 script_of bytes = script_within 10000 MOST_SCRIPT_BYTES bytes

@@ -14,7 +14,7 @@ use job_model::AttemptName;
 use s3_types::{MOST_SCRIPT_BYTES, Text};
 use std::alloc::Global;
 
-/// The attempt that a word T.A names, of a task from 0 to 999 and a number from 0 to 99.
+/// The attempt of a word T.A: its task is 0 to 999, its number 0 to 99.
 #[tactic(auto, unfolding(crate::specs::AttemptLines::name_at))]
 pub fn name_of(line: u64, word: &str) -> Result<AttemptName, ScriptFault>
     ensures { Gives result (lines.name_at line word.now) }
@@ -34,7 +34,7 @@ pub fn name_of(line: u64, word: &str) -> Result<AttemptName, ScriptFault>
     })
 }
 
-/// The line of the first attempt whose task is not below the number of tasks, with this one.
+/// The line of the first attempt whose task is not below the number of tasks, after this line.
 fn outside_of(line: u64, outside: Option<u64>, tasks: Option<u32>, name: AttemptName) -> Option<u64>
     ensures { result ≡ option_or outside (lines.outside_at line tasks name) }
 {
@@ -45,7 +45,7 @@ fn outside_of(line: u64, outside: Option<u64>, tasks: Option<u32>, name: Attempt
     }
 }
 
-/// Adds the attempt that a line declares.
+/// Adds the attempt that a line declares to the draft.
 #[tactic(auto, unfolding(crate::specs::AttemptLines::attempt_at))]
 pub fn attempt_line(
     alloc: Global,
@@ -69,7 +69,7 @@ pub fn attempt_line(
     Ok(())
 }
 
-/// Adds the file that a line gives the last attempt.
+/// Adds the file of a line to the last attempt.
 #[tactic(auto, unfolding(crate::specs::AttemptLines::file_at))]
 pub fn file_line(
     alloc: Global,

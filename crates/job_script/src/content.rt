@@ -12,7 +12,7 @@ use hex::FromHexError;
 use s3_types::{Bytes, MOST_SCRIPT_BYTES};
 use std::alloc::Global;
 
-/// The bytes that hex digits, two at least, or `-` write.
+/// The bytes of a word of hex digits, two at least; `-` means none.
 fn hex_bytes(alloc: Global, line: u64, digits: &str) -> Result<Vec<u8>, ScriptFault>
     ensures { GivesBy wanting (λ v. v.items) result (need (content.hex_bytes digits.now) (BadLine line)) }
 {
@@ -65,7 +65,7 @@ fn fill_of(alloc: Global, line: u64, rest: Option<&str>) -> Result<Bytes, Script
     Ok(Bytes::new(alloc, bytes)?)
 }
 
-/// The bytes of a file, by the word that names their form and what follows it.
+/// The bytes of a file, by the word for their form and the rest of the line.
 #[tactic(auto, unfolding(crate::specs::Content::content_at))]
 pub fn content_of(
     alloc: Global,

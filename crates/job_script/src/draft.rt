@@ -2,7 +2,7 @@ use crate::head::Head;
 use job_model::{Attempts, EventList};
 use s3_types::Fate;
 
-/// Sendings in a row, counted from 1, and their fate.
+/// Consecutive sends with the same fate. `first` counts from 1.
 #[derive(Clone, Copy)]
 pub struct Loss {
     pub first: u64,
@@ -10,7 +10,7 @@ pub struct Loss {
     pub count: u32,
 }
 
-/// The groups of lines in their order.
+/// The groups of lines, in the order in which they come.
 #[derive(Clone, Copy)]
 pub enum Group {
     Head,
@@ -18,7 +18,7 @@ pub enum Group {
     Events,
 }
 
-/// What the lines said so far.
+/// The contents of the lines so far.
 #[derive(Drop)]
 pub struct Draft {
     pub group: Group,
@@ -28,7 +28,7 @@ pub struct Draft {
     pub outside: Option<u64>,
     /// The number of files.
     pub files: u64,
-    /// The number of their bytes.
+    /// The number of bytes of all files.
     pub bytes: u64,
     pub events: EventList,
 }

@@ -161,7 +161,8 @@ fn event_of(
     }
 }
 
-/// Reads the line of an event behind its word `word`, and adds it to the draft; else the line's first fault.
+/// Reads the line of an event, after its first word `word`, and adds the event to the draft. The
+/// error is the line's first fault.
 #[tactic(auto, unfolding(crate::specs::EventLines::event_line_at))]
 pub fn event_line(
     draft: &mut Draft,

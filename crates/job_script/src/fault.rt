@@ -6,38 +6,38 @@ use std::alloc::{AllocError, AllocFailed};
 use std::fmt;
 use thiserror::Error;
 
-/// Why bytes are no script. A number is that of the line, from 1.
+/// Why bytes are no script. A number in a variant is the number of the faulty line, from 1.
 #[derive(Clone, Copy, Debug, PartialEq, Eq, Error)]
 pub enum ScriptFault {
     /// The input is not UTF-8.
     NotUtf8,
-    /// The line is out of its group, has a wrong number of words or a word that is not one of those that
-    /// may stand there.
+    /// The line is in the wrong group, has a wrong number of words, or has a word that is not
+    /// allowed there.
     BadLine(u64),
-    /// The line's first word is none that begins a line.
+    /// No line begins with this word.
     UnknownWord(u64),
-    /// There is no line `job`, `dest`, `committer` or `tasks`.
+    /// The line `job`, `dest`, `committer` or `tasks` is missing.
     MissingHead,
-    /// The head word, the attempt, the path of the attempt or a sending of the `loss` stands a second
+    /// The head word, the attempt, the attempt's path, or a send of a `loss` line occurs a second
     /// time.
     RepeatedName(u64),
-    /// The path is not as a destination's or a file's is.
+    /// The path is not allowed for a destination or a file.
     BadPath(u64),
     /// An element of the file's path begins with `_` or `.`.
     HiddenPath(u64),
     /// The event's attempt is not declared, or the attempt's task is not below the number of tasks.
     UnknownActor(u64),
-    /// The destination is a bucket alone.
+    /// The destination is a bucket without a key.
     DestIsRoot,
-    /// The input, or a count of what it says, is over its limit.
+    /// The input, or a number of lines, files or bytes in it, is over its limit.
     TooLarge,
-    /// The number is not 1 to 18 digits or out of its range.
+    /// The number does not have 1 to 18 digits, or is out of its range.
     BadNumber(u64),
     NoMemory,
 }
 
 impl ScriptFault {
-    /// The fault's number, 1 to 12.
+    /// The number of the fault, 1 to 12.
     pub fn number(&self) -> u8
         ensures { result ≡ number_of self.now }
     {
@@ -57,7 +57,7 @@ impl ScriptFault {
         }
     }
 
-    /// The number of the faulty line, from 1; 0 where the fault has none.
+    /// The number of the faulty line, from 1, or 0 if the fault has no line.
     pub fn line(&self) -> u64
         ensures { result ≡ line_of self.now }
     {

@@ -28,7 +28,7 @@ use pending_json::{committer_of, committer_word};
 use s3_types::{Committer, Fates, MOST_SCRIPT_BYTES, Mode, Text, let_go};
 use std::alloc::{AllocError, Global};
 
-/// What a script's head says that is no name.
+/// The values of a script's head that are chosen from words or numbers.
 #[derive(Clone, Copy)]
 struct Chosen {
     committer: Committer,
@@ -37,7 +37,7 @@ struct Chosen {
     unique: bool,
 }
 
-/// The kinds of lines of the head that give one value.
+/// The kinds of head lines that give one value.
 #[derive(Clone, Copy)]
 pub enum HeadWord {
     Job,
@@ -52,7 +52,7 @@ pub enum HeadWord {
     Stamp,
 }
 
-/// What the head lines said so far. A mode and a word `unique` come with their lines.
+/// The contents of the head lines so far. A mode and a word `unique` are kept with their lines.
 #[derive(Drop)]
 pub struct Head {
     pub job: Option<Text>,
@@ -88,7 +88,7 @@ pub fn head_word(word: &str) -> Option<HeadWord>
     }
 }
 
-/// Before the first line. At most 10,000 lines `loss` may come.
+/// The head before the first line. At most 10,000 lines `loss` may come.
 pub fn no_head(alloc: Global) -> Head
     ensures { result ≡ lines.no_head 10000 }
 {
@@ -108,9 +108,9 @@ pub fn no_head(alloc: Global) -> Head
     }
 }
 
-// ---- what a line says
+// ---- reading a line
 
-/// The one word behind a line's first.
+/// The only word after a line's first word.
 pub fn one_word(line: u64, rest: Option<&str>) -> Result<&str, ScriptFault>
     ensures { GivesBy wanting (λ w. w.now) result (need (one (words_after (option_map (λ r. r.now) rest.entry)))
         (BadLine line)) }
@@ -121,7 +121,7 @@ pub fn one_word(line: u64, rest: Option<&str>) -> Result<&str, ScriptFault>
     }
 }
 
-/// The number that a word is, from low to high.
+/// The number that a word writes, from `low` to `high`.
 #[tactic(auto, unfolding(crate::specs::HeadLines::number))]
 pub fn number(low: u64, high: u64, line: u64, word: &str) -> Result<u64, ScriptFault>
     ensures number { Gives result (lines.number low high line word.now) }
@@ -145,14 +145,14 @@ fn are_id_bytes(text: &[u8]) -> bool
     text.iter().all(|b| is_id_byte(*b))
 }
 
-/// Whether a text is a job's id: 1 to 64 letters, digits, `_` or `-`.
+/// True if the text may be a job's id: 1 to 64 letters, digits, `_` or `-`.
 fn is_job_id(text: &str) -> bool
     ensures { result ≡ is_job_id text.now }
 {
     1 <= text.len() && text.len() <= 64 && are_id_bytes(text.as_bytes())
 }
 
-/// The job's id that a word is.
+/// The job's id in a word.
 #[tactic(auto, unfolding(crate::specs::HeadLines::job_of))]
 fn job_of(alloc: Global, line: u64, word: &str) -> Result<Text, ScriptFault>
     ensures { Gives result (lines.job_of line word.now) }
@@ -163,7 +163,7 @@ fn job_of(alloc: Global, line: u64, word: &str) -> Result<Text, ScriptFault>
     Ok(Text::copied(alloc, word)?)
 }
 
-/// The path that a word is.
+/// The path in a word.
 fn path_of(alloc: Global, line: u64, word: &str) -> Result<S3Path, ScriptFault>
     ensures { Gives result (lines.as_path line (path_in word.now)) }
 {
@@ -174,7 +174,7 @@ fn path_of(alloc: Global, line: u64, word: &str) -> Result<S3Path, ScriptFault>
     }
 }
 
-/// The destination that a word is.
+/// The destination in a word.
 #[tactic(auto, unfolding(crate::specs::HeadLines::dest_of))]
 fn dest_of(alloc: Global, line: u64, word: &str) -> Result<S3Path, ScriptFault>
     ensures { Gives result (lines.dest_of line word.now) }
@@ -189,7 +189,7 @@ fn dest_of(alloc: Global, line: u64, word: &str) -> Result<S3Path, ScriptFault>
     Ok(path)
 }
 
-/// Keeps the value that a line gives, unless a line before it gave one.
+/// Stores the value of a line. The error is RepeatedName if an earlier line gave one.
 fn keep<T: Drop>(place: &mut Option<T>, line: u64, value: T) -> Result<(), ScriptFault>
     ensures { Makes result place.new (lines.first_value line place.old value) }
 {
@@ -200,7 +200,7 @@ fn keep<T: Drop>(place: &mut Option<T>, line: u64, value: T) -> Result<(), Scrip
     Ok(())
 }
 
-/// Adds what a head line says.
+/// Adds the value of a head line.
 pub fn head_line(
     alloc: Global,
     head: &mut Head,
@@ -251,9 +251,9 @@ pub fn head_line(
     }
 }
 
-// ---- what all lines come to
+// ---- after the last line
 
-/// The value of a head line that must be there.
+/// The value of a head line that must not be missing.
 fn required<T: Drop>(value: Option<T>) -> Result<T, ScriptFault>
     ensures { Gives result (need value MissingHead) }
 {
@@ -263,7 +263,7 @@ fn required<T: Drop>(value: Option<T>) -> Result<T, ScriptFault>
     }
 }
 
-/// The mode, which is `append` where no line gives one, and under `magic`.
+/// The mode. It is `append` if no line gives one, and must be `append` with `magic`.
 fn mode_in(committer: Committer, mode: Option<(u64, Mode)>) -> Result<Mode, ScriptFault>
     ensures { Gives result (script.mode_in committer mode) }
 {
@@ -275,7 +275,7 @@ fn mode_in(committer: Committer, mode: Option<(u64, Mode)>) -> Result<Mode, Scri
     }
 }
 
-/// Whether names are made unique: not where no line says so, and not under `magic`.
+/// True if names are made unique. It is false if no line says so, and must be false with `magic`.
 fn unique_in(committer: Committer, unique: Option<(u64, bool)>) -> Result<bool, ScriptFault>
     ensures { Gives result (script.unique_in committer unique) }
 {
@@ -286,7 +286,7 @@ fn unique_in(committer: Committer, unique: Option<(u64, bool)>) -> Result<bool, 
     }
 }
 
-/// Whether each attempt's task is below the number of tasks.
+/// Checks that each attempt's task is below the number of tasks.
 fn all_inside(outside: Option<u64>) -> Result<(), ScriptFault>
     ensures { Gives result (script.all_inside outside) }
 {
@@ -296,7 +296,7 @@ fn all_inside(outside: Option<u64>) -> Result<(), ScriptFault>
     }
 }
 
-/// What the head lines choose, where none is missing and the checks after the last line find no fault.
+/// The values that the head lines choose, or the first fault of the checks after the last line.
 #[tactic(auto, unfolding(crate::specs::Script::complete))]
 fn chosen_in(draft: &Draft) -> Result<Chosen, ScriptFault>
     ensures chosen { IfOk result (λ chosen. IsChosen draft.now chosen) }
@@ -319,7 +319,7 @@ fn chosen_in(draft: &Draft) -> Result<Chosen, ScriptFault>
     })
 }
 
-/// The script, where the checks after the last line find no fault.
+/// The script, or the first fault of the checks after the last line.
 #[tactic(auto, unfolding(crate::specs::Script::complete))]
 pub fn complete(draft: Draft) -> Result<Script, ScriptFault>
     requires legal { (s : Script) → script.complete draft ≡ Ok s → IsLegal s }
@@ -350,9 +350,9 @@ pub fn complete(draft: Draft) -> Result<Script, ScriptFault>
     })
 }
 
-// ---- how lines are printed
+// ---- printing lines
 
-/// A line of a name and a word.
+/// Appends a line of a name and a word.
 fn put_word(out: &mut String, name: &str, word: &str) -> Result<(), AllocError>
     ensures { OnOk result (string_bytes out.new ≡ string_bytes out.old
         ++ text_of (lines.value_lines name.now (Some word.now))) }
@@ -360,7 +360,7 @@ fn put_word(out: &mut String, name: &str, word: &str) -> Result<(), AllocError>
     write!(out, "{name} {word}\n")
 }
 
-/// A line of a name and a number, if there is one.
+/// Appends a line of a name and a number, if there is a number.
 fn put_number(out: &mut String, name: &str, number: Option<u64>) -> Result<(), AllocError>
     ensures { OnOk result (string_bytes out.new ≡ string_bytes out.old
         ++ text_of (lines.value_lines name.now (option_map decimal number))) }
@@ -380,7 +380,7 @@ fn put_dest(out: &mut String, dest: &S3Path) -> Result<(), AllocError>
     write!(out, "dest s3a://{bucket}/{key}\n")
 }
 
-/// The number, unless it is the one that stands for no line.
+/// The number, or none if it is the default, which has no line.
 fn unless(default: u64, number: u64) -> Option<u64>
     ensures { result ≡ lines.unless default number }
 {
@@ -391,7 +391,7 @@ fn unless(default: u64, number: u64) -> Option<u64>
     }
 }
 
-/// The head's lines in the format's order.
+/// Appends the lines of the head in the format's order.
 pub fn put_head(out: &mut String, script: &Script) -> Result<(), AllocError>
     ensures { OnOk result (string_bytes out.new ≡ string_bytes out.old ++ text_of (lines.head_lines script.now)) }
 {

@@ -45,7 +45,7 @@ pub fn event_word(word: &str) -> Option<EventWord>
     }
 }
 
-/// The kind of line that begins with this word.
+/// The kind of a line that begins with this word, or none.
 pub fn kind_of(word: &str) -> Option<Kind>
     ensures { result ≡ script.kind_of word.now }
 {
@@ -63,7 +63,7 @@ pub fn kind_of(word: &str) -> Option<Kind>
     }
 }
 
-/// The conflict mode of this name, if there is one.
+/// The conflict mode with this name, or none.
 pub fn mode_of(word: &str) -> Option<Mode>
     ensures { result ≡ table.named table.modes word.now }
 {
@@ -75,7 +75,7 @@ pub fn mode_of(word: &str) -> Option<Mode>
     }
 }
 
-/// True for `yes`, false for `no`, and else none.
+/// True for `yes`, false for `no`, and none for any other word.
 pub fn answer_of(word: &str) -> Option<bool>
     ensures { result ≡ table.named table.answers word.now }
 {
@@ -86,7 +86,7 @@ pub fn answer_of(word: &str) -> Option<bool>
     }
 }
 
-/// The fate of this name, if there is one.
+/// The fate with this name, or none.
 pub fn fate_of(word: &str) -> Option<Fate>
     ensures { result ≡ table.named table.fates word.now }
 {
@@ -98,7 +98,7 @@ pub fn fate_of(word: &str) -> Option<Fate>
     }
 }
 
-/// The driver's operation of this name, if it has one.
+/// The driver's operation with this name, or none.
 pub fn driver_op(word: &str) -> Option<Op>
     ensures { result ≡ table.named table.driver_ops word.now }
 {
@@ -111,7 +111,7 @@ pub fn driver_op(word: &str) -> Option<Op>
     }
 }
 
-/// An attempt's operation of this name, if it has one.
+/// An attempt's operation with this name, or none.
 pub fn attempt_op(word: &str) -> Option<Op>
     ensures { result ≡ table.named table.attempt_ops word.now }
 {
@@ -123,7 +123,7 @@ pub fn attempt_op(word: &str) -> Option<Op>
     }
 }
 
-/// The group after a line of this kind, where it may stand there.
+/// The group after a line of this kind, or none if the line is not allowed in this group.
 pub fn enters(kind: Kind, group: Group) -> Option<Group>
     ensures { result ≡ script.enters kind group }
 {

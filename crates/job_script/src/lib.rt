@@ -1,16 +1,18 @@
-//! The reader and the printer of job scripts: a job's head, its attempts with their files, and the events of its run.
+//! The reader and the printer of job scripts: a job's head, its attempts with their files, and the
+//! events of its run.
 //!
 //! # What is proved
 //!
-//! `read_script`: It reads a script of the whole format. Its definition goes line by line, one small
-//! definition a kind of line, in the order of its checks. The error is the first fault of that order,
-//! with its line (`exact`); what is read is what the definition gives (`found`), and where that gives a
-//! script it is read (`only`).
+//! `read_script`: It reads scripts of the whole format. Its definition in `specs/` goes line by
+//! line, with one small definition for each kind of line, in the order of the checks. The error is
+//! the first fault in that order, with its line (`exact`). The result is the script of the
+//! definition (`found`), and each script of the definition is read (`only`).
 //!
-//! `print_script`: It gives exactly the text that `Print.antt` defines (`text`), and what that text
-//! means is the script again, where it has at most 67,108,864 bytes and names at most 10,000 sendings
-//! (`again`). The reader's definition takes its two limits as numbers. With limits that are large enough it
-//! gives the script again of every printed text, whatever its size (`any_size`). No command prints one.
+//! `print_script`: It returns exactly the text that `Print.antt` defines (`text`). If that text has
+//! at most 67,108,864 bytes and names at most 10,000 sends, reading it gives the script again
+//! (`again`). The definition of reading takes these two limits as numbers. With limits that are
+//! large enough, every printed text gives its script again (`any_size`). No command prints a
+//! script.
 #![tactic(auto)]
 
 mod attempts;

@@ -11,7 +11,7 @@ use crate::kinds::fate_of;
 use basics::{at_most_one, number_within, two_and_more};
 use s3_types::{FateFault, Fates};
 
-/// COUNT, which is 1 where it is absent.
+/// COUNT, or 1 if it is absent.
 fn count_of(word: Option<&str>) -> Option<u64>
     ensures count { result ≡ lines.count_of (option_map (λ w. w.now) word.entry) }
     ensures within { IfSome result (λ n. (1 ≤ n) × (n ≤ 1000)) }
@@ -56,7 +56,7 @@ fn loss_of(line: u64, rest: Option<&str>) -> Result<Loss, ScriptFault>
     })
 }
 
-/// Gives the sendings their fate.
+/// Gives the sends their fate.
 fn named(fates: &mut Fates, line: u64, loss: Loss) -> Result<(), ScriptFault>
     requires first { 1 ≤ loss.first }
     requires some { 1 ≤ loss.count }
@@ -72,7 +72,7 @@ fn named(fates: &mut Fates, line: u64, loss: Loss) -> Result<(), ScriptFault>
     }
 }
 
-/// Adds what a line `loss` says.
+/// Adds the contents of a line `loss`.
 #[tactic(auto, unfolding(crate::specs::HeadLines::loss_at))]
 pub fn loss_line(head: &mut Head, line: u64, rest: Option<&str>) -> Result<(), ScriptFault>
     ensures { Makes result head.new (lines.loss_at line head.old (words_after (option_map (λ r. r.now) rest.entry))) }

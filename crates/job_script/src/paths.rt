@@ -30,7 +30,7 @@ fn begins_hidden(element: &[u8]) -> bool
     }
 }
 
-/// Whether an element of a path begins with `_` or `.`.
+/// True if an element of the path begins with `_` or `.`.
 pub fn is_hidden(path: &[u8]) -> bool
     ensures { result ≡ paths.is_hidden path.now }
 {
@@ -47,7 +47,7 @@ pub fn is_hidden(path: &[u8]) -> bool
     }
 }
 
-/// Whether a text is a file's path, but for elements that begin with `_` or `.`.
+/// True if a file may have this path, except for the rule on elements that begin with `_` or `.`.
 pub fn is_path(path: &[u8]) -> bool
     ensures { result ≡ paths.is_path path.now }
 {
@@ -76,7 +76,7 @@ fn has_reserved(key: &[u8]) -> bool
     }
 }
 
-/// Whether a path's key may be a destination's.
+/// True if a destination may have this key.
 pub fn is_dest_key(key: &[u8]) -> bool
     ensures { result ≡ paths.is_dest_key key.now }
 {

@@ -9,7 +9,7 @@ use job_model::{AttemptName, Attempts, FileList};
 use s3_types::{Actor, Bytes, Text};
 use std::alloc::{AllocError, Global};
 
-/// The bytes in hex, or `-` where there are none.
+/// The bytes in hex; `-` means none.
 fn hex_word(alloc: Global, bytes: &[u8]) -> Result<String, AllocError>
     ensures { IfOk result (λ word. string_bytes word ≡ hex_word bytes.now) }
 {
@@ -47,7 +47,7 @@ fn put_name(out: &mut String, name: AttemptName) -> Result<(), AllocError>
     write!(out, "attempt {actor}\n")
 }
 
-/// An attempt and its files.
+/// Appends an attempt and its files.
 fn put_attempt(
     alloc: Global,
     out: &mut String,
@@ -60,7 +60,7 @@ fn put_attempt(
     put_files(alloc, out, files)
 }
 
-/// Appends the lines of the attempts, each with its files behind it.
+/// Appends the lines of the attempts, each followed by its files.
 pub fn put_attempts(alloc: Global, out: &mut String, attempts: &Attempts) -> Result<(), AllocError>
     ensures { OnOk result (string_bytes out.new ≡ string_bytes out.old
         ++ text_of (flat_map attempt_lines attempts.now)) }

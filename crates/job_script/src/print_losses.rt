@@ -14,7 +14,7 @@ fn put_loss(out: &mut String, sending: u64, fate: Fate) -> Result<(), AllocError
     write!(out, "loss {sending} {fate}\n")
 }
 
-/// A line for each sending that has a fate, rising.
+/// Appends a line for each send that has a fate, by rising number.
 pub fn put_losses(out: &mut String, fates: &Fates) -> Result<(), AllocError>
     requires { AreFates fates.now }
     ensures { OnOk result (string_bytes out.new ≡ string_bytes out.old ++ text_of (loss_lines fates.now)) }

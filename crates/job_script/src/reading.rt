@@ -52,7 +52,7 @@ fn kind_line(
     }
 }
 
-/// Whether a line says nothing: it is empty or begins with `#`.
+/// True if the line is empty or begins with `#`.
 fn is_skipped(text: &str) -> bool
     ensures { result ≡ script.is_skipped text.now }
 {
@@ -100,7 +100,7 @@ fn draft_of(alloc: Global, text: &str) -> Result<Draft, ScriptFault>
     Ok(draft)
 }
 
-/// The input as text, where it is UTF-8.
+/// The input as text, or none if it is not UTF-8.
 fn text_of(bytes: &[u8]) -> Option<&str>
     ensures same { IfSome result (λ text. text.now ≡ bytes.now) }
     ensures found { is_some result ≡ is_utf8 bytes.now }
@@ -125,10 +125,10 @@ fn script_in(alloc: Global, bytes: &[u8]) -> Result<Script, ScriptFault>
     complete(draft)
 }
 
-/// Reads a job script. The error is the first fault in the order of `script_of`: TooLarge for more than
-/// 67,108,864 bytes, NotUtf8, the first fault of the first faulty line, and then what the script lacks as
-/// a whole. Want of memory alone may come at any place. What is read has the bounds of `IsLegal`. Takes
-/// one pass over the input.
+/// Reads a job script. The result keeps the bounds of `IsLegal`. The error is the first fault in
+/// the order of `script_of`: TooLarge for more than 67,108,864 bytes, NotUtf8, the first fault of
+/// the first faulty line, and then the faults of the script as a whole. NoMemory alone may come at
+/// any place. Takes one pass over the input.
 pub fn read_script(alloc: Global, bytes: &[u8]) -> Result<Script, ScriptFault>
     ensures exact { Gives result (script.script_of bytes.now) }
     ensures found { IfOk result (λ s. script.script_of bytes.now ≡ Ok s) }

@@ -1,4 +1,4 @@
--- What a set-up has left falls.
+-- The bound on the requests that a set-up has left falls.
 use Rattle.job_model.specs.Jobs.{Job}
 use Rattle.job_protocol.proofs.Faults.{if_bucket_so}
 use Rattle.job_protocol.specs.AtWork.{job_script}
@@ -28,7 +28,7 @@ use Rattle.std.specs.Prelude.{IfSome, codes}
 use Rattle.magic_paths.specs.Layout as layout
 use Rattle.job_model.specs.declared.ends.SetupEnd.TheVariants as ends
 
--- what holds of a request that is asked
+-- A fact about the current request.
 pub of_some : (P : Request → Type 0) (o : Option Request) (r : Request) → o ≡ Some r → IfSome o P → P r
 of_some P None r e h = absurd (cc)
 of_some P (Some x) r e h = subst P (same_Some x r e) h
@@ -38,7 +38,7 @@ cleared_grows : (c : Committer) (j : Job) (s : Scene) (r : Request)
 cleared_grows Magic j s r = sweep_laws.others j.dest.bucket (layout.magic_prefix j.dest.key j.job) sweep_start s r
 cleared_grows _ j s r = omega arith
 
--- ---- it falls
+-- ---- the bound falls
 
 headed_left : (j : Job) (s : Scene) (r : Reply) → left_at j (headed (job_script j) r) s ≤ 1 + walk_left j.dest.bucket
     (j.dest.key ++ codes "/") [] s + cleared_left j.committer j s
@@ -69,7 +69,7 @@ checked_left j keys s _ h = absurd (never_less (walk_left j.dest.bucket (j.dest.
 abbrev Falls : Job → Setup → Scene → Request → Type 0
 Falls j c s r = FitsSetup c (answer s r) → left_at j (setup_hears (job_script j) c (answer s r)) (apply s r) < left_at j c s
 
--- as it goes on, and where it ends since the bucket is not there
+-- The bound falls if the set-up goes on, and if it ends because the bucket does not exist.
 falls_if : (j : Job) (c : Setup) (s : Scene) (r : Request) (next : Setup) → 0 < left_at j c s → (lacks_bucket (answer s r) ≡ true)
     ⊎ (left_at j next (apply s r) < left_at j c s)
     → left_at j (if_bucket (answer s r) next) (apply s r) < left_at j c s

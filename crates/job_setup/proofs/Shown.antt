@@ -24,7 +24,7 @@ path_is : (key k : List ℕ) → 1 ≤ length key → path_behind (key ++ codes 
 path_is [] k h = absurd (omega arith)
 path_is (x ∷ xs) k h = refl
 
--- by the prefix of a destination with a key
+-- The first file, by the prefix of a destination with a key.
 pub first_is : (w : Script) (ks : List (List ℕ)) → 1 ≤ length w.dest.key → first_of (w.dest.key ++ codes "/") ks ≡ first_shown w ks
 first_is w [] h = refl
 first_is w (k ∷ ks) h =
@@ -57,7 +57,7 @@ dest_some j h = at_most_is 1 (length j.dest.key) (dest_tests j h).0
 pub dest_most : (j : Job) → IsJob j → length j.dest.key ≤ 400
 dest_most j h = at_most_is (length j.dest.key) 400 (dest_tests j h).1
 
--- ---- what stands behind a text
+-- ---- the text after a prefix
 
 begins_so : (front text rest : List ℕ) → text ≡ front ++ rest → starts_with nat_eq text front ≡ true
 begins_so front text rest e = (starts_is Decides-eqb text front (starts_with nat_eq text front) refl).1 rest e

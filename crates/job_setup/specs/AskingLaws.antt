@@ -1,4 +1,4 @@
--- How a set-up stands.
+-- The state of a set-up.
 use Rattle.job_model.specs.JobScript.{Script}
 use Rattle.job_model.specs.Jobs.{Job}
 use Rattle.job_protocol.proofs.Faults.{if_bucket_so}
@@ -31,7 +31,7 @@ fine_checked : (w : Script) (keys : List (List ℕ)) (r : Reply) → standing_of
 fine_checked w keys (Page entries more) = fine_by (first_shown w (keys_on entries)) (walked keys (Page entries more))
 fine_checked w keys _ = refl
 
--- also where the bucket is not there
+-- A set-up whose next state is fine is fine after a reply that the bucket is missing, too.
 fine_if : (r : Reply) (next : Setup) → standing_of next ≡ Fine → standing_of (if_bucket r next) ≡ Fine
 fine_if r next h = if_bucket_so (λ c. standing_of c ≡ Fine) r next refl h
 
@@ -45,7 +45,7 @@ goes_on j (Sweeping s) r a e = let o = sweep_hears all_go s a in fine_if a (swee
     (elim o as (λ o. standing_of (sweeping o) ≡ Fine) [ Some w ↦ refl | None ↦ refl ])
 goes_on j (SetupOver end) r a e = refl
 
--- it asks a request until it is over
+-- A set-up has a request to send until it is over.
 asks_until : (j : Job) (s : Setup) → is_some (setup_asks (job_script j) s) ≡ is_none (setup_over s)
 asks_until j (SetupOver end) = refl
 asks_until j _ = refl

@@ -1,4 +1,4 @@
--- A set-up as it is kept.
+-- A set-up in progress, as data.
 use Rattle.job_model.specs.JobScript.{Script}
 use Rattle.job_model.specs.declared.ends.SetupEnd.{SetupEnd}
 use Rattle.job_protocol.specs.Conflicts.{checks_all}
@@ -9,7 +9,7 @@ use Rattle.list_walk.specs.Walks.{Sweep, keys_on}
 use Rattle.std.specs.Prelude.{List, cond, ℕ, []}
 use Rattle.job_setup.specs.declared.held.Stage.TheVariants as stages
 
--- a set-up of a stage, the keys of the walk, the sweep, and the end
+-- The set-up at a stage, with the keys of the walk, the sweep, and the end.
 abbrev pub setup_at : Stage → List (List ℕ) → Sweep → SetupEnd → Setup
 setup_at stages.Heading keys sweep end = Heading
 setup_at stages.Checking keys sweep end = Checking keys
@@ -17,10 +17,10 @@ setup_at stages.Clearing keys sweep end = Clearing
 setup_at stages.Sweeping keys sweep end = Sweeping sweep
 setup_at stages.Over keys sweep end = SetupOver end
 
--- the set-up that what is kept stands for
+-- The set-up that the kept values represent.
 abbrev pub setup_of : Held → Setup
 setup_of h = setup_at h.stage (keys_on h.walk) h.sweep h.end
 
--- nothing stands at the destination's own key
+-- The set-up after a reply that there is no object at the destination's own key.
 abbrev pub found_nothing : Script → Setup
 found_nothing w = cond (checks_all w.committer w.mode) (Checking []) Clearing

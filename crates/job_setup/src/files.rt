@@ -12,7 +12,7 @@ use magic_paths::dest_prefix;
 use s3_types::{PageEntry, Text};
 use std::alloc::{AllocError, Global};
 
-/// Whether a path is empty or ends in `/`.
+/// Returns whether a path is empty or ends in `/`.
 fn is_folder(path: &[u8]) -> bool
     ensures { result ≡ is_folder path.now }
 {
@@ -22,21 +22,21 @@ fn is_folder(path: &[u8]) -> bool
     }
 }
 
-/// Whether a path is below `__magic`.
+/// Returns whether a path is below `__magic`.
 fn is_magic(path: &[u8]) -> bool
     ensures { result ≡ begins (codes "__magic/") path.now }
 {
     path.starts_with(b"__magic/")
 }
 
-/// Whether a reader of the destination is shown a file at this path.
+/// Returns whether readers of the destination see a file at this path.
 fn is_file_path(path: &[u8]) -> bool
     ensures { result ≡ is_file_path path.now }
 {
     !is_folder(path) && !is_magic(path) && path != b"_SUCCESS".as_slice()
 }
 
-/// What stands behind a prefix in a text that begins so.
+/// Returns the text after a prefix, if the text begins with it.
 fn behind<'a>(prefix: &str, text: &'a str) -> Option<&'a str>
     ensures { option_map (λ r. r.now) result ≡ (if starts_with nat_eq text.now prefix.now then Some
         (drop (length prefix.now) text.now) else None) }
@@ -44,7 +44,7 @@ fn behind<'a>(prefix: &str, text: &'a str) -> Option<&'a str>
     text.strip_prefix(prefix)
 }
 
-/// The text of an entry.
+/// Returns the text of an entry.
 fn text_of(entry: &PageEntry) -> &Text
     ensures { result.now ≡ text_in entry.now }
 {
@@ -54,8 +54,8 @@ fn text_of(entry: &PageEntry) -> &Text
     }
 }
 
-/// The path below a destination that a text is, where a reader is shown a file there; the destination's prefix
-/// ends in `/`.
+/// Returns the path of a key below a destination, if readers see a file there. The destination's
+/// prefix ends in `/`.
 fn shown<'a>(prefix: &str, text: &'a str) -> Option<&'a str>
     ensures { option_map (λ r. r.now) result ≡ seen_at prefix.now text.now }
 {
@@ -71,8 +71,8 @@ fn shown<'a>(prefix: &str, text: &'a str) -> Option<&'a str>
     }
 }
 
-/// The first path among the entries at which a reader of the destination is shown a file; the destination's
-/// prefix ends in `/`.
+/// Returns the first path among the entries at which readers of the destination see a file. The
+/// destination's prefix ends in `/`.
 fn first_behind(
     alloc: Global,
     prefix: &str,
@@ -88,7 +88,8 @@ fn first_behind(
     Ok(None)
 }
 
-/// The first path among the entries of a page at which a reader of a job's destination is shown a file.
+/// Returns the first path among the entries of a page at which readers of a job's destination see a
+/// file.
 pub fn first_shown(
     alloc: Global,
     plan: &JobPlan,

@@ -14,21 +14,21 @@ use list_walk::{AllKeys, KeyWalk, Sweep};
 use s3_types::{Committer, Mode, Refusal, Reply, Request, put};
 use std::alloc::{AllocError, Global};
 
-/// Where a set-up stands.
+/// The stage of a set-up.
 #[derive(Clone, Copy)]
 pub enum Stage {
-    /// It looks at the destination's own key.
+    /// Looks at the destination's own key.
     Heading,
-    /// It looks for a file of the destination.
+    /// Looks for a file below the destination.
     Checking,
-    /// It deletes the marker of an earlier job.
+    /// Deletes the marker of an earlier job.
     Clearing,
-    /// It empties the job's magic directory.
+    /// Empties the job's magic directory.
     Sweeping,
     Over,
 }
 
-/// A set-up as it goes on: its stage, the walk, the sweep, and the end once it is over.
+/// A set-up in progress: its stage, the walk, the sweep, and the end once it is over.
 #[derive(Drop)]
 pub struct Held {
     pub stage: Stage,
@@ -37,7 +37,7 @@ pub struct Held {
     pub end: SetupEnd,
 }
 
-/// Whether a job's set-up looks for files of the destination. Takes no memory.
+/// Returns whether a job's set-up looks for files below the destination. Takes no memory.
 pub fn checks_all(committer: Committer, mode: Mode) -> bool
     ensures { result ≡ checks_all committer mode }
 {
@@ -51,7 +51,7 @@ pub fn checks_all(committer: Committer, mode: Mode) -> bool
     }
 }
 
-/// Whether a reply says that the bucket is not there.
+/// Returns whether a reply says that the bucket does not exist.
 fn lacks_bucket(reply: &Reply) -> bool
     ensures { result ≡ lacks_bucket reply.now }
 {
@@ -65,7 +65,7 @@ fn lacks_bucket(reply: &Reply) -> bool
 }
 
 impl Held {
-    /// A set-up of which nothing was sent yet. Takes no memory.
+    /// Returns a set-up that has sent nothing yet. Takes no memory.
     pub fn new(alloc: Global) -> Held
         ensures { setup_of result ≡ setup_start }
     {
@@ -77,7 +77,7 @@ impl Held {
         }
     }
 
-    /// Ends here. Takes no memory.
+    /// Ends the set-up with `end`. Takes no memory.
     pub fn finish(&mut self, end: SetupEnd)
         ensures { setup_of self.new ≡ SetupOver end }
     {
@@ -85,7 +85,7 @@ impl Held {
         self.stage = Stage::Over;
     }
 
-    /// The next request, or None where it is over.
+    /// Returns the next request, or None if the set-up is over.
     pub fn request(&self, alloc: Global, plan: &JobPlan) -> Result<Option<Request>, AllocError>
         ensures { IfOk result (λ request. request ≡ setup_asks (job_script plan.now) (setup_of self.now)) }
     {
@@ -98,7 +98,7 @@ impl Held {
         }
     }
 
-    /// Nothing stands at the destination's own key.
+    /// Goes on after a reply that there is no object at the destination's own key.
     fn find_nothing(&mut self, alloc: Global, plan: &JobPlan)
         ensures { setup_of self.new ≡ found_nothing (job_script plan.now) }
     {
@@ -162,7 +162,7 @@ impl Held {
         Ok(())
     }
 
-    /// Takes a reply where the bucket is there.
+    /// Takes a reply that does not say that the bucket is missing.
     fn hear_there(&mut self, alloc: Global, plan: &JobPlan, reply: &Reply) -> Result<(), AllocError>
         requires fits { FitsSetup (setup_of self.old) reply.now }
         requires there { lacks_bucket reply.now ≡ false }
@@ -183,7 +183,7 @@ impl Held {
         }
     }
 
-    /// Takes the reply to its present request.
+    /// Takes the reply to the current request.
     pub fn hear(&mut self, alloc: Global, plan: &JobPlan, reply: &Reply) -> Result<(), AllocError>
         requires { FitsSetup (setup_of self.old) reply.now }
         ensures { OnOk result (setup_of self.new ≡ setup_hears (job_script plan.now) (setup_of self.old) reply.now) }

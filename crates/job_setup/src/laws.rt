@@ -1,6 +1,6 @@
 ghost use Rattle.job_setup.specs.Laws.{SetupsEnd};
 
-/// How many answers and worn requests a set-up has left, among others that send.
+/// Bounds the replies and exhausted requests that a set-up has left while other actors send too.
 pub fn set_ups_end()
     ensures { SetupsEnd }
 {}

@@ -1,13 +1,18 @@
-//! The driver's set-up of a job, for every committer and mode: it looks at the destination, where the mode is to fail for
-//! files there looks for one, deletes the marker of an earlier job, and empties a magic job's directory.
+//! The driver's set-up of a job, for every committer and mode. It looks at the destination and, if
+//! the mode fails on existing files, looks for one. Then it deletes the marker of an earlier job
+//! and empties a magic job's directory.
 //!
 //! # What is proved
 //!
-//! `SetupJob`: For every committer it asks, goes on and ends exactly as `job_protocol` has it of a
-//! set-up, after every list of replies that fit. After want of memory nothing more is asked, and the
-//! end is NoMemory. What is left falls by each answer and worn request, and rises by at most 2 by a
-//! request of another actor (`set_ups_end`). Left open: other replies. `first_shown`, `page_request`,
-//! `checks_all`: what its look for a file of the destination is made of.
+//! - `SetupJob` asks, goes on and ends exactly as `job_protocol` defines a set-up, for every
+//!   committer and every list of replies that fit.
+//! - After memory runs out it sends nothing more, and ends with NoMemory.
+//! - The bound on the requests left falls with each reply and each request that exhausts its
+//!   retries. Another actor's request raises it by at most 2 (`set_ups_end`).
+//! - `first_shown`, `page_request` and `checks_all` return the parts of its look for a file of the
+//!   destination.
+//!
+//! Left open: what it does after other replies.
 #![tactic(auto)]
 
 mod files;

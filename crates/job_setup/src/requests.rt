@@ -10,7 +10,8 @@ use path_keys::S3Path;
 use s3_types::{Key, Request, Text};
 use std::alloc::{AllocError, Global};
 
-/// The request for the head of the object at a destination's own key, which has 1 to 400 bytes.
+/// Returns the request for the head of the object at a destination's own key, which has 1 to 400
+/// bytes.
 pub fn head_request(dest: &S3Path) -> Result<Option<Request>, AllocError>
     requires some { 1 ≤ length dest.now.key }
     requires most { length dest.now.key ≤ 400 }
@@ -23,7 +24,7 @@ pub fn head_request(dest: &S3Path) -> Result<Option<Request>, AllocError>
     }
 }
 
-/// The request for the next page of keys below a destination.
+/// Returns the request for the next page of keys below a destination.
 pub fn page_request(
     alloc: Global,
     dest: &S3Path,
@@ -39,8 +40,8 @@ pub fn page_request(
     }
 }
 
-/// The request that deletes the marker of a committed job below a destination, whose key has 1 to 400
-/// bytes.
+/// Returns the request that deletes the marker of a committed job below a destination, whose key
+/// has 1 to 400 bytes.
 pub fn clear_request(alloc: Global, dest: &S3Path) -> Result<Option<Request>, AllocError>
     requires some { 1 ≤ length dest.now.key }
     requires most { length dest.now.key ≤ 400 }
@@ -53,7 +54,7 @@ pub fn clear_request(alloc: Global, dest: &S3Path) -> Result<Option<Request>, Al
     }
 }
 
-/// The next request of the sweep of a job's magic directory.
+/// Returns the next request of the sweep of a job's magic directory.
 pub fn sweep_request(
     alloc: Global,
     dest: &S3Path,

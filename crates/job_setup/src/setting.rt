@@ -12,9 +12,10 @@ use s3_types::{Reply, Request, let_go};
 use std::alloc::{AllocError, Global};
 use std::marker::Model;
 
-/// A set-up of a job, with the job's plan. It looks at the destination's own key; for the directory committer with
-/// the mode `fail` it looks for a file of the destination; it deletes the marker of an earlier job; and for
-/// the magic committer it empties the job's magic directory. (Hadoop, S3A committers: job setup.)
+/// A set-up of a job, with the job's plan. It looks at the destination's own key. For the directory
+/// committer in mode `fail` it looks for a file of the destination. It deletes the marker of an
+/// earlier job, and for the magic committer it empties the job's magic directory. (Hadoop, S3A
+/// committers: job setup.)
 #[derive(Drop)]
 pub struct SettingUp {
     plan: JobPlan,
@@ -31,9 +32,12 @@ impl Model for SettingUp {
     ghost view = { λ s. record { plan = s.plan; operation = setup_of s.held } };
 }
 
-/// A set-up of a job. Its end is DestIsFile exactly where an object stands at the destination's own key,
-/// NoSuchBucket where the bucket is not there, Conflict with the first path on a page at which a reader is
-/// shown a file, and StoreFault exactly where a request wore out.
+/// A set-up of a job as a machine. It ends with:
+///
+/// - DestIsFile exactly if there is an object at the destination's own key;
+/// - NoSuchBucket if the bucket does not exist;
+/// - Conflict and the first path on a page at which readers see a file;
+/// - StoreFault exactly if a request exhausted its retries.
 pub type SetupJob = Asking<SettingUp>;
 
 impl Asks for SettingUp {

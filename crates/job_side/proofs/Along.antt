@@ -1,4 +1,4 @@
--- What is carried along a run of a job: what each actor knew as it last sent, who commits the job, and how many events there were.
+-- What holds all along a run of a job: what each actor knew when it sent last, who runs the job's commit, and how many events there were.
 use Rattle.basics.proofs.Members.{none_some, some_is}
 use Rattle.job_actor.specs.Picks.{is_committing, is_job_commit}
 use Rattle.job_model.specs.Attempts.{Who}
@@ -28,17 +28,17 @@ use Rattle.std.proofs.Common.{List, None, Option, Some, ap, false, inl, inr, len
 use Rattle.std.proofs.lemmas.Option.{slice_get_within}
 use Rattle.job_model.specs.declared.events.Op.TheVariants as ops
 
--- what is carried
+-- What holds all along a run.
 pub record Carried (g : Setting) (x : Play) : Type 0 where
-  -- what an actor knew as it last sent is what it knows now
+  -- What an actor knew when it sent last is what it knows now.
   pub known : (a : Actor) (m : Running) → x.running a ≡ Some m → m.known ≡ knows_now g x a
   pub nobody : x.running Shell ≡ None
-  -- the driver alone is at the job's commit
+  -- Only the driver runs the job's commit.
   pub whose : (a : Actor) → (a ≡ Driver → ⊥) → is_committing (x.running a) ≡ false
-  -- an event goes on that has no end yet
+  -- If an event is in progress, some event has no end yet.
   pub few : (ev : Event) → x.now ≡ Some ev → length x.ends < length g.script.events
 
--- what holds of a value that is put, and of the others, holds of all
+-- If a property holds of the value that is put at one actor, and of the values of the others, it holds of all.
 pub put_all : {X : Type 0} (P : Actor → X → Type 0) (f : Actor → X) (a : Actor) (v : X) → P a v → ((q : Actor) → (q ≡ a → ⊥) → P q (f q))
     → (q : Actor) → P q (put f a v q)
 put_all P f a v here others q = elim (same_or_not q a) [
@@ -51,7 +51,7 @@ knows_more : (w : Script) (a : Who) (k : Known) (es : List Entry) (e : Entry)
 knows_more w a k [] e = refl
 knows_more w a k (x ∷ es) e = knows_more w a (learn w a k x.request x.outcome) es e
 
--- what an actor goes on with is the job's commit where it was before
+-- An operation goes on as the job's commit exactly if it was that before.
 commit_stays : (g : Setting) (a : Who) (op : Operation) (o : Outcome) → is_job_commit (tells g a op o) ≡ is_job_commit op
 commit_stays g a (TheCheck t) o = after_check_so g (λ op. is_job_commit op ≡ true) refl (λ u. refl)
     (step g.script.retries (check_after g.script) t o)
@@ -130,7 +130,7 @@ module _ (g : Setting) (opening : Content) where
   pub others_know : (x : Play) (e : Entry) (q : Actor) → (q ≡ e.actor → ⊥) → knows_now g (happen g x (Sends e)) q ≡ knows_now g x q
   others_know x e q ne = ap (knows g.script (who q)) (by_another q x.journal e (same_false e.actor q (λ s. ne (sym s))))
 
-  -- each actor goes on with the job's commit where it was at that
+  -- Each actor is in the job's commit after a send exactly if it was before.
   pub commits_on : (x : Play) (e : Entry) → MaySend g opening x e → (q : Actor)
       → is_committing ((happen g x (Sends e)).running q) ≡ is_committing (x.running q)
   commits_on x e may =
@@ -152,7 +152,7 @@ module _ (g : Setting) (opening : Content) where
 
   -- ---- a stranger sends
 
-  -- it tells no actor anything
+  -- No actor learns anything from it.
   strayed : (x : Play) (r : Request) (o : Outcome) → Carried g x → Carried g (happen g x (Strays r o))
   strayed x r o c = record { known = λ a m e. by a m e (c.known a m e); nobody = c.nobody; whose = c.whose; few = c.few }
     where

@@ -1,4 +1,4 @@
--- An actor of a world begins an operation: what it goes by, and that all holds but for its hand.
+-- An actor begins an operation: its plan, and that all holds except for its hand.
 use Rattle.basics.proofs.Members.{none_some}
 use Rattle.basics.proofs.Options.{none_is}
 use Rattle.job_actor.specs.Picks.{PicksGo, is_job_commit}
@@ -41,13 +41,13 @@ use Rattle.std.proofs.lemmas.Result.{IfOk-weaker}
 use Rattle.std.specs.Prelude.{IfOk, Result, is_some}
 use Rattle.job_actor.specs.declared.plan.Plan as acting
 
--- ---- what may be begun
+-- ---- which operations may begin
 
 idle_of : (l : Life) (r : Option EventFault) → refuse_begin l r ≡ None → l ≡ Idle
 idle_of Idle r h = refl
 idle_of _ r h = absurd (none_some h refl)
 
--- who begins is idle before
+-- An actor that begins an operation was idle.
 pub begins_idle : (p : Past) (ev : Event) (a : Actor) (op : Op) → BeginsBy ev a op → refusal p.state ev ≡ None → (p.state a).life ≡ Idle
 begins_idle p = begins_by (λ ev a op. refusal p.state ev ≡ None → (p.state a).life ≡ Idle) (λ a op. idle_of (p.state a).life _)
     (λ a op. idle_of (p.state a).life _)
@@ -55,7 +55,7 @@ begins_idle p = begins_by (λ ev a op. refusal p.state ev ≡ None → (p.state 
 pub begins_op : (w : Script) (ev : Event) (a : Actor) (op : Op) → BeginsBy ev a op → IsEvent w.attempts ev → HasOp a op
 begins_op w = begins_by (λ ev a op. IsEvent w.attempts ev → HasOp a op) (λ a op e. e.1) (λ a op e. e.1)
 
--- who begins is of the job
+-- An actor that begins an operation is one of the job's.
 pub known_named : (w : Script) (ev : Event) (a : Actor) (op : Op) → BeginsBy ev a op → IsEvent w.attempts ev → is_known w.attempts a ≡ true
 known_named w = begins_by (λ ev a op. IsEvent w.attempts ev → is_known w.attempts a ≡ true) (λ a op e. e.0) (λ a op e. e.0)
 
@@ -63,7 +63,7 @@ opened_reported : (w : Script) (p : Past) (ev : Event) (a : Actor) (op : Op) →
 opened_reported w p = begins_by (λ ev a op. (open_event w p ev).reported ≡ p.reported) (λ a op. refl) (λ a op. refl)
 
 module _ {W : Type 0} (is_of : Setting → Actor → W → Type 0) (running : Known → W → Running) (picks_of : W → Option (List Pick)) where
-  -- what is begun is what the script's operation is as it begins
+  -- The operation is the one that the script begins.
   pub works_of : {E : Type 0} (b : Body W) (a : Actor) (op : Op) (n : Reports) (r : Result W E)
       → IfOk r (Starts is_of running picks_of (setting_of b) a op n (knows_of b a))
       → ((p : Past) → Stands b.side.script b.side.states p
@@ -114,7 +114,7 @@ module _ {W : Type 0} (wants : W → Option Request) (end_of : W → Option OpEn
           (sym (knows_as is_of running picks_of all_sound b q.holds a))
           (gives k.0 (q.holds.hands place a k.0 refl at_it k.1)))
 
--- ---- what is asked before the event is opened
+-- ---- what is needed before the event is opened
 
 module _ {W : Type 0} (wants : W → Option Request) (is_of : Setting → Actor → W → Type 0) (running : Known → W → Running)
     (picks_of : W → Option (List Pick)) (b : Body W) (q : Quiet wants is_of running picks_of b) where
@@ -137,7 +137,7 @@ module _ {W : Type 0} (wants : W → Option Request) (is_of : Setting → Actor 
           → IsPlanOf (setting_of d) a (knows_of d a) p
       plan_then a p h = subst (λ (v : Body W). IsPlanOf (setting_of v) a (knows_of v a) p) (sym (opened_is place ev b c d emptied opened)) h
 
--- ---- all holds but for the hand
+-- ---- all holds except for the hand
 
 module _ {W : Type 0} (wants : W → Option Request) (is_of : Setting → Actor → W → Type 0) (running : Known → W → Running)
     (picks_of : W → Option (List Pick)) (has_picks : (k : Known) (work : W)
@@ -215,7 +215,7 @@ module _ {W : Type 0} (wants : W → Option Request) (is_of : Setting → Actor 
         room = has_room;
       })
 
-  -- an attempt leaves the picks
+  -- An attempt that begins an operation leaves the picks as they are.
   pub attempt_begun : {E : Type 0} (work : Result W E) → (a ≡ Driver → ⊥) → c.side.picks ≡ b.side.picks
       → IfOk work (IsWork is_of running picks_of d a op) → Begun wants is_of running picks_of place a d work
   attempt_begun work nd same is =
@@ -224,7 +224,7 @@ module _ {W : Type 0} (wants : W → Option Request) (is_of : Setting → Actor 
       (leaves wants is_of running picks_of b q ev next fine turn Driver (spares_others ev a op begins Driver (λ s. nd (sym s))))
       b.side.picks q.holds.picks)) is
 
-  -- the driver puts its picks by
+  -- A driver that begins an operation puts its picks by.
   pub driver_begun : {E : Type 0} (work : Result W E) → a ≡ Driver
       → c.side.picks ≡ picks_in picks_of b.side.picks (slice_get b.side.hands.items place)
       → IfOk work (IsWork is_of running picks_of d a op) → Begun wants is_of running picks_of place a d work

@@ -1,4 +1,4 @@
--- Another's event leaves what a side keeps between its own.
+-- An event of the other job leaves what a job keeps between its own events.
 use Rattle.job_actor.proofs.Staying.{picks_stay}
 use Rattle.job_actor.specs.Picks.{ArePicksOf, HasPicked}
 use Rattle.job_actor.specs.Plans.{IsPlanOf}
@@ -36,7 +36,7 @@ use Rattle.std.proofs.Common.{Bool, List, None, Option, Some, ap, append-nil, ap
 use Rattle.std.proofs.Common.{subst, suc, sym, true, ℕ, [], ◌++◌, ◌+◌, ◌∙◌, ◌∷◌, ◌≡◌}
 use Rattle.std.proofs.lemmas.List.{map-append}
 
--- ---- in a side's eyes
+-- ---- the journal as the job reads it
 
 number_same : (mine : ℕ → Bool) (n : ℕ) → mine (n + 1) ≡ false → number_in mine (n + 1) ≡ number_in mine n
 number_same mine n h =
@@ -91,7 +91,7 @@ module _ (g : Setting) (opening : Content) (x : Play) (r : Request) (o : Outcome
     hand_kept a own Empty (inl lost) = inl (record { idle = lost.idle; wanting = lost.wanting; dead = lost.dead })
     hand_kept a own Empty (inr n) = inr n
 
--- ---- all of them
+-- ---- all requests of the event
 
 module _ (g : Setting) (opening : Content) where
   abbrev strayed : Play → List Entry → Play
@@ -119,14 +119,14 @@ module _ (g : Setting) (opening : Content) where
   scene_all (e ∷ es) x = scene_all es (happen g x (Strays e.request e.outcome)) ∙ ap (λ s. after_all s es)
       (scene_kept g opening x e.request e.outcome)
 
-  -- what else is told of a play
+  -- What a stranger's requests leave of a play as it was, besides the operations.
   record IsLeft (x y : Play) : Type 0 where
     ends : y.ends ≡ x.ends
     now : y.now ≡ x.now
     live : y.live ≡ x.live
     finished : y.finished ≡ x.finished
 
-  -- what one such request leaves, all of them leave
+  -- What one such request keeps, all of them keep.
   strayed_keeps : (P : Play → Type 0) → ((x : Play) (r : Request) (o : Outcome) → P x → P (happen g x (Strays r o)))
       → (es : List Entry) (x : Play) → P x → P (strayed x es)
   strayed_keeps P one [] x h = h
@@ -142,7 +142,7 @@ eyes_strange mine n k theirs number w drawn s (e ∷ es) f =
     n k theirs number w drawn
     (effect s e.request e.outcome) es f.3 i)
 
--- ---- a side
+-- ---- a job
 
 pub rests_beside : {W : Type 0} (wants : W → Option Request) (is_of : Setting → Actor → W → Type 0) (running : Known → W → Running)
     (picks_of : W → Option (List Pick)) → RestsBeside wants is_of running picks_of

@@ -15,7 +15,7 @@ use Rattle.std.proofs.Common.{◌∙◌, ◌∷◌, ◌≡◌, ◌≤◌}
 use Rattle.std.proofs.lemmas.List.{length-map}
 use Rattle.std.specs.List.{filter}
 
--- ---- lists in which nobody stands twice
+-- ---- lists without repetition
 
 Missing : Actor → List Actor → Type 0
 Missing a [] = Unit {0}

@@ -1,4 +1,4 @@
--- An event of a world has its end: all holds between events again.
+-- The event in progress gets its end, and all that holds between events holds again.
 use Rattle.basics.proofs.Bools.{not_so}
 use Rattle.basics.proofs.Members.{some_is}
 use Rattle.basics.proofs.Options.{none_is}
@@ -37,7 +37,7 @@ use Rattle.std.proofs.Common.{◌∙◌, ◌∷◌, ◌≡◌}
 use Rattle.std.specs.Prelude.{is_some}
 use Rattle.job_side.specs.Events as events
 
--- one more event was counted
+-- The body with one more event counted.
 abbrev pub counted : {W : Type 0} → Body W → Vec EventEnd Global → Vec ActorEnd Global → Kept → Option Event → Body W
 counted b ends finished k now =
     record b {
@@ -48,7 +48,7 @@ counted b ends finished k now =
 
 module _ {W : Type 0} (wants : W → Option Request) (is_of : Setting → Actor → W → Type 0) (running : Known → W → Running)
     (picks_of : W → Option (List Pick)) where
-  -- one more event was counted, which has its end
+  -- The body with one more event counted, which has its end, holds what it must between events.
   quiet_ended : (b : Body W) (h : Holds is_of running picks_of all_sound b) → NoneOver wants b → IsTurn b
       → (end : EventEnd) (ends : Vec EventEnd Global) (finished : Vec ActorEnd Global) (k : Kept) (now : Option Event) (y : Play)
       → Reachable (setting_of b) b.shared.opening y → ((a : Actor) → Leaves h.play y a) → Stands b.side.script k y.live
@@ -123,7 +123,7 @@ module _ {W : Type 0} (wants : W → Option Request) (is_of : Setting → Actor 
         (end_of_work n) (not_so _ (sym (asks n) ∙ h))
     goes_at a m _ is h at = absurd h
 
-    -- who is busy has more to send
+    -- Each busy actor has more to send.
     going_all : (a : Actor) (m : Running) → (q.holds.play.live.state a).life ≡ Busy → q.holds.play.running a ≡ Some m
         → over m.operation ≡ None
     going_all a m busy at =

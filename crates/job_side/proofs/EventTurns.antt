@@ -1,4 +1,4 @@
--- The entries that an event of a world has are by turns.
+-- The entries of an event follow the turns of its kind.
 use Rattle.basics.proofs.Members.{none_some}
 use Rattle.job_model.specs.JobScript.{Script}
 use Rattle.job_model.specs.declared.ends.EventEnd.{EventEnd}
@@ -19,7 +19,7 @@ use Rattle.std.proofs.lemmas.List.{map-id}
 use Rattle.std.proofs.lemmas.Simd.{map-map}
 use Rattle.job_states.specs.Mixes as mixes
 
--- ---- by the end that an event has
+-- ---- by the end of the event
 
 module _ {W : Type 0} (c : Body W) where
   pub do_turns : (a : Actor) (op : Op) → AllOf a c → ByTurns c (Do a op)
@@ -39,7 +39,7 @@ module _ {W : Type 0} (c : Body W) where
   still_turns (Recover a) s fine fresh none = absurd (none_some fine refl)
   still_turns _ s fine fresh none = absurd s
 
--- ---- of an event that had no entry yet, from b to c
+-- ---- an event without an entry yet, from b to c
 
 module _ {W : Type 0} (left : W → Scene → ℕ) (rise : Script → ℕ) (place : ℕ) (a : Actor) (b c : Body W)
     (at : slice_get (actors b.side.script) place ≡ Some a) (fresh : event_entries b ≡ []) (none : b.side.finished.items ≡ []) where

@@ -1,4 +1,4 @@
--- What holds of a world where an operation of one of its actors ends.
+-- What holds after an operation of an actor has ended.
 use Rattle.basics.proofs.Members.{false_true, none_or_some, none_some, same_or_not as same_number, some_is}
 use Rattle.basics.proofs.Options.{some_of}
 use Rattle.job_actor.specs.Picks.{is_committing}
@@ -38,7 +38,7 @@ use Rattle.job_model.specs.declared.ends.OpEnd.TheVariants as ends
 
 -- ---- places
 
--- an actor's end changes how it stands, and no other
+-- The end of an operation changes the standing of its actor, and no other.
 pub end_idle : (w : Script) (k : Kept) (p : Past) (y : ActorEnd) → Stands w k (end_op p y) → (place : ℕ)
     → slice_get (actors w) place ≡ Some y.actor → is_busy_at k.actors place ≡ false
 end_idle w k p y s place e =
@@ -57,13 +57,13 @@ end_others w j k l p y s t place e q ne = elim (none_or_some (slice_get (actors 
       ∙ sym (busy_at w k p s q found.0 found.1)
 ]
 
--- an actor of the script has a hand
+-- An actor of the script has a hand.
 pub has_hand : {W : Type 0} (is_of : Setting → Actor → W → Type 0) (running : Known → W → Running) (picks_of : W → Option (List Pick))
     (sound : ℕ → Bool) (b : Body W) (place : ℕ) (a : Actor) → Holds is_of running picks_of sound b
     → slice_get (actors b.side.script) place ≡ Some a → place < length b.side.hands.items
 has_hand is_of running picks_of sound b place a h here = omega (arith, slice_get_within (actors b.side.script) place a here, h.places)
 
--- how picks go with what the driver does
+-- The driver is in the job's commit exactly if the events say that it began that last.
 abbrev pub Doing : Type 0
 Doing = (g : Setting) (opening : Content) (x : Play) → IsLegal g.script → Reachable g opening x
     → is_committing (x.running Driver) ≡ is_commit (x.live.doing Driver)
@@ -71,7 +71,7 @@ Doing = (g : Setting) (opening : Content) (x : Play) → IsLegal g.script → Re
 module _ {W : Type 0} (is_of : Setting → Actor → W → Type 0) (running : Known → W → Running) (picks_of : W → Option (List Pick)) where
   -- ---- hands
 
-  -- every hand is, where the one at a place is, and so are the others
+  -- If the hand at one place fits, and so do the others, then all hands fit.
   pub hands_by : (g : Setting) (opening : Content) (x : Play) (sound : ℕ → Bool) (place : ℕ) (a : Actor) (h : Hand W) (hs : List (Hand W))
       → slice_get (actors g.script) place ≡ Some a
       → (sound place ≡ true → slice_get hs place ≡ Some h) → HandIs is_of running picks_of g opening x a h
@@ -87,7 +87,7 @@ module _ {W : Type 0} (is_of : Setting → Actor → W → Type 0) (running : Kn
     | inr ne ↦ others q b k ne s e i
   ]
 
-  -- the hand of a busy actor is at an operation, or is left out
+  -- The hand of a busy actor has an operation, or its place is left out.
   module _ (g : Setting) (opening : Content) (x : Play) (y : ActorEnd) (busy : is_busy (x.live.state y.actor).life ≡ true) where
     other_than : (a : Actor) → is_busy (x.live.state a).life ≡ false → a ≡ y.actor → ⊥
     other_than a idle is = false_true (ap (λ c. is_busy (x.live.state c).life) (sym is) ∙ idle) busy
@@ -112,7 +112,7 @@ module _ {W : Type 0} (is_of : Setting → Actor → W → Type 0) (running : Kn
     hand_stays a Empty (inl l) = inl (still_lost a l)
     hand_stays a Empty (inr n) = inr n
 
-    -- who ended for want of memory is lost
+    -- An actor whose operation ended because memory ran out is dead.
     pub is_lost : y.end ≡ ends.NoMemory → is_committing (x.running Driver) ≡ is_commit (x.live.doing Driver)
         → IsLost (happen g x (Finishes y)) y.actor
     is_lost e doing =
@@ -127,7 +127,7 @@ module _ {W : Type 0} (is_of : Setting → Actor → W → Type 0) (running : Kn
           dead = λ n. ap (λ (v : ActorState). v.life) (now ∙ ap (λ o. ended o (x.live.state y.actor).stage) e);
         }
 
-  -- ---- a world
+  -- ---- a body
 
   at_end : (end_of : W → Option OpEnd) (e : OpEnd) (o : Option (Hand W)) → hand_end end_of o ≡ Some e → (m : W) × (o ≡ Some (At m))
       × (end_of m ≡ Some e)
@@ -143,7 +143,7 @@ module _ {W : Type 0} (is_of : Setting → Actor → W → Type 0) (running : Kn
       (stands : (p : Past) → Stands b.side.script b.side.states p → Stands b.side.script k (end_op p y))
       (places : length hs.items ≡ length b.side.hands.items) (others : (q : ℕ) → (q ≡ place → ⊥) → slice_get hs.items q ≡ slice_get
       b.side.hands.items q) where
-    -- all holds, and the operation is over
+    -- All holds, and the operation is over.
     abbrev pub IsDone : Type 0
     IsDone =
         let next : Body W = record b { side = record b.side { states = k; finished = f; hands = hs } } in
@@ -183,7 +183,7 @@ module _ {W : Type 0} (is_of : Setting → Actor → W → Type 0) (running : Kn
           over = assumption (places, more, told, capacity, end_idle b.side.script k x.live y then place actor, beside, others);
         }
 
-    -- it ends by itself
+    -- The operation has an end of its own.
     pub is_over : (end_of : W → Option OpEnd) → ((k : Known) (m : W) → end_of m ≡ over (running k m).operation) → ((q : ℕ) → sound q ≡ true)
         → ((q : ℕ) → slice_get hs.items q ≡ slice_get b.side.hands.items q)
         → hand_end end_of (slice_get b.side.hands.items place) ≡ Some y.end → IsDone
@@ -194,7 +194,7 @@ module _ {W : Type 0} (is_of : Setting → Actor → W → Type 0) (running : Kn
         done (inr (running kn at.0, hand.1.0, sym (ends_as kn at.0) ∙ at.2))
         (λ q a v s e i. hand_stays (setting_of b) b.shared.opening h.play y now a v (h.hands q a v (all q) e (sym (same q) ∙ i)))
 
-    -- for want of memory
+    -- The operation ended because memory ran out.
     pub is_dead : y.end ≡ ends.NoMemory → ((q : ℕ) → (q ≡ place → ⊥) → sound q ≡ true) → slice_get hs.items place ≡ Some Empty → IsDone
     is_dead lack kept empty =
         let gone = is_lost (setting_of b) b.shared.opening h.play y now lack (doing (setting_of b) b.shared.opening h.play h.legal

@@ -45,7 +45,7 @@ use Rattle.job_actor.specs.declared.plan.Plan.TheVariants as plans
 abbrev pub plan_of : {W : Type 0} → Script → ℕ → Declared → Hand W
 plan_of w minimum a = Plan (plans.Task (task_of w minimum a.0 nothing_known))
 
--- the driver's hand, and those of so many attempts
+-- The driver's hand and those of the first n attempts.
 abbrev pub hands_of : {W : Type 0} → Script → ℕ → ℕ → List (Hand W)
 hands_of w minimum n = Empty ∷ map (plan_of w minimum) (take n w.attempts)
 
@@ -58,7 +58,7 @@ take_more [] n x e = absurd (none_some refl e)
 take_more (y ∷ ys) zero x e = ap (λ v. v ∷ []) (some_is e)
 take_more (y ∷ ys) (suc n) x e = ap (λ l. y ∷ l) (take_more ys n x e)
 
--- one more attempt has its plan
+-- One more attempt has its plan.
 pub more_hands : {W : Type 0} (w : Script) (minimum n : ℕ) (p : Task) (hands new : List (Hand W)) → task_at w minimum n ≡ Some p
     → hands ≡ hands_of w minimum n → new ≡ hands ++ Plan (plans.Task p) ∷ [] → new ≡ hands_of w minimum (n + 1)
 more_hands w minimum n p hands new at e f =
@@ -75,7 +75,7 @@ pub all_hands : {W : Type 0} (w : Script) (minimum n : ℕ) (hands : List (Hand 
     → hands ≡ Empty ∷ planned w minimum
 all_hands w minimum n hands le e = e ∙ ap (λ ds. Empty ∷ map (plan_of w minimum) ds) (take_all n w.attempts le)
 
--- ---- what the store and the standings say
+-- ---- what the store and the standings are
 
 below_next : (w : Script) (c : Content) → AreBelow c.buckets c.next → (id : ℕ) (x : Upload) → at_id w c id ≡ Some x → id < c.next
 below_next w c below id x e = (elim (fin.get c.buckets w.dest.bucket) as (λ o. fin.get c.buckets w.dest.bucket ≡ o → upload_in o id ≡ Some x
@@ -84,13 +84,13 @@ below_next w c below id x e = (elim (fin.get c.buckets w.dest.bucket) as (λ o. 
       | Some b ↦ λ at f. elim (cases_lt id c.next) [ inl lt ↦ lt | inr le ↦ absurd (none_some (below w.dest.bucket b at id le) f) ]
     ]) refl e
 
--- nobody is busy
+-- Nobody is busy.
 idle_at : (actors : List Actor) (place : ℕ) → is_busy_at (map (standing nothing_past) actors) place ≡ false
 idle_at [] place = refl
 idle_at (a ∷ more) zero = refl
 idle_at (a ∷ more) (suc place) = idle_at more place
 
--- nothing is picked
+-- Nothing is picked.
 pub none_picked : (g : Setting) (opening : Content) → ArePicksOf g opening nothing_played []
 none_picked g opening xs a = sym (none_below _ (λ t. refl) g.script.tasks)
 
@@ -101,7 +101,7 @@ nothing_put_by g opening ps e = record {
   all = λ c m xs a. e ∙ none_picked g opening xs a;
 }
 
--- ---- what is in hand
+-- ---- the hands
 
 module _ {W : Type 0} (is_of : Setting → Actor → W → Type 0) (running : Known → W → Running) (picks_of : W → Option (List Pick))
     (g : Setting) (opening : Content) where
@@ -122,7 +122,7 @@ module _ {W : Type 0} (is_of : Setting → Actor → W → Type 0) (running : Kn
       subst (λ (k : Hand W). HandIs is_of running picks_of g opening nothing_played a k) there (inr (sym driver, refl))
   hands_are hands is (suc q) a h sound e f = attempt_hand g.script.attempts q a h e (sym (ap (λ hs. slice_get hs (suc q)) is) ∙ f)
 
--- ---- all of it
+-- ---- all together
 
 module _ {W : Type 0} (wants : W → Option Request) (is_of : Setting → Actor → W → Type 0) (running : Known → W → Running)
     (picks_of : W → Option (List Pick)) (b : Body W) (low : b.shared.opening.next ≤ 2 ^ 62)

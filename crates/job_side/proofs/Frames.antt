@@ -1,4 +1,4 @@
--- What an event of a world leaves as it was, step by step.
+-- What an event leaves as it was, step by step.
 use Rattle.job_model.specs.declared.events.Event.{Event}
 use Rattle.job_side.specs.Events.{ByTurns, Emptied, Entered, Grown, HasRoom, IsOpened, event_entries}
 use Rattle.job_side.specs.Holds.{AreOf, Same, both_of, is_mine, seen_by, stays_on}
@@ -8,7 +8,7 @@ use Rattle.job_spec.specs.Turns.{of_event}
 use Rattle.std.proofs.Common.{Some, ap, append_assoc, length, subst, vec_capacity, vec_len, ℕ, [], ◌++◌, ◌+◌, ◌<◌, ◌∙◌, ◌∷◌, ◌≡◌}
 
 module _ {W : Type 0} where
-  -- an opened world, of which a hand was taken out
+  -- An opened body from which a hand was taken out.
   pub opened_is : (place : ℕ) (ev : Event) (b c d : Body W) → Emptied place b c → IsOpened ev c d
       → d ≡ record b { side = record b.side { hands = c.side.hands; picks = c.side.picks; states = d.side.states; event = Some ev } }
   opened_is place ev b c d emptied opened = opened.is ∙ ap (λ (v : Body W). record v
@@ -31,7 +31,7 @@ module _ {W : Type 0} where
           ∙ ap (λ v. of_event (length b.side.ends.items + 1) (in_eyes (is_mine b.side.others.items) v.entries)) sent ∙ fresh in
           assumption (fresh_then, sent, same)
 
-  -- ---- what is asked of a world before its event ends
+  -- ---- what a body needs before its event ends
 
   module _ (ev : Event) (b d f : Body W) (entered : Entered ev b d) (same : Same d f) where
     pub closing : (v : Event) {G : Type 0} → ev ≡ v → HasRoom b → ByTurns f v → G

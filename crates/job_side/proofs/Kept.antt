@@ -1,4 +1,4 @@
--- What a hand and the picks that were put by keep from one moment of a run to a later one that leaves their actor.
+-- What a hand and the picks put by keep from one state of a run to a later one that leaves their actor as it was.
 use Rattle.job_actor.specs.Picks.{ArePicksOf, HasPicked, is_committing}
 use Rattle.job_actor.specs.Plans.{IsPlanOf}
 use Rattle.job_model.specs.Known.{Known}
@@ -28,7 +28,7 @@ use Rattle.s3_types.specs.declared.request.Actor.{Actor}
 use Rattle.s3_types.specs.declared.request.Actor.TheVariants.{Driver}
 use Rattle.std.proofs.Common.{Bool, List, None, Option, Some, ap, false, inl, inr, refl, subst, sym, true, ◌∙◌, ◌≡◌}
 
--- from x to y nothing was sent, and an actor was left as it was
+-- From x to y nothing was sent, and the actor was left as it was.
 pub record Leaves (x y : Play) (a : Actor) : Type 0 where
   pub journal : y.journal ≡ x.journal
   pub running : y.running a ≡ x.running a
@@ -83,13 +83,13 @@ module _ (g : Setting) (opening : Content) (x y : Play) where
 
 -- ---- an event begins
 
--- it begins nothing of this actor
+-- The event begins no operation of this actor.
 abbrev pub Spares : Event → Actor → Type 0
 Spares (Do b op) a = a ≡ b → ⊥
 Spares (Start b op) a = a ≡ b → ⊥
 Spares _ a = Unit {0}
 
--- what holds of both events that begin an operation
+-- What holds of both kinds of events that begin an operation.
 pub begins_by : (P : Event → Actor → Op → Type 0) → ((a : Actor) (op : Op) → P (Do a op) a op)
     → ((a : Actor) (op : Op) → P (Start a op) a op) → (ev : Event) (a : Actor) (op : Op)
     → BeginsBy ev a op → P ev a op
@@ -97,7 +97,7 @@ begins_by P d s (Do b o) a op h = subst (λ v. P (Do b o) v op) h.0 (subst (P (D
 begins_by P d s (Start b o) a op h = subst (λ v. P (Start b o) v op) h.0 (subst (P (Start b o) b) h.1 (s b o))
 begins_by P d s _ a op h = absurd h
 
--- the job's commit, where the driver begins nothing
+-- What became of the job's commit, if the driver begins no operation.
 begun_not : (b : Actor) (op : Op) (d : Decided) → (b ≡ Driver → ⊥) → commit_begun b op d ≡ d
 begun_not Driver op d n = absurd (n refl)
 begun_not _ op d n = refl
@@ -118,7 +118,7 @@ Rests v = is_busy v.life ≡ false
 abbrev IsDead : ActorState → Type 0
 IsDead v = v.life ≡ Dead
 
--- what the event's opening leaves of one whom it spares
+-- What the opening of an event leaves of an actor of which it begins no operation.
 module _ (g : Setting) (x : Play) (a : Actor) where
   abbrev Left : Event → Type 0
   Left ev = Leaves (record x { live = x.past }) (happen g x (Opens ev)) a

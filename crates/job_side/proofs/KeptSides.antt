@@ -1,4 +1,4 @@
--- That a side keeps, between its events, what no stranger can break.
+-- A job keeps, between its events, what no stranger can break.
 use Rattle.job_actor.specs.Picks.{is_job_commit}
 use Rattle.job_model.specs.Known.{Known}
 use Rattle.job_model.specs.declared.ends.Pick.{Pick}
@@ -23,12 +23,12 @@ use Rattle.job_safety.proofs.Kept as kept
 
 -- ---- picks
 
--- these are told of all that are seen: the first of them, and all where the job's commit did not lack memory
+-- These are the first of all picks that the journal shows, and all of them unless the job's commit ran out of memory.
 pub record AreTold (x : Play) (all ps : List Pick) : Type 0 where
   pub first : ArePicked ps all
   pub whole : lacked_memory x.live.commit ≡ false → ps ≡ all
 
--- what picks has picked in the job's commit
+-- An operation has picks exactly if it is the job's commit.
 abbrev pub HasPicks : {W : Type 0} → (Known → W → Running) → (W → Option (List Pick)) → Type 0
 HasPicks running picks_of = (k : Known) (work : _) → is_some (picks_of work) ≡ is_job_commit (running k work).operation
 
@@ -41,7 +41,7 @@ module _ {W : Type 0} (is_of : Setting → Actor → W → Type 0) (running : Kn
       let p = hand_put g opening x is_of running picks_of has ps put h is in record
       { first = p.first x.ends (ahead_none x idle); whole = λ m. p.all m x.ends (ahead_none x idle) }
 
--- ---- a side
+-- ---- a job
 
 module _ {W : Type 0} (wants : W → Option Request) (is_of : Setting → Actor → W → Type 0) (running : Known → W → Running)
     (picks_of : W → Option (List Pick)) (b : Body W) (q : Quiet wants is_of running picks_of b) (has : HasPicks running picks_of) where

@@ -1,4 +1,4 @@
--- Of a legal script's run: who is busy is of the job, an attempt that is idle has ended its operation, and restarts are few.
+-- In a run of a legal script each busy actor is one of the job's, an idle attempt has ended its operation, and restarts are few.
 use Rattle.basics.proofs.Members.{false_true, none_some, some_is}
 use Rattle.job_model.specs.Attempts.{Declared, is_known}
 use Rattle.job_model.specs.JobScript.{Script}
@@ -28,13 +28,13 @@ use Rattle.std.proofs.Common.{List, None, Option, Some, ap, arith, inl, inr, len
 use Rattle.std.proofs.Common.{◌∙◌, ◌∷◌, ◌≡◌, ◌≤◌}
 use Rattle.std.specs.Prelude.{IsSome, is_some}
 
--- ---- who is busy is of the job
+-- ---- each busy actor is one of the job's
 
 abbrev pub KnownBusy : List Declared → Past → Type 0
 KnownBusy es p = (a : Actor) → is_busy (p.state a).life ≡ true → is_known es a ≡ true
 
 module _ (es : List Declared) (p : Past) (old : KnownBusy es p) where
-  -- who is given a state, and is of the job where that is busy
+  -- If one actor gets a state, and is one of the job's if it is busy then, each busy actor is one of the job's.
   put_known : (a : Actor) (s : ActorState) → (is_busy s.life ≡ true → is_known es a ≡ true) → (b : Actor)
       → is_busy (put p.state a s b).life ≡ true → is_known es b ≡ true
   put_known a s here = put_all (λ b v. is_busy v.life ≡ true → is_known es b ≡ true) p.state a s here (λ b ne. old b)
@@ -50,7 +50,7 @@ module _ (es : List Declared) (p : Past) (old : KnownBusy es p) where
   end_known y = put_known y.actor (ended y.end (p.state y.actor).stage) (λ b. absurd
       (false_true (ended_idle y.end (p.state y.actor).stage) b))
 
--- ---- an attempt that is idle has ended its operation
+-- ---- an idle attempt has ended its operation
 
 abbrev pub AllOver : Past → (Actor → Option Running) → Type 0
 AllOver p running = (a : Actor) → (a ≡ Driver → ⊥) → (p.state a).life ≡ Idle → (m : Running) → running a ≡ Some m
@@ -63,7 +63,7 @@ dead_idle : (l : Life) → l ≡ Dead → l ≡ Idle → ⊥
 dead_idle l e f = cc
 
 module _ (p : Past) (running : Actor → Option Running) (old : AllOver p running) where
-  -- who is given a state and an operation, which is over where it is idle
+  -- If one actor gets a state and an operation, which is over if the actor is idle, the same holds of each idle attempt.
   put_over : (a : Actor) (s : ActorState) (r : Actor → Option Running) → ((b : Actor) → (b ≡ a → ⊥) → r b ≡ running b)
       → (s.life ≡ Idle → (a ≡ Driver → ⊥) → (n : Running) → r a ≡ Some n → IsSome (over n.operation))
       → (b : Actor) → (b ≡ Driver → ⊥) → (put p.state a s b).life ≡ Idle → (n : Running) → r b ≡ Some n → IsSome (over n.operation)
@@ -87,7 +87,7 @@ open_attempt : (w : Script) (p : Past) (ev : Event) → (open_event w p ev).atte
 open_attempt w p (Do a op) = omega arith
 open_attempt w p _ = omega arith
 
--- ---- all of that
+-- ---- all together
 
 pub record Lives (g : Setting) (x : Play) : Type 0 where
   pub known : KnownBusy g.script.attempts x.live

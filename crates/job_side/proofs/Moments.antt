@@ -1,4 +1,4 @@
--- What a world that holds says of its run: which event may begin, that its numbers are small, and what stands at its places.
+-- What a body that holds says of its run: which event may begin, that its numbers are small, and which actors are at its places.
 use Rattle.basics.proofs.Members.{false_true}
 use Rattle.job_model.specs.Known.{Known}
 use Rattle.job_model.specs.Legal.{IsEvent}
@@ -26,7 +26,7 @@ use Rattle.std.proofs.Common.{Bool, List, None, Option, Some, ap, arith, length,
 use Rattle.std.proofs.lemmas.Option.{slice_get_within}
 use Rattle.std.specs.Prelude.{IsSome, is_some}
 
--- where there is none there is not one
+-- None is not some value.
 pub never : {A : Type 0} (X : Type 0) (o : Option A) → o ≡ None → IsSome o → X
 never X o none some = absurd (false_true (ap is_some none) some)
 

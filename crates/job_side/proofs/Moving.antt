@@ -1,4 +1,4 @@
--- Events of a world that move busy actors, or nobody: what is asked of turns and of the event's end.
+-- Events in which busy actors send, or nobody: what their turns and their ends need.
 use Rattle.basics.proofs.Members.{none_some}
 use Rattle.job_model.specs.Attempts.{is_known}
 use Rattle.job_model.specs.JobScript.{Script}
@@ -31,11 +31,11 @@ move_busy : (l : Life) → refuse_move l ≡ None → is_busy l ≡ true
 move_busy Busy h = refl
 move_busy _ h = absurd (none_some h refl)
 
--- no actor's state changes as it begins
+-- The event changes no actor's state as it begins.
 abbrev pub Stays : Event → Type 0
 Stays ev = (w : Script) (p : Past) → open_event w p ev ≡ p
 
--- the event moves a busy actor
+-- A busy actor sends in the event.
 pub record Moves (ev : Event) (a : Actor) : Type 0 where
   pub none : BeginsNone ev
   pub stays : Stays ev
@@ -61,7 +61,7 @@ still_none (Do a op) h = absurd h
 still_none (Start a op) h = absurd h
 still_none _ h = tt
 
--- ---- a world in which such an event goes on
+-- ---- a body in which such an event is in progress
 
 module _ {W : Type 0} (wants : W → Option Request) (is_of : Setting → Actor → W → Type 0) (running : Known → W → Running)
     (picks_of : W → Option (List Pick)) (ev : Event) (b c : Body W) (e : HasEntered wants is_of running picks_of ev b c) where

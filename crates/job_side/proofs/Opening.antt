@@ -1,4 +1,4 @@
--- An event of a world begins: all holds then, but for the hand of one that begins an operation.
+-- An event begins. Then all holds, except for the hand of an actor that begins an operation.
 use Rattle.basics.proofs.Members.{false_true, nat_true, true_or_false}
 use Rattle.job_model.specs.Known.{Known}
 use Rattle.job_model.specs.declared.ends.Pick.{Pick}
@@ -38,7 +38,7 @@ begun_busy g p =
     (λ a op. ap (λ (s : ActorState). is_busy s.life) (put_here p.state a _ a refl))
     (λ a op. ap (λ (s : ActorState). is_busy s.life) (put_here p.state a _ a refl))
 
--- a place that is not left out is another one
+-- A place that is not left out is another one than the one left out.
 pub not_left : (p q : ℕ) → all_but p q ≡ true → q ≡ p → ⊥
 not_left p q h e = false_true (ap not (nat_true q p e)) h
 
@@ -63,7 +63,7 @@ module _ {W : Type 0} (wants : W → Option Request) (is_of : Setting → Actor 
   pub leaves : (a : Actor) → Spares ev a → Leaves x y a
   leaves a s = open_leaves g x ev a (is_idle is_of running picks_of all_sound b h q.idle) live s
 
-  -- ---- the world that the event's opening makes of it, with the hands and picks of c and the states of d
+  -- ---- the body after the event is opened, with the hands and picks of c and the states of d
 
   module _ (c d : Body W) (stands : Stands b.side.script d.side.states y.live) where
     abbrev e : Body W
@@ -90,7 +90,7 @@ module _ {W : Type 0} (wants : W → Option Request) (is_of : Setting → Actor 
     opened_hands sound same spare p a k s at hand = hand_kept g b.shared.opening x y is_of running picks_of a (leaves a (spare p a s at)) k
         (h.hands p a k refl at (sym (same p s) ∙ hand))
 
-    -- who is busy then was busy before, but for who begins
+    -- Each actor that is busy then was busy before, unless it begins an operation.
     pub busy_before : (p : ℕ) → ((a : Actor) → slice_get (actors b.side.script) p ≡ Some a → Spares ev a)
         → is_busy_at d.side.states.actors p ≡ true → is_busy_at b.side.states.actors p ≡ true
     busy_before p spare busy =

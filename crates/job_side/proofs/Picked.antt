@@ -1,4 +1,4 @@
--- What the driver has picked, as it begins another operation.
+-- What the driver has picked when it begins another operation.
 use Rattle.basics.proofs.Members.{false_true, true_or_false}
 use Rattle.job_actor.specs.Picks.{ArePicksOf, HasPicked, PicksGo, is_committing, is_job_commit}
 use Rattle.job_model.specs.Known.{Known}
@@ -30,7 +30,7 @@ use Rattle.std.proofs.Common.{List, None, Option, Some, ap, append-nil, false, i
 use Rattle.std.specs.Prelude.{is_some, unwrap_or}
 use Rattle.job_model.specs.declared.events.Op.TheVariants as ops
 
--- what an actor has begun then
+-- The operation that an actor has begun then.
 pub begun_running : (g : Setting) (x : Play) (ev : Event) (a : Actor) (op : Op) → BeginsBy ev a op
     → open_running g x ev a ≡ begun (start_of g a op (reports g.script x.past.reported) (knows_now g x a)) (knows_now g x a)
 begun_running g x =
@@ -38,7 +38,7 @@ begun_running g x =
     (knows_now g x a))
     (λ a op. put_here x.running a _ a refl) (λ a op. put_here x.running a _ a refl)
 
--- only the driver's commit is the job's
+-- Only the driver's commit is the job's commit.
 pub commit_begins : (g : Setting) (a : Actor) (op : Op) (m : Reports) (k l : Known) → is_committing (begun (start_of g a op m k) l) ≡ true
     → (a ≡ Driver) × (op ≡ ops.Commit)
 commit_begins g Driver ops.Commit m k l h = (refl, refl)
@@ -52,7 +52,7 @@ begins_it =
     begins_by (λ ev a op. a ≡ Driver → op ≡ ops.Commit → begins_commit ev ≡ true) (λ a op d c. λ i. begins_commit (Do (d i) (c i)))
     (λ a op d c. λ i. begins_commit (Start (d i) (c i)))
 
--- any other operation of the driver leaves what became of the commit
+-- Another operation of the driver changes nothing about what became of the commit.
 not_committing : (g : Setting) (op : Op) (m : Reports) (k l : Known) → is_committing (begun (start_of g Driver op m k) l) ≡ false
     → (d : Decided) → commit_begun Driver op d ≡ d
 not_committing g ops.Commit m k l h d = absurd (false_true h (commit_of_so g (λ o. is_job_commit o ≡ true) (λ t. refl) (λ t. refl) m))
@@ -80,7 +80,7 @@ module _ (g : Setting) (opening : Content) (x : Play) (ev : Event) (idle : x.now
 -- ---- what the driver has picked between events
 
 module _ (g : Setting) (opening : Content) (x : Play) where
-  -- these are as they should be put by where the driver is at another operation than the commit
+  -- These picks are as those put by must be if the driver is running another operation than the commit.
   pub record Put (qs : List Pick) : Type 0 where
     pub first : (xs : List EventEnd) → Ahead x xs → ArePicked qs (all_picks g.script opening x.journal xs)
     pub all : lacked_memory x.live.commit ≡ false → ArePicksOf g opening x qs
@@ -88,7 +88,7 @@ module _ (g : Setting) (opening : Content) (x : Play) where
   module _ {W : Type 0} (is_of : Setting → Actor → W → Type 0) (running : Known → W → Running) (picks_of : W → Option (List Pick))
       (has_picks : (k : Known) (work : W) → is_some (picks_of work) ≡ is_job_commit (running k work).operation) (ps : List Pick)
       (old : PutBy g opening x ps) where
-    -- the driver was at another operation
+    -- The driver was running another operation.
     other_put : is_committing (x.running Driver) ≡ false → Put ps
     other_put f = record { first = old.first f; all = old.all f }
 
@@ -123,7 +123,7 @@ module _ {W : Type 0} (is_of : Setting → Actor → W → Type 0) (running : Kn
   pub nothing_before : begins_commit ev ≡ true → ArePicksOf g opening x []
   nothing_before begins = go.none_before g opening x legal opens run ev begins may
 
-  -- a commit that begins has picked nothing, and so has any run then
+  -- A commit that begins has picked nothing, and the journal shows no pick then.
   pub picked_then : (a : Actor) (op : Op) (work : W) (k : Known) → BeginsBy ev a op
       → (happen g x (Opens ev)).running a ≡ Some (running k work) → ((ps : List Pick) → picks_of work ≡ Some ps → ps ≡ [])
       → HasPicked g opening (happen g x (Opens ev)) (picks_of work)
@@ -139,7 +139,7 @@ module _ {W : Type 0} (is_of : Setting → Actor → W → Type 0) (running : Kn
           subst (ArePicksOf g opening (happen g x (Opens ev))) (sym (nothing ps e))
           (later_picks g opening x ev idle [] (nothing_before (begins_it ev a op begins it.0 it.1)))
 
-  -- ---- the picks that are put by as the driver begins an operation
+  -- ---- the picks put by when the driver begins an operation
 
   module _ (op : Op) (begins : BeginsBy ev Driver op) (ps : List Pick) (old : PutBy g opening x ps) where
     committing_is : is_committing ((happen g x (Opens ev)).running Driver) ≡ is_committing

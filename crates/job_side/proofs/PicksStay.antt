@@ -1,4 +1,4 @@
--- The picks of a run stay while nobody sends who picks.
+-- The picks of a run stay while no operation sends that picks.
 use Rattle.job_actor.proofs.Staying.{same_picks}
 use Rattle.job_actor.specs.Picks.{HasPicked, LeavesPicks, is_committing}
 use Rattle.job_model.specs.declared.ends.ActorEnd.{ActorEnd}
@@ -18,7 +18,7 @@ use Rattle.s3_types.specs.declared.request.Actor.{Actor}
 use Rattle.s3_types.specs.declared.request.Actor.TheVariants.{Attempt, Driver}
 use Rattle.std.proofs.Common.{Bool, List, None, Option, Some, ap, false, inl, inr, refl, subst, sym, true, ◌∙◌, ◌≡◌}
 
--- an attempt's end decides nothing of the driver's
+-- An attempt's end decides nothing about the driver's operations.
 pub decides_not : (a : Actor) (b : Bool) (e : OpEnd) (d : Decided) → (a ≡ Driver → ⊥) → decide a b e d ≡ d
 decides_not Driver b e d ne = absurd (ne refl)
 decides_not (Attempt t n) true e d ne = refl
@@ -50,7 +50,7 @@ module _ (g : Setting) (opening : Content) (x : Play) where
   picked_ended y None h = tt
   picked_ended y (Some ps) h = λ xs ahead. h xs (finished_ahead g x y xs ahead)
 
-  -- the end of what is no job's commit decides nothing of that
+  -- The end of an operation that is not the job's commit decides nothing about the commit.
   pub other_end : (y : ActorEnd) → is_commit (x.live.doing Driver) ≡ false → (happen g x (Finishes y)).live.commit ≡ x.live.commit
   other_end y c = elim (same_or_not y.actor Driver) [
     | inl is ↦ ap (λ a. decide a (is_commit (x.live.doing a)) y.end x.live.commit) is ∙ ap (λ b. decide Driver b y.end x.live.commit) c

@@ -1,4 +1,4 @@
--- The actors of a legal script stand apart, each at one place.
+-- The actors of a legal script are all different, each at one place.
 use Rattle.basics.proofs.Members.{false_true, nat_true, none_some, some_is}
 use Rattle.basics.proofs.Options.{end_of}
 use Rattle.job_model.specs.Attempts.{Declared, Who, actor_of, declares, same_name}
@@ -43,7 +43,7 @@ found_append p (x ∷ xs) ys =
       | false ↦ found_append p xs ys
     ]
 
--- a later attempt has no name that stood before
+-- A later attempt has another name than each earlier one.
 unnamed : (tasks : ℕ) (before all : List Declared) → AreAttempts tasks before all → (k : ℕ) (d : Declared) → slice_get all k ≡ Some d
     → declares before d.0 ≡ false
 unnamed tasks before [] h k d e = absurd (none_some refl e)
@@ -78,7 +78,7 @@ names_apart tasks before (a ∷ more) h (suc i) (suc j) d e p q s = ap (λ (n : 
 
 -- ---- places
 
--- behind the driver stand attempts
+-- At each place after the driver's there is an attempt.
 pub attempt_at : (w : Script) (i : ℕ) (a : Actor) → slice_get (actors w) (suc i) ≡ Some a → (d : Declared)
     × (slice_get w.attempts i ≡ Some d) × (actor_of d.0 ≡ a)
 attempt_at w i a e = map_get (λ d. actor_of d.0) w.attempts i a e

@@ -1,4 +1,4 @@
--- What a sending of a busy actor leaves of a world, whatever became of it.
+-- What a send of a busy actor leaves, whatever became of it.
 use Rattle.basics.proofs.Members.{false_true, nat_true, some_is}
 use Rattle.job_actor.specs.Acts.{ActLaws}
 use Rattle.job_actor.specs.Posting.{DueFits, Grew, Sight, sight}
@@ -32,15 +32,15 @@ use Rattle.std.proofs.Common.{Bool, Global, IsSome, List, Option, Some, Vec, ap,
 use Rattle.std.proofs.Common.{◌+◌, ◌<◌, ◌^◌, ◌∙◌, ◌≡◌, ◌≤◌}
 use Rattle.store_link.specs.Link.{LossyLink}
 
--- where one place is left out it is not sound
+-- The place that is left out is not sound.
 left_out : (place : ℕ) → all_but place place ≡ true → ⊥
 left_out place e = false_true (ap not (nat_true place place refl)) e
 
--- what a world foretells of its sendings
+-- What a body shows of its store and journal, with the fates of all sends to come.
 abbrev pub seen_of : LossyLink → Ledger → Sight
 seen_of s j = sight s.scene s.requests (λ n. Some (fate_at s.fates n)) j.entries
 
--- the store, the journal and the hand at a place alone change
+-- Only the store, the journal and the hand at this place change.
 pub posts_around : {W : Type 0} (b : Body W) (place : ℕ) (st : LossyLink) (j : Ledger) (hs : Vec (Hand W) Global)
     → ((n : ℕ) → fate_at st.fates n ≡ fate_at b.shared.store.fates n) → length hs.items ≡ length b.side.hands.items
     → ((q : ℕ) → (q ≡ place → ⊥) → slice_get hs.items q ≡ slice_get b.side.hands.items q)
@@ -58,7 +58,7 @@ posts_around b place st j hs fates places others = record {
   hands = others;
 }
 
--- as many requests were made as entries stand
+-- The store has received no more requests than the journal has entries.
 pub counted : {W : Type 0} (is_of : Setting → Actor → W → Type 0) (running : Known → W → Running) (picks_of : W → Option (List Pick))
     (b : Body W) → Holds is_of running picks_of all_sound b → b.shared.store.requests ≤ length b.shared.journal.entries
 counted is_of running picks_of b h = omega (arith, h.requests)
@@ -66,7 +66,7 @@ counted is_of running picks_of b h = omega (arith, h.requests)
 module _ {W : Type 0} (wants : W → Option Request) (tells : W → Outcome → W) (fits : W → Outcome → Type 0) (end_of : W → Option OpEnd)
     (left : W → Scene → ℕ) (is_of : Setting → Actor → W → Type 0) (running : Known → W → Running) (rise : Script → ℕ)
     (picks_of : W → Option (List Pick)) (works : WorkLaws wants tells fits end_of left is_of running rise picks_of) where
-  -- each outcome that is due to a busy actor fits
+  -- A busy actor's operation accepts each outcome that S3 may give.
   pub due_fits : (b : Body W) → Holds is_of running picks_of all_sound b → length b.shared.journal.entries < 2 ^ 62
       → (place : ℕ) (actor : Actor) → slice_get (actors b.side.script) place ≡ Some actor → (h : Hand W)
       → slice_get b.side.hands.items place ≡ Some h → Asks wants h → HandDue wants fits h b.shared.store.scene
@@ -85,7 +85,7 @@ module _ {W : Type 0} (wants : W → Option Request) (tells : W → Outcome → 
     told : (n : ℕ) → fate_at st.fates n ≡ fate_at b.shared.store.fates n
     told n = some_is (fates n)
 
-    -- nothing was sent
+    -- Nothing was sent.
     unsent_holds : j.entries ≡ b.shared.journal.entries → st.scene ≡ b.shared.store.scene → st.requests ≡ b.shared.store.requests
         → Holds is_of running picks_of (all_but place) (record b
         { side = record b.side { hands = hs }; shared = record b.shared { store = st; journal = j } })

@@ -1,4 +1,4 @@
--- What a driver is told of its tasks is what was reported.
+-- What a driver receives of its tasks is what was reported.
 use Rattle.basics.proofs.Members.{false_true, nat_true, none_some, some_is}
 use Rattle.commit_laws.specs.Fitting.{least_missing}
 use Rattle.job_actor.specs.Reports.{report_dirs}
@@ -54,7 +54,7 @@ module _ (w : Script) (n : ℕ) (a : Actor) (low : n < length w.attempts) (at : 
   pub is_declared : is_known w.attempts a ≡ true
   is_declared = ap (is_known w.attempts) actor_is ∙ declared_known w.attempts n declared.0 declared.1
 
-  -- one more attempt has reported, or not
+  -- One more attempt has reported, or has not.
   pub more_flags : (s : Kept) (flags new : List Bool) (b : Bool) → AreFlags w s n flags → ((p : Past) → Stands w s p → b ≡ p.reported a)
       → new ≡ flags ++ b ∷ [] → AreFlags w s (n + 1) new
   more_flags s flags new b h one is = record {
@@ -127,9 +127,9 @@ none_are w s shares is = record {
       (false_true is e);
 }
 
--- ---- what is told
+-- ---- what the driver receives
 
--- any other operation begins whatever is reported
+-- Any other operation begins in the same way, whatever is reported.
 starts_alike : (g : Setting) (a : Actor) (op : Op) (r t : Reports) (k : Known) → (a ≡ Driver → op ≡ Commit → ⊥)
     → start_of g a op r k ≡ start_of g a op t k
 starts_alike g Driver Commit r t k ne = absurd (ne refl refl)
@@ -158,7 +158,7 @@ module _ {W : Type 0} (b : Body W) where
       by p stands false e = commit_alone g (record { missing = least_missing b.side.script.tasks tasks; attempts = h.attempts }) e ∙ ap
           (λ m. TheCommit (commit_start b.side.script m)) (least p stands) ∙ sym (commit_alone g (reports b.side.script p.reported) e)
 
-  -- where the driver does not begin the job's commit nothing need be told
+  -- If the driver does not begin the job's commit, it needs no report.
   pub told_nothing : (a : Actor) (op : Op) (x : Reported) → (a ≡ Driver → op ≡ Commit → ⊥) → IsUntold b x → IsTold b a op x
   told_nothing a op x ne h = record {
     tells = of_tasks (least_missing b.side.script.tasks x.tasks);

@@ -1,4 +1,4 @@
--- Room is taken in a world before its next event, which changes nothing else; and why that event is refused, if it is.
+-- A body takes room before its next event, which changes nothing else; and why that event is refused, if it is.
 use Rattle.job_model.specs.Known.{Known}
 use Rattle.job_model.specs.declared.ends.EventFault.{EventFault}
 use Rattle.job_model.specs.declared.ends.Pick.{Pick}
@@ -27,7 +27,7 @@ module _ {W : Type 0} (wants : W → Option Request) (is_of : Setting → Actor 
       in
       search (ends ∙ q.holds.ends, counts, turn, finished ∙ q.holds.finished, finished ∙ q.none, q, q.holds)
 
-  -- the event is refused by what is past
+  -- The event is refused by the states that follow from the ends so far.
   pub refusal_is : (b : Body W) → Quiet wants is_of running picks_of b → (ev : Event) (o : Option EventFault)
       → ((p : Past) → Stands b.side.script b.side.states p → o ≡ refusal p.state ev)
       → refusal (past b.side.script b.side.ends.items).state ev ≡ o

@@ -1,4 +1,4 @@
--- One more entry in a side's eyes.
+-- One more entry, as a job reads it.
 use Rattle.job_spec.specs.Eyes.{entry_in, in_eyes, number_in}
 use Rattle.s3_types.specs.Foretold.{AreForetold, IsForetold}
 use Rattle.s3_types.specs.declared.fates.Fate.{Fate}
@@ -11,7 +11,7 @@ use Rattle.std.proofs.Common.{Bool, List, Option, ap, arith, cond, length, subst
 use Rattle.std.proofs.lemmas.List.{map-append}
 
 module _ (mine : ℕ → Bool) where
-  -- the next event has the next number, where it is the side's own
+  -- The next event has the next number of the job, if it is the job's own.
   pub next_number : (n : ℕ) → mine (n + 1) ≡ true → number_in mine (n + 1) ≡ number_in mine n + 1
   next_number n h =
       let e : n + 1 ≡ suc n = omega arith in
@@ -33,7 +33,7 @@ foretold_last told n (x ∷ es) e h one =
     let k : n + suc (length es) ≡ n + 1 + length es = omega arith in
     (h.0, foretold_last told (n + 1) es e h.1 (subst (λ m. IsForetold (told m) e.outcome) k one))
 
--- what is foretold alike
+-- Entries that are foretold by some fates are foretold by equal ones.
 pub foretold_as : (told new : ℕ → Option Fate) (n : ℕ) (es : List Entry) → ((m : ℕ) → new m ≡ told m) → AreForetold told n es
     → AreForetold new n es
 foretold_as told new n [] same h = tt

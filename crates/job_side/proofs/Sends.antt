@@ -1,4 +1,4 @@
--- What holds of a world where one of its busy actors has sent a request.
+-- What holds after a busy actor has sent a request.
 use Rattle.basics.proofs.Members.{false_true, true_or_false}
 use Rattle.basics.proofs.Options.{none_is, some_of}
 use Rattle.job_actor.specs.Picks.{HasPicked, LeavesPicks, is_committing, is_job_commit}
@@ -49,7 +49,7 @@ use Rattle.store_link.specs.Link.{LossyLink}
 
 -- ---- scenes
 
--- a request draws one id at most
+-- A request draws at most one upload id.
 next_of : (s : Scene) (r : Request) → (apply s r).content.next ≤ s.content.next + 1
 next_of s (ClusterPut p b) = omega arith
 next_of s (ClusterRename a b) = omega arith
@@ -69,7 +69,7 @@ scene_on opening es e =
     ap (after_all (scene_at_first opening)) (take_whole (es ++ e ∷ [])) ∙ after_parts (scene_at_first opening) es (e ∷ [])
     ∙ ap (λ fs. effect (after_all (scene_at_first opening) fs) e.request e.outcome) (sym (take_whole es))
 
--- an entry of the event that goes on is the side's own in its eyes, under its own number
+-- The job reads an entry of its event in progress as its own, under its own number.
 pub eyes_own : {W : Type 0} (b : Body W) (actor : Actor) (r : Request) (o : Outcome) → IsSome b.side.event
     → (IsSome b.side.event → IsTurn b) → number_in (is_mine b.side.others.items) b.shared.events ≡ length b.side.ends.items
     → (es : List Entry) → es ≡ b.shared.journal.entries ++ record { event = b.shared.events + 1; actor = actor; request = r; outcome = o } ∷
@@ -131,7 +131,7 @@ module _ {W : Type 0} (wants : W → Option Request) (tells : W → Outcome → 
       | inr ne ↦ (carried g b.shared.opening x h.happened).whose actor ne
     ])
 
-    -- ---- it may be sent
+    -- ---- the request may be sent
 
     module _ (busy : is_busy_at b.side.states.actors place ≡ true) (during : IsSome b.side.event) (r : Request) (o : Outcome)
         (asked : wants m ≡ Some r) (honest : IsHonestOutcome o (answer b.shared.store.scene r))
@@ -177,7 +177,7 @@ module _ {W : Type 0} (wants : W → Option Request) (tells : W → Outcome → 
             ),
           )
 
-      -- another hand that is at an operation picks what it picked
+      -- The operation in another hand has the picks that it had.
       other_picks : (a : Actor) (n : W) → (a ≡ actor → ⊥) → Here (setting_of b) b.shared.opening h.play a (At n)
           → HasPicked (setting_of b) b.shared.opening (happen (setting_of b) h.play
           (Sends (record { event = length b.side.ends.items + 1; actor = actor; request = r; outcome = o }))) (picks_of n)
@@ -214,7 +214,7 @@ module _ {W : Type 0} (wants : W → Option Request) (tells : W → Outcome → 
       })
       other_hand a Empty ne (inr n) = inr (n.0, still Driver (λ s. ne (n.0 ∙ s)) ∙ n.1)
 
-      -- ---- the side
+      -- ---- the job
 
       module _ (st : LossyLink) (j : Ledger) (hs : Vec (Hand W) Global) where
         pub sent_holds : (sound : ℕ → Bool) → j.entries ≡ b.shared.journal.entries ++ record
@@ -274,7 +274,7 @@ module _ {W : Type 0} (wants : W → Option Request) (tells : W → Outcome → 
                 (λ q a v ne s i u. other_hand a v (apart b.side.script h.legal place q actor a ne here i)
                 (h.hands q a v refl i (sym (others q ne) ∙ u)))
 
-      -- ---- what the others have left
+      -- ---- what the other actors have left
 
       rise_at : (q : ℕ) (a : Actor) (n : ℕ) → slice_get (actors b.side.script) q ≡ Some a → rise_for n a ≡ raised n q
       rise_at zero a n i = ap (rise_for n) (driver_first b.side.script a i)

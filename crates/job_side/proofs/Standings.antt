@@ -1,4 +1,4 @@
--- Who is busy, by the standings that are kept of a run.
+-- Which actors are busy, by the standings that are kept of a run.
 use Rattle.basics.proofs.Members.{false_true, nat_false, nat_true, none_or_some, true_or_false}
 use Rattle.job_model.specs.Attempts.{Declared, Who, actor_of, is_known, same_name}
 use Rattle.job_model.specs.JobScript.{Script}
@@ -24,7 +24,7 @@ placed w a i p =
     let b = there (actors w) i p.within in
     b.1 ∙ ap (λ v. Some v) (same_exact b.0 a (p.only i b.0 b.1 ∙ nat_true i i refl))
 
--- at another place stands another actor
+-- At another place there is another actor.
 pub another : (w : Script) (a : Actor) (i : ℕ) → IsPlace w a (Some i) → (j : ℕ) (b : Actor) → slice_get (actors w) j ≡ Some b → (j ≡ i → ⊥)
     → b ≡ a → ⊥
 another w a i p j b at ne e = false_true (p.only j b at ∙ nat_false i j (λ s. ne (sym s))) (same_true b a e)
@@ -37,13 +37,13 @@ named_at name (d ∷ es) h = elim (true_or_false (same_name name d.0)) [
   | inr e ↦ let t = named_at name es (rw e at h) in (suc t.0, t.1)
 ]
 
--- who is of the job has a place
+-- Each actor of the job has a place.
 pub place_known : (w : Script) (a : Actor) → is_known w.attempts a ≡ true → (i : ℕ) × (slice_get (actors w) i ≡ Some a)
 place_known w Driver h = (0, refl)
 place_known w (Attempt t n) h = let r = named_at (record { task = t; attempt = n }) w.attempts h in (suc r.0, r.1)
 place_known w Shell h = absurd (false_true refl h)
 
--- ---- who is busy
+-- ---- which actors are busy
 
 module _ (w : Script) (k : Kept) (p : Past) (s : Stands w k p) where
   pub busy_at : (q : ℕ) (a : Actor) → slice_get (actors w) q ≡ Some a → is_busy_at k.actors q ≡ is_busy (p.state a).life
@@ -59,7 +59,7 @@ module _ (w : Script) (k : Kept) (p : Past) (s : Stands w k p) where
     | inr found ↦ (found.0, found.1, sym (busy_at q found.0 found.1) ∙ busy)
   ]
 
--- the same is kept of a past of which only the number of events is another one
+-- The standings are the same for states that differ only in the number of events.
 pub same_actors : (w : Script) (k l : Kept) (p q : Past) → Stands w k p → Stands w l q → q.state ≡ p.state → q.doing ≡ p.doing
     → q.reported ≡ p.reported → l.actors ≡ k.actors
 same_actors w k l p q s t st d r =

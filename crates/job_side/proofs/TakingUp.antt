@@ -1,4 +1,4 @@
--- An actor of a world has the operation in hand that it began, which goes on or ends at once.
+-- An actor has the operation in hand that it began, which has more to send or ends at once.
 use Rattle.basics.proofs.Members.{nat_false}
 use Rattle.job_model.specs.Known.{Known}
 use Rattle.job_model.specs.declared.ends.OpEnd.{OpEnd}
@@ -19,7 +19,7 @@ use Rattle.std.proofs.Common.{Bool, List, Option, Some, ap, length, not, slice_g
 use Rattle.std.proofs.Math.ListN.{length-set}
 use Rattle.std.specs.Prelude.{Ok, Result}
 
--- a hand is written at its place
+-- A hand is written at its place.
 pub handed_at : {W : Type 0} (place : ℕ) (b c : Body W) (h k : Hand W) → c ≡ record b { side = record b.side { hands = c.side.hands } }
     → c.side.hands.items ≡ slice_set b.side.hands.items place h → place < length b.side.hands.items → h ≡ k → Handed place k b c
 handed_at place b c h k is items below same = record {
@@ -57,7 +57,7 @@ module _ {W : Type 0} (wants : W → Option Request) (end_of : W → Option OpEn
         → InHand wants is_of running picks_of place a c
     in_hand_of r is begun = in_hand (subst (Begun wants is_of running picks_of place a b) is begun)
 
--- ---- what a run of it asks
+-- ---- what its turns need
 
 pub goes_then : {W : Type 0} (place : ℕ) (a : Actor) (b : Body W) (goes_on : Bool) → goes_on ≡ true → TakenUp place a b goes_on
     → TakenUp place a b true

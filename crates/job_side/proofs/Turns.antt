@@ -1,4 +1,4 @@
--- What a turn of a busy actor of a world comes to.
+-- The result of a turn of a busy actor.
 use Rattle.basics.proofs.Members.{false_true, nat_true, same_or_not as same_number, some_is}
 use Rattle.job_actor.specs.Acts.{ActLaws}
 use Rattle.job_model.specs.JobScript.{Script}
@@ -44,16 +44,16 @@ event_kept n es e own number =
     let holds : p e ≡ true = ap (λ b. b && nat_eq e.event n) own ∙ nat_true e.event n number in
     filter-append p es (e ∷ []) ∙ ap (λ b. filter p es ++ cond b (e ∷ []) []) holds
 
--- ---- what has more to send
+-- ---- which actors have more to send
 
--- while the others have more to send
+-- If all other busy actors have more to send,
 module _ {W : Type 0} (wants : W → Option Request) (is_of : Setting → Actor → W → Type 0) (running : Known → W → Running)
     (picks_of : W → Option (List Pick)) (place : ℕ)
     (b : Body W)
     (others : (q : ℕ) (v : Hand W) → (q ≡ place → ⊥) → is_busy_at b.side.states.actors q ≡ true → slice_get b.side.hands.items q ≡ Some v
     → Asks wants v)
     (during : IsSome b.side.event) where
-  -- the actor at a place has so too
+  -- the actor at this place has more to send too,
   pub goes : (end_of : W → Option OpEnd) → ((m : W) → is_some (wants m) ≡ not (is_some (end_of m)))
       → Holds is_of running picks_of all_sound b → IsWorking place b
       → hand_end end_of (slice_get b.side.hands.items place) ≡ None → Going wants is_of running picks_of b
@@ -68,7 +68,7 @@ module _ {W : Type 0} (wants : W → Option Request) (is_of : Setting → Actor 
     during = during;
   }
 
-  -- or its operation is over
+  -- or its operation is over.
   pub goes_over : (c : Body W) (actor : Actor) (end : OpEnd) → Holds is_of running picks_of all_sound c → IsOver place actor end b c
       → Going wants is_of running picks_of c
   goes_over c actor end holds o = record {
@@ -145,7 +145,7 @@ module _ {W : Type 0} (wants : W → Option Request) (tells : W → Outcome → 
   module _ (b m : Body W) (place : ℕ) (actor : Actor) (here : slice_get (actors b.side.script) place ≡ Some actor)
       (busy : is_busy_at b.side.states.actors place ≡ true)
       (g : Going wants is_of running picks_of b) (a : Around place b m) where
-    -- what is asked of a turn
+    -- What must hold after a turn.
     abbrev pub Leaves : Body W → Turn → Type 0
     Leaves c turn = record {
       holds : Going wants is_of running picks_of c;
@@ -176,7 +176,7 @@ module _ {W : Type 0} (wants : W → Option Request) (tells : W → Outcome → 
     same_wrote : Wrote actor b m → Same b m
     same_wrote w = same_then (w.entry ∷ []) w.appended ((w.number, ap is_own w.by ∙ own_at b.side.script place actor here), tt)
 
-    -- it sent, and has more to send
+    -- It sent, and has more to send.
     pub goes_on : Holds is_of running picks_of all_sound m → Wrote actor b m → RaisedBy left rise place b m.shared.store.scene
         → FellAt left place b m → IsWorking place m
         → hand_end end_of (slice_get m.side.hands.items place) ≡ None → Leaves m GoesOn
@@ -215,7 +215,7 @@ module _ {W : Type 0} (wants : W → Option Request) (tells : W → Outcome → 
       over_then : Going wants is_of running picks_of c
       over_then = goes_over wants is_of running picks_of place m others_on (subst IsSome (sym a.event) g.during) c actor end holds o
 
-      -- it sent, and its operation ended with that
+      -- It sent, and its operation ended with that.
       pub has_ended : Wrote actor b m → RaisedBy left rise place b m.shared.store.scene → Leaves c Ended
       has_ended w raises = record {
         holds = over_then;
@@ -227,7 +227,7 @@ module _ {W : Type 0} (wants : W → Option Request) (tells : W → Outcome → 
         );
       }
 
-      -- it found no memory before it could send
+      -- Memory ran out before it could send.
       pub has_died : end ≡ NoMemory → m.shared.journal.entries ≡ b.shared.journal.entries → m.shared.store.scene ≡ b.shared.store.scene
           → Leaves c Died
       unfolding ending_of

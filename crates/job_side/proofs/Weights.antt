@@ -1,4 +1,4 @@
--- What the busy actors of a world weigh falls with each turn.
+-- The sum of the weights of the busy actors falls with each turn.
 use Rattle.basics.proofs.Members.{some_is}
 use Rattle.job_side.specs.Holds.{hand_left, is_busy_at, weight, weights}
 use Rattle.job_side.specs.Posts.{raised}
@@ -9,11 +9,11 @@ use Rattle.std.proofs.Common.{Bool, List, Some, arith, cond, false, inl, inr, le
 use Rattle.std.proofs.Common.{◌<◌, ◌∙◌, ◌∷◌, ◌≡◌, ◌≤◌, ◌⊎◌}
 use Rattle.std.proofs.Math.Nat.{mul-le-mul_left}
 
--- what one hand weighs at its place
+-- The weight of one hand at its place, or 0 if its actor is not busy.
 abbrev share : {W : Type 0} → (W → Scene → ℕ) → ℕ → Scene → List Standing → ℕ → Hand W → ℕ
 share left rise s standings place h = cond (is_busy_at standings place) (weight rise place (hand_left left s h)) 0
 
--- how a turn of the actor at a place leaves the weights of all
+-- What a turn of the actor at this place changes in the weights.
 pub record Lighter {W : Type 0} (left : W → Scene → ℕ) (rise : ℕ) (place : ℕ) (s t : Scene) (st ts : List Standing)
     (hs ks : List (Hand W)) : Type 0 where
   pub places : length ks ≡ length hs
@@ -35,7 +35,7 @@ module _ {W : Type 0} (left : W → Scene → ℕ) (rise : ℕ) (s t : Scene) (s
   abbrev new_share : ℕ → Hand W → ℕ
   new_share q h = share left rise t ts q h
 
-  -- where each weighs no more, so do all
+  -- If no hand weighs more than before, neither do all together.
   no_more : (n : ℕ) (hs ks : List (Hand W)) → length ks ≡ length hs
       → ((i q : ℕ) (h k : Hand W) → q ≡ n + i → slice_get hs i ≡ Some h → slice_get ks i ≡ Some k → new_share q k ≤ old_share q h)
       → weights left rise t ts n ks ≤ weights left rise s st n hs
@@ -47,7 +47,7 @@ module _ {W : Type 0} (left : W → Scene → ℕ) (rise : ℕ) (s t : Scene) (s
       let rest = no_more (n + 1) hs ks (omega arith) (λ i q x y at a b. each (suc i) q x y (omega (arith, at)) a b) in
       omega (arith, one, rest)
 
-  -- where the one at place p weighs less by d
+  -- If the hand at place p weighs less by d, and no other weighs more, all together weigh less by d.
   less_by : (d n p : ℕ) (hs ks : List (Hand W)) → length ks ≡ length hs → p < length hs
       → ((q : ℕ) (h k : Hand W) → q ≡ n + p → slice_get hs p ≡ Some h → slice_get ks p ≡ Some k → new_share q k + d ≤ old_share q h)
       → ((i q : ℕ) (h k : Hand W) → (i ≡ p → ⊥) → q ≡ n + i → slice_get hs i ≡ Some h → slice_get ks i ≡ Some k
@@ -69,7 +69,7 @@ module _ {W : Type 0} (left : W → Scene → ℕ) (rise : ℕ) (s t : Scene) (s
   -- ---- one hand
 
   module _ (place : ℕ) (hs ks : List (Hand W)) (l : Lighter left rise place s t st ts hs ks) where
-    -- a hand at another place
+    -- A hand at another place.
     kept_by : (q : ℕ) (b : Bool) (x y : ℕ) → (b ≡ true → x ≤ y + raised rise q)
         → cond b (weight rise q x) 0 ≤ cond b (weight rise q y) 0 + raised rise q
     kept_by zero false x y h = omega arith
@@ -91,7 +91,7 @@ module _ {W : Type 0} (left : W → Scene → ℕ) (rise : ℕ) (s t : Scene) (s
     later_share r q h k e ne a b = let g : new_share (suc q) k ≤ old_share (suc q) h + 0 = kept_share (suc q) h k ne a b in rw e
         (omega (arith, g))
 
-    -- by so much the hand of the actor whose turn it is weighs less
+    -- The hand of the actor whose turn it is weighs less by this.
     abbrev drop : ℕ → ℕ
     drop zero = 1
     drop (suc q) = rise + 1
@@ -116,9 +116,9 @@ module _ {W : Type 0} (left : W → Scene → ℕ) (rise : ℕ) (s t : Scene) (s
               [ true ↦ fell place x y (less h k a b) | false ↦ idle place y ]
         ])
 
--- ---- all of them
+-- ---- all hands
 
--- the driver's turn, and an attempt's
+-- The turn of the driver, and that of an attempt.
 pub lighter : {W : Type 0} (left : W → Scene → ℕ) (rise place : ℕ) (s t : Scene) (st ts : List Standing) (hs ks : List (Hand W))
     → Lighter left rise place s t st ts hs ks → weights left rise t ts 0 ks < weights left rise s st 0 hs
 lighter left rise zero s t st ts hs ks l =

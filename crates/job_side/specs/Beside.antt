@@ -1,4 +1,4 @@
--- Another's event beside a side.
+-- An event of another job, as this job meets it.
 use Rattle.job_facts.specs.Foreign.{IsForeign}
 use Rattle.job_model.specs.Attempts.{Who, actor_of}
 use Rattle.job_model.specs.JobScript.{Script}
@@ -18,14 +18,14 @@ use Rattle.s3_types.specs.declared.request.Actor.{Actor}
 use Rattle.s3_types.specs.declared.request.Request.{Request}
 use Rattle.std.specs.Prelude.{List, Option, Some, false, length, ℕ, [], ◌++◌, ◌+◌, ◌^◌, ◌∷◌, ◌≡◌, ◌≤◌}
 
--- these were sent in event n, one after another from a scene on: each is foreign to a job whose attempts know this, and has an answer that
--- is due
+-- The entries were sent in event n, one after another from scene s on. Each is foreign to a job whose attempts have drawn these uploads,
+-- and each outcome is one that S3 may give.
 abbrev pub AreForeign : Script → (Who → List Drawn) → ℕ → Scene → List Entry → Type 0
 AreForeign w drawn n s [] = Unit {0}
 AreForeign w drawn n s (e ∷ es) = (e.event ≡ n) × IsForeign w drawn e.request × IsHonestOutcome e.outcome (answer s e.request)
     × AreForeign w drawn n (effect s e.request e.outcome) es
 
--- an event of another was played, which leaves all of the side's own
+-- An event of the other job was played. It leaves all of this job's own as it was, and sends only what is foreign to it.
 pub record IsBeside {W : Type 0} (b c : Body W) : Type 0 where
   pub side : c.side ≡ b.side
   pub opening : c.shared.opening ≡ b.shared.opening
@@ -34,13 +34,13 @@ pub record IsBeside {W : Type 0} (b c : Body W) : Type 0 where
   pub part : List Entry
   pub appended : c.shared.journal.entries ≡ b.shared.journal.entries ++ part
   pub foreign : AreForeign b.side.script (λ a. (knows_of b (actor_of a)).drawn) (b.shared.events + 1) b.shared.store.scene part
-  -- the store is as that leaves it
+  -- The store is as these entries leave it.
   pub scene : c.shared.store.scene ≡ after_all b.shared.store.scene part
   pub requests : c.shared.store.requests ≡ length c.shared.journal.entries
   pub fated : AreForetold (λ n. Some (fate_at c.shared.store.fates n)) 1 c.shared.journal.entries
   pub few : c.shared.store.scene.content.next ≤ 2 ^ 62 + c.shared.store.requests
 
--- what a side keeps between its events it keeps beside another's
+-- What a job keeps between its events still holds after an event of the other job.
 abbrev pub RestsBeside : {W : Type 0} → (W → Option Request) → (Setting → Actor → W → Type 0) → (Known → W → Running)
     → (W → Option (List Pick)) → Type 0
 RestsBeside wants is_of running picks_of = (b c : Body _) → Quiet wants is_of running picks_of b → IsBeside b c

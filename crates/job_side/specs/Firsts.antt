@@ -1,4 +1,4 @@
--- A job, and what it stands on, before any event.
+-- A job and its store before any event.
 use Rattle.job_actor.specs.declared.plan.Plan.TheVariants.{Task}
 use Rattle.job_model.specs.JobScript.{Script}
 use Rattle.job_model.specs.Known.{Known, nothing_known}
@@ -19,11 +19,11 @@ use Rattle.s3_types.specs.declared.request.Actor.{Actor}
 use Rattle.s3_types.specs.declared.request.Request.{Request}
 use Rattle.std.specs.Prelude.{List, None, Option, false, map, ℕ, [], ◌∷◌, ◌≡◌}
 
--- the hands of a script's first attempts: each is its plan
+-- The hands of a script's attempts before any event: each has its plan.
 abbrev pub planned : {W : Type 0} → Script → ℕ → List (Hand W)
 planned w minimum = map (λ a. Plan (Task (task_of w minimum a.0 nothing_known))) w.attempts
 
--- no event of the job has happened
+-- No event of the job has happened.
 pub record IsFirstSide {W : Type 0} (minimum : ℕ) (s : Side W) : Type 0 where
   pub legal : IsLegal s.script
   pub states : Stands s.script s.states nothing_past
@@ -33,13 +33,13 @@ pub record IsFirstSide {W : Type 0} (minimum : ℕ) (s : Side W) : Type 0 where
   pub finished : s.finished.items ≡ []
   pub picks : s.picks ≡ []
 
--- nothing was sent, and the sendings are to have the script's fates
+-- Nothing was sent, and the sends get the script's fates.
 pub record IsFirstShared (w : Script) (s : Shared) : Type 0 where
   pub store : s.store ≡ record { scene = opening s.opening; fates = w.fates; requests = 0; losses = 0 }
   pub journal : s.journal.entries ≡ []
   pub events : s.events ≡ 0
 
--- nothing has happened of this script over a store with this content, and all events are the job's
+-- Nothing has happened of this script over a store with this content, and each event of the run belongs to the job.
 pub record IsBegun {W : Type 0} (wants : W → Option Request) (is_of : Setting → Actor → W → Type 0) (running : Known → W → Running)
     (picks_of : W → Option (List Pick)) (w : Script) (c : Content) (b : Body W) : Type 0 where
   pub quiet : Quiet wants is_of running picks_of b

@@ -1,4 +1,4 @@
--- What one sending of a busy actor of a world leaves.
+-- What one send of a busy actor leaves.
 use Rattle.job_actor.specs.declared.posting.Posted.{Posted}
 use Rattle.job_actor.specs.declared.posting.Posted.TheVariants.{Broken, Heard, Unsent}
 use Rattle.job_model.specs.JobScript.{Script}
@@ -14,7 +14,7 @@ use Rattle.s3_types.specs.declared.journal.Entry.{Entry}
 use Rattle.s3_types.specs.declared.request.Actor.{Actor}
 use Rattle.std.specs.Prelude.{List, Option, Some, length, slice_get, suc, true, zero, ℕ, [], ◌++◌, ◌+◌, ◌<◌, ◌∷◌, ◌≡◌, ◌≤◌}
 
--- all is as it was but the store, the journal and the hand at a place
+-- Nothing has changed but the store, the journal and the hand at this place.
 pub record Around {W : Type 0} (place : ℕ) (b c : Body W) : Type 0 where
   pub stays : Stays b c
   pub ends : c.side.ends ≡ b.side.ends
@@ -25,7 +25,7 @@ pub record Around {W : Type 0} (place : ℕ) (b c : Body W) : Type 0 where
   pub places : length c.side.hands.items ≡ length b.side.hands.items
   pub hands : (q : ℕ) → (q ≡ place → ⊥) → slice_get c.side.hands.items q ≡ slice_get b.side.hands.items q
 
--- an actor sent a request in the event that goes on, and its entry stands
+-- The actor sent a request in the event in progress, and its entry is the last of the journal.
 pub record Wrote {W : Type 0} (actor : Actor) (b c : Body W) : Type 0 where
   pub entry : Entry
   pub by : entry.actor ≡ actor
@@ -39,26 +39,26 @@ pub record Wrote {W : Type 0} (actor : Actor) (b c : Body W) : Type 0 where
         entry.outcome;
   } ∷ []
 
--- by how much another actor's request may raise what the actor at a place has left; the driver's alone rises
+-- By how much another actor's request may raise what the actor at a place has left to send: by `rise` for the driver, else by 0.
 abbrev pub raised : ℕ → ℕ → ℕ
 raised rise zero = rise
 raised rise (suc place) = 0
 
--- in this scene the busy actors beside the one at a place have no more left than that
+-- In this scene each other busy actor has at most so much more left to send than before.
 abbrev pub RaisedBy : {W : Type 0} → (W → Scene → ℕ) → (Script → ℕ) → ℕ → Body W → Scene → Type 0
 RaisedBy left rise place b s = (q : ℕ) (h : Hand _) → (q ≡ place → ⊥) → is_busy_at b.side.states.actors q ≡ true
     → slice_get b.side.hands.items q ≡ Some h → hand_left left s h ≤ hand_left left b.shared.store.scene h + raised (rise b.side.script) q
 
--- the actor at a place has less left
+-- The actor at this place has less left to send than before.
 abbrev pub FellAt : {W : Type 0} → (W → Scene → ℕ) → ℕ → Body W → Body W → Type 0
 FellAt left place b c = (h k : Hand _) → slice_get b.side.hands.items place ≡ Some h → slice_get c.side.hands.items place ≡ Some k
     → hand_left left c.shared.store.scene k < hand_left left b.shared.store.scene h
 
--- the hand is at an operation
+-- The hand at this place has an operation.
 abbrev pub IsWorking : {W : Type 0} → ℕ → Body W → Type 0
 IsWorking place b = (m : _) × (slice_get b.side.hands.items place ≡ Some (At m))
 
--- what one turn of the actor at a place leaves, by how it went
+-- What one turn of the actor at this place leaves, by how the turn went.
 abbrev pub PostedAt : {W : Type 0} → (W → Scene → ℕ) → (Setting → Actor → W → Type 0) → (Known → W → Running) → (Script → ℕ)
     → (W → Option (List Pick)) → ℕ → Actor → Body W → Body W → Posted → Type 0
 PostedAt left is_of running rise picks_of place actor b c Unsent = Holds is_of running picks_of (all_but place) c

@@ -6,25 +6,26 @@ use s3_types::Journal;
 use std::alloc::Global;
 use store_link::Lossy;
 
-/// What is a job's own. The first hand is the driver's, and then come those of the attempts in script order.
+/// The part of a run that belongs to one job. The first hand is the driver's; the hands of the
+/// attempts follow in script order.
 #[derive(Drop)]
 pub struct Side<W> {
     pub script: Script,
-    /// The numbers of those of the run's events that are not the job's.
+    /// The numbers of the run's events that belong to the other job.
     pub others: Vec<u32>,
     /// Whether another job shares the destination.
     pub shares: bool,
     pub states: States,
     pub hands: Vec<Hand<W>>,
     pub ends: Vec<EventEnd>,
-    /// The event that goes on, and the operations that ended in it.
+    /// The event in progress, and below it the operations that ended in it.
     pub event: Option<Event>,
     pub finished: Vec<ActorEnd>,
     pub picks: PickList,
 }
 
-/// What jobs over one store share: the store's content as the run began, and as it is, all that was sent, and how
-/// many events were played.
+/// What jobs over one store share: the store's content as the run began, the store as it is, the
+/// journal of all that was sent, and the number of events so far.
 #[derive(Drop)]
 pub struct Shared {
     pub alloc: Global,
@@ -34,7 +35,7 @@ pub struct Shared {
     pub events: u32,
 }
 
-/// A job, and what it stands on.
+/// A job's own part of a run, with what it shares with other jobs.
 #[derive(Drop)]
 pub struct Body<W> {
     pub side: Side<W>,

@@ -27,7 +27,7 @@ use s3_types::{Actor, Sequence, put};
 use std::alloc::{AllocError, Global};
 use std::mem;
 
-/// The end that an event has by the operations that ended in it.
+/// The end of an event, made from the operations that ended in it.
 fn taken_end(alloc: Global, finished: &mut Vec<ActorEnd>, event: Event) -> EventEnd
     requires { told event (end_of event finished.old.items) ≡ finished.old.items }
     ensures end { result ≡ end_of event finished.old.items }
@@ -44,7 +44,7 @@ fn taken_end(alloc: Global, finished: &mut Vec<ActorEnd>, event: Event) -> Event
     }
 }
 
-/// The plan that a hand has.
+/// The plan in a hand.
 fn into_plan<W: Works>(hand: Hand<W>) -> Plan
     requires { hand ≢ Empty }
     ensures { (g : Setting) (a : Actor) (k : Known) → GivesPlan W.wants W.is_of W.running g a k (Some hand)
@@ -69,7 +69,7 @@ impl<W: Works> Body<W> {
         }
     }
 
-    /// The script's next event is refused: it has that end, and nothing else changes.
+    /// Refuses the script's next event: adds the refusal as its end, and changes nothing else.
     fn refuse(&mut self, event: Event, fault: EventFault)
         requires next { Next self.old event }
         requires refused { Refuses self.old event fault }
@@ -83,7 +83,8 @@ impl<W: Works> Body<W> {
         self.shared.events += 1;
     }
 
-    /// What the event does before its requests; it goes on.
+    /// Changes the states as the event requires before its first request, and makes it the event in
+    /// progress.
     fn open(&mut self, event: Event)
         requires event { IsEvent self.old.side.script.attempts event }
         requires few { self.old.side.states.attempt < 2 ^ 32 - 1 }
@@ -93,7 +94,7 @@ impl<W: Works> Body<W> {
         self.side.event = Some(event);
     }
 
-    /// An event goes on that begins no operation, and nothing was sent in it yet.
+    /// Opens an event that begins no operation.
     fn enter(&mut self, event: Event)
         requires none { BeginsNone event }
         requires ready { MayPlay W.wants W.is_of W.running W.picks_of event self.old }
@@ -102,7 +103,7 @@ impl<W: Works> Body<W> {
         self.open(event);
     }
 
-    /// The event is over.
+    /// Ends the event in progress.
     fn close(&mut self, event: Event)
         requires now { self.old.side.event ≡ Some event }
         requires turns { ByTurns self.old event }
@@ -129,7 +130,7 @@ impl<W: Works> Body<W> {
         into_plan(mem::replace(&mut self.side.hands[place], Hand::Empty))
     }
 
-    /// Takes out what the driver has in hand, and puts by what that picked.
+    /// Takes out what the driver has in hand, and puts by its picks.
     fn put_by(&mut self, place: usize)
         requires { place < length self.old.side.hands.items }
         ensures emptied { Emptied place self.old self.new }
@@ -141,7 +142,7 @@ impl<W: Works> Body<W> {
         put(&mut self.side.picks, into_picks(hand, before));
     }
 
-    /// The driver's operation, by the job's plan, which is made anew.
+    /// The driver's operation, from a new plan of the job.
     fn driver_work(&self, op: Op) -> Result<W, AllocError>
         requires legal { IsLegal self.now.side.script }
         requires op { HasOp Driver op }
@@ -152,7 +153,7 @@ impl<W: Works> Body<W> {
         W::begin(self.shared.alloc, Plan::Job(plan), Actor::Driver, op, told)
     }
 
-    /// An attempt's operation, by its plan.
+    /// An attempt's operation, from its plan.
     fn attempt_work(&self, plan: Plan, actor: Actor, op: Op) -> Result<W, AllocError>
         requires legal { IsLegal self.now.side.script }
         requires attempt { actor ≡ Driver → ⊥ }
@@ -164,8 +165,9 @@ impl<W: Works> Body<W> {
         W::begin(self.shared.alloc, plan, actor, op, none)
     }
 
-    /// An operation that has nothing to send ends, and is told to have ended as it did; or out of memory, where a path in
-    /// its end cannot be shared. Says whether it goes on.
+    /// Ends an operation that has nothing to send. Its end is the operation's own, or NoMemory if
+    /// memory runs out while a path in the end is shared. Returns whether the operation has more to
+    /// send.
     fn goes_on(&mut self, place: usize, actor: Actor) -> bool
         requires { InHand W.wants W.is_of W.running W.picks_of place actor self.old }
         ensures going { Going W.wants W.is_of W.running W.picks_of self.new }
@@ -187,8 +189,8 @@ impl<W: Works> Body<W> {
         }
     }
 
-    /// The actor at a place has the operation in hand that it began, or is dead for want of memory. Says whether it
-    /// has more to send: an operation that has nothing to send ends at once.
+    /// Gives the actor at a place the operation that it began, or lets it die if memory ran out.
+    /// Returns whether it has more to send: an operation that has nothing to send ends at once.
     fn take_up(&mut self, place: usize, actor: Actor, work: Result<W, AllocError>) -> bool
         requires { Begun W.wants W.is_of W.running W.picks_of place actor self.old work }
         ensures going { Going W.wants W.is_of W.running W.picks_of self.new }
@@ -208,7 +210,8 @@ impl<W: Works> Body<W> {
         }
     }
 
-    /// The driver begins an operation; before that what it picked is put by.
+    /// The driver begins an operation, after its earlier picks were put by. Returns whether it has
+    /// more to send.
     fn begin_driver(&mut self, event: Event, place: usize, op: Op) -> bool
         requires begins { BeginsBy event Driver op }
         requires actor { IsPlace self.old.side.script Driver (Some place) }
@@ -222,7 +225,7 @@ impl<W: Works> Body<W> {
         self.take_up(place, Actor::Driver, work)
     }
 
-    /// An attempt begins an operation.
+    /// An attempt begins an operation. Returns whether it has more to send.
     fn begin_attempt(&mut self, event: Event, place: usize, actor: Actor, op: Op) -> bool
         requires begins { BeginsBy event actor op }
         requires attempt { actor ≡ Driver → ⊥ }
@@ -237,7 +240,7 @@ impl<W: Works> Body<W> {
         self.take_up(place, actor, work)
     }
 
-    /// An actor begins an operation. Says whether it has more to send.
+    /// An actor begins an operation. Returns whether it has more to send.
     fn begin(&mut self, event: Event, place: usize, actor: Actor, op: Op) -> bool
         requires begins { BeginsBy event actor op }
         requires actor { IsPlace self.old.side.script actor (Some place) }
@@ -250,7 +253,7 @@ impl<W: Works> Body<W> {
         }
     }
 
-    /// Where the actor at a place has more to send, it has turns until its operation ends.
+    /// Gives the actor at a place turns until its operation ends, if it has more to send.
     fn carry_on(&mut self, place: usize, actor: Actor, goes_on: bool)
         requires actor { IsPlace self.old.side.script actor (Some place) }
         requires taken { TakenUp place actor self.old goes_on }
@@ -265,7 +268,7 @@ impl<W: Works> Body<W> {
         }
     }
 
-    /// An actor begins an operation, and has turns until it ends.
+    /// An actor begins an operation and has turns until the operation ends.
     fn do_event(&mut self, event: Event, actor: Actor, op: Op)
         requires is { event ≡ Event.Do actor op }
         requires ready { MayPlay W.wants W.is_of W.running W.picks_of event self.old }
@@ -277,7 +280,7 @@ impl<W: Works> Body<W> {
         self.close(event);
     }
 
-    /// An actor begins an operation, and has no turn yet.
+    /// An actor begins an operation and has no turn yet.
     fn start_event(&mut self, event: Event, actor: Actor, op: Op)
         requires is { event ≡ Event.Start actor op }
         requires ready { MayPlay W.wants W.is_of W.running W.picks_of event self.old }
@@ -300,7 +303,7 @@ impl<W: Works> Body<W> {
         self.close(event);
     }
 
-    /// A busy actor has up to so many turns.
+    /// A busy actor has at most `count` turns.
     fn step_event(&mut self, event: Event, actor: Actor, count: u32)
         requires is { event ≡ Event.Step actor count }
         requires ready { MayPlay W.wants W.is_of W.running W.picks_of event self.old }
@@ -312,7 +315,7 @@ impl<W: Works> Body<W> {
         self.close(event);
     }
 
-    /// An event that moves nobody: a kill or a restart.
+    /// An event in which nobody sends: a kill, a restart or a recovery.
     fn still_event(&mut self, event: Event)
         requires still { IsStill event }
         requires ready { MayPlay W.wants W.is_of W.running W.picks_of event self.old }
@@ -322,7 +325,7 @@ impl<W: Works> Body<W> {
         self.close(event);
     }
 
-    /// The busy actors, at these places, have turns as the seed chooses until none is busy.
+    /// The busy actors, at the places `busy`, have turns as the seed chooses, until none is busy.
     fn mix_event(&mut self, event: Event, seed: u32, busy: Vec<usize>)
         requires is { event ≡ Event.Mix seed }
         requires busy { AreBusy self.old busy.items }
@@ -334,7 +337,7 @@ impl<W: Works> Body<W> {
         self.close(event);
     }
 
-    /// The script's next event, which is not refused.
+    /// Plays the script's next event, which is not refused.
     fn play(&mut self, event: Event) -> Result<(), AllocError>
         requires { MayPlay W.wants W.is_of W.running W.picks_of event self.old }
         ensures quiet { Quiet W.wants W.is_of W.running W.picks_of self.new }
@@ -357,7 +360,7 @@ impl<W: Works> Body<W> {
         Ok(())
     }
 
-    /// Takes room for the event's end, and for the ends of all actors' operations.
+    /// Makes room for the event's end, and for the ends of all actors' operations.
     fn make_room(&mut self) -> Result<(), AllocError>
         requires quiet { Quiet W.wants W.is_of W.running W.picks_of self.old }
         ensures quiet { Quiet W.wants W.is_of W.running W.picks_of self.new }
@@ -368,7 +371,8 @@ impl<W: Works> Body<W> {
         self.side.finished.reserve(self.side.hands.len())
     }
 
-    /// What holds of a job between its events, whoever else sends between them. Does nothing.
+    /// Proves what holds of a job between its events, whoever else sends between them. Does
+    /// nothing.
     pub fn keeps(&self)
         requires { Quiet W.wants W.is_of W.running W.picks_of self.now }
         ensures { KeptAmong (setting_of self.now) self.now.shared.opening (seen_by self.now)
@@ -377,13 +381,14 @@ impl<W: Works> Body<W> {
         W::laws();
     }
 
-    /// What a job keeps beside another's event. Does nothing.
+    /// Proves that a job keeps what it keeps while another job's event is played. Does nothing.
     pub fn beside()
         ensures { RestsBeside W.wants W.is_of W.running W.picks_of }
     {}
 
-    /// The script's next event. What it takes of memory for itself it takes before anything happens; after want
-    /// of that all is as before.
+    /// Plays the script's next event, which may end as refused. It takes its own memory before
+    /// anything happens. If there is none, it fails with AllocError, and only spare room has
+    /// changed.
     pub fn event(&mut self, event: Event) -> Result<(), AllocError>
         requires next { Next self.old event }
         requires turn { IsTurn self.old }

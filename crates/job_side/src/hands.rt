@@ -1,12 +1,12 @@
 use job_actor::Plan;
 
-/// What an actor of a world has in hand.
+/// What an actor has in hand.
 #[derive(Drop)]
 pub enum Hand<W> {
-    /// Its plan, while it is at nothing.
+    /// The actor's plan, while the actor is idle.
     Plan(Plan),
-    /// The operation that it began last.
+    /// The operation that the actor began last.
     At(W),
-    /// Nothing: it is dead, or is given a new plan when it begins something.
+    /// Nothing: the actor is dead, or gets a new plan when it begins an operation.
     Empty,
 }

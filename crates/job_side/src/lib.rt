@@ -1,15 +1,21 @@
-//! One job's side of a run: its driver and its attempts, the events of its script that move them, and what they
-//! share with whoever else stands on the same store.
+//! One job's part of a run: its driver, its attempts and the events of its script, and what the job
+//! shares with another job over the same store.
 //!
 //! # What is proved
 //!
-//! `Body`: A job's own (`Side`) and what jobs over one store share (`Shared`), for every `Works`. `event` plays the
-//! script's next event: whatever was lost and wherever memory ran out, all that happened was allowed
-//! (`Quiet`), the event has its end and each entry that it sent has its number in the run (`Grown`); or
-//! nothing but room was taken (`IsAsBefore`). All is told in the side's eyes, in which what another's event
-//! sends is a stranger's. Where the destination is shared the driver begins its commit by what the reported
-//! attempts wrote (`IsTold`). `keeps`: between its events what no stranger breaks holds of the job (`KeptAmong`).
-//! `beside`: an event of another that sends what is foreign to the job leaves that (`RestsBeside`).
+//! `Body` is a job's own (`Side`) with what jobs over one store share (`Shared`). It is generic
+//! over the operations of the actors (`Works`). All is said of the journal as this job reads it, in
+//! which a request of another job is a stranger's.
+//!
+//! - `event` plays the script's next event. Whatever is lost and wherever memory runs out, all that
+//!   happens is allowed (`Quiet`). The event gets its end, and each entry that it adds has the
+//!   event's number in the run (`Grown`). If memory runs out before it, nothing but spare room has
+//!   changed (`IsAsBefore`).
+//! - If another job shares the destination, the driver begins its commit with the partitions that
+//!   the reported attempts write (`IsTold`).
+//! - `keeps`: between its events, what no stranger breaks holds of the job (`KeptAmong`).
+//! - `beside`: an event of another job keeps that, if it sends only requests that are foreign to
+//!   the job (`RestsBeside`).
 #![tactic(auto)]
 
 mod body;

@@ -6,7 +6,7 @@ use job_actor::Works;
 use job_model::PickList;
 use s3_types::let_go;
 
-/// The picks that a hand has, or else those that were put by.
+/// The picks of the operation in hand, or those put by earlier if the hand has none.
 pub fn picks_in<'a, W: Works>(hand: &'a Hand<W>, put_by: &'a PickList) -> &'a PickList
     ensures { result.now ≡ picks_in W.picks_of put_by.now (Some hand.now) }
 {
@@ -19,7 +19,7 @@ pub fn picks_in<'a, W: Works>(hand: &'a Hand<W>, put_by: &'a PickList) -> &'a Pi
     }
 }
 
-/// Gives them.
+/// Turns a hand and the picks put by earlier into the picks that `picks_in` shows.
 pub fn into_picks<W: Works>(hand: Hand<W>, put_by: PickList) -> PickList
     ensures { result ≡ picks_in W.picks_of put_by (Some hand) }
 {

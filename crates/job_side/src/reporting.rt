@@ -11,7 +11,7 @@ use job_states::States;
 use s3_types::{Sequence, TextList};
 use std::alloc::{AllocError, Global};
 
-/// Which of a script's attempts have reported since the last restart, in script order.
+/// For each attempt, in script order: whether it has reported since the last restart.
 fn reported_flags(alloc: Global, script: &Script, states: &States) -> Result<Vec<bool>, AllocError>
     ensures { IfOk result (λ flags. AreFlags script.now states.now (length script.now.attempts) flags.items) }
 {
@@ -24,8 +24,8 @@ fn reported_flags(alloc: Global, script: &Script, states: &States) -> Result<Vec
 }
 
 impl<W: Drop> Body<W> {
-    /// The partitions of the files of all attempts that have reported; none where the job is alone at its
-    /// destination.
+    /// The partitions of the files of all attempts that have reported, or None if no other job
+    /// shares the destination.
     fn reported_dirs(&self) -> Result<Option<TextList>, AllocError>
         ensures { IfOk result (ArePartitions self.now.side.shares self.now.side.script self.now.side.states) }
     {
@@ -38,7 +38,8 @@ impl<W: Drop> Body<W> {
         Ok(Some(dirs))
     }
 
-    /// Nothing is told of the tasks.
+    /// A report without any task; its list of partitions is empty, or None if no other job shares
+    /// the destination.
     pub fn untold(&self) -> Reported
         ensures { IsUntold self.now result }
     {
@@ -54,8 +55,9 @@ impl<W: Drop> Body<W> {
         }
     }
 
-    /// What the driver is told of its tasks, where it begins this operation: of the job's commit, which are
-    /// reported.
+    /// What the driver receives of its tasks when it begins this operation. For the job's commit,
+    /// these are the tasks that have reported, and their partitions if another job shares the
+    /// destination.
     pub fn told(&self, op: Op) -> Result<Reported, AllocError>
         ensures { IfOk result (IsTold self.now Driver op) }
     {

@@ -9,7 +9,7 @@ use job_model::Script;
 use s3_types::{Actor, Journal, ObjectStore};
 use std::alloc::Global;
 
-/// The actor at a place: 0 the driver's, and then those of the attempts in script order.
+/// The actor at a place: the driver at 0, then the attempts in script order.
 pub fn actor_at(script: &Script, place: usize) -> Actor
     requires { place < length (actors script.now) }
     ensures { slice_get (actors script.now) place ≡ Some result }
@@ -20,7 +20,7 @@ pub fn actor_at(script: &Script, place: usize) -> Actor
     }
 }
 
-/// Sends the request that a hand asks once, and tells it the outcome.
+/// Sends the request of the operation in hand once, and reports the outcome to it.
 pub fn post_hand<W: Acts, S: ObjectStore>(
     alloc: Global,
     store: &mut S,

@@ -15,8 +15,8 @@ use s3_types::{Journal, both, let_go};
 use std::alloc::{AllocError, Global};
 use store_link::{Lossy, MemStore};
 
-/// What a script's actors have in hand before any event: the driver nothing, and each attempt its plan. The
-/// minimum is the store's, in bytes.
+/// What a script's actors have in hand before any event: the driver nothing, each attempt its plan.
+/// `minimum` is the store's least size of a part, in bytes.
 fn first_hands<W: Drop>(
     alloc: Global,
     script: &Script,
@@ -35,7 +35,8 @@ fn first_hands<W: Drop>(
     Ok(hands)
 }
 
-/// A store with the same content, of which no request was made, and whose sendings have the script's fates.
+/// A store with the same content that has received no request, and whose sends get the script's
+/// fates.
 fn first_store(alloc: Global, script: &Script, service: &Service) -> Result<Lossy, AllocError>
     requires few { service.now.next ≤ 2 ^ 62 }
     ensures { IfOk result (λ store. store ≡ record {
@@ -51,8 +52,10 @@ fn first_store(alloc: Global, script: &Script, service: &Service) -> Result<Loss
 }
 
 impl<W: Drop> Side<W> {
-    /// No event of the script has happened yet; those of the run with these numbers are to be another's, who may
-    /// share the destination. The minimum is the store's, in bytes. AllocError comes where memory ran out alone.
+    /// A side in which no event of the script has happened. `others` has the numbers of the run's
+    /// events that belong to the other job; `shares` says whether that job has the same
+    /// destination. `minimum` is the store's least size of a part, in bytes. Fails with AllocError
+    /// only if memory runs out.
     pub fn new(
         alloc: Global,
         script: Script,
@@ -90,8 +93,8 @@ impl<W: Drop> Side<W> {
 }
 
 impl Shared {
-    /// Nothing was sent yet, and the sendings are to have the script's fates. The store's content is copied.
-    /// AllocError comes where memory ran out alone.
+    /// A copy of the store to which nothing was sent yet, and whose sends get the script's fates.
+    /// Fails with AllocError only if memory runs out.
     pub fn new(alloc: Global, script: &Script, service: Service) -> Result<Shared, AllocError>
         requires few { service.next ≤ 2 ^ 62 }
         ensures opening { IfOk result (λ shared. shared.opening ≡ service) }
@@ -112,7 +115,8 @@ impl Shared {
 }
 
 impl<W: Works> Body<W> {
-    /// Nothing has happened yet, and all events are to be the job's. AllocError comes where memory ran out alone.
+    /// A body in which nothing has happened yet, and in which every event belongs to the job. Fails
+    /// with AllocError only if memory runs out.
     pub fn new(alloc: Global, script: Script, service: Service) -> Result<Body<W>, AllocError>
         requires few { service.next ≤ 2 ^ 62 }
         ensures { IfOk result (IsBegun W.wants W.is_of W.running W.picks_of script service) }

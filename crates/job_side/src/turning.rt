@@ -15,7 +15,7 @@ use job_states::{Actors, Turn};
 use s3_types::{Actor, put};
 use std::alloc::AllocError;
 
-/// Tells that an operation ended, where there is room for that.
+/// Adds the end of an operation to the list, which has room for it.
 fn tell_end(finished: &mut Vec<ActorEnd>, ended: ActorEnd)
     requires { vec_len finished.old < vec_capacity finished.old }
     ensures items { finished.new.items ≡ finished.old.items ++ ended ∷ [] }
@@ -35,7 +35,7 @@ impl<W: Works> Body<W> {
             result }
     {
         W::laws();
-        // Fewer than 2^62 entries stand in a journal.
+        // A journal has fewer than 2^62 entries.
         let _ = self.shared.journal.len();
         let event = self.shared.events + 1;
         let hand = &mut self.side.hands[place];
@@ -49,8 +49,8 @@ impl<W: Works> Body<W> {
         )
     }
 
-    /// How what the actor at a place has in hand ended, or None while it has more to send. A path in the end is
-    /// shared, and an error comes only where there is one.
+    /// How the operation of the actor at a place ended, or None while it has more to send. The copy
+    /// of the end shares the path in it. Fails with AllocError only if the end has a path.
     pub fn end_at(&self, place: usize) -> Result<Option<OpEnd>, AllocError>
         ensures ok { IfOk result (λ end. end ≡ hand_end W.end_of (slice_get self.now.side.hands.items place)) }
         ensures err { OnErr result (ends_with_path (hand_end W.end_of (slice_get self.now.side.hands.items place)) ≡ true) }
@@ -61,7 +61,7 @@ impl<W: Works> Body<W> {
         }
     }
 
-    /// The operation of a busy actor ended so. Takes no memory.
+    /// Ends the operation of a busy actor with this end. Takes no memory.
     pub fn over(&mut self, place: usize, actor: Actor, end: OpEnd)
         requires actor { slice_get (actors self.old.side.script) place ≡ Some actor }
         requires busy { is_busy_at self.old.side.states.actors place ≡ true }
@@ -79,8 +79,8 @@ impl<W: Works> Body<W> {
         tell_end(&mut self.side.finished, ended);
     }
 
-    /// The operation of a busy actor ended for want of memory, whatever it has in hand, and it is dead. Takes no
-    /// memory.
+    /// Ends the operation of a busy actor with NoMemory, whatever it has in hand; the actor is
+    /// dead. Takes no memory.
     pub fn die(&mut self, place: usize, actor: Actor)
         requires actor { slice_get (actors self.old.side.script) place ≡ Some actor }
         requires busy { is_busy_at self.old.side.states.actors place ≡ true }

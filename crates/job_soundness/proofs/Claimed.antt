@@ -1,4 +1,4 @@
--- What a script's claim says of its files is what the job's picks want, and what the conflict mode keeps.
+-- What the claim of a script says of its files is what the job's picks want and what the conflict mode keeps.
 use Rattle.basics.proofs.Members.{false_true, in_append, in_back, in_front, in_map, map_in, none_or_some, none_some, same_or_not, some_is}
 use Rattle.basics.proofs.Members.{text_is, true_or_false}
 use Rattle.basics.specs.Members.{IsIn}
@@ -76,14 +76,14 @@ zip_more R [] (b ∷ ys) x y h r = absurd h
 zip_more R (a ∷ xs) [] x y h r = absurd h
 zip_more R (a ∷ xs) (b ∷ ys) x y h r = (h.0, zip_more R xs ys x y h.1 r)
 
--- one more attempt takes none away
+-- One more attempt takes none away.
 kept_in : (w : Script) (fs : List File) (d : Declared) (all : List Declared) (b : Bool)
     → IsIn (placed w.unique w.job fs) (map (λ (d : Declared). placed w.unique w.job d.1) all)
     → IsIn (placed w.unique w.job fs) (map (λ (d : Declared). placed w.unique w.job d.1) (cond b (d ∷ all) all))
 kept_in w fs d all true i = inr i
 kept_in w fs d all false i = i
 
--- the files of a declared attempt
+-- The files of a declared attempt are among the attempts of its task.
 declared_files : (w : Script) (t a : ℕ) (all : List Declared) (fs : List File) → lookup (same_name (record {
   task = t;
   attempt =
@@ -102,7 +102,7 @@ declared_files w t a (d ∷ all) fs h = elim (true_or_false (same_name (record {
       (λ b. cond b (Some d.1) (lookup (same_name (record { task = t; attempt = a })) all)) (sym e) ∙ h))
 ]
 
--- each pick is of a declared attempt
+-- Each pick is of a declared attempt.
 abbrev pub AreDeclared : Script → Picks → Type 0
 AreDeclared w picks = (t a : ℕ) → picks t ≡ Some a → declares w.attempts (record { task = t; attempt = a }) ≡ true
 
@@ -138,7 +138,7 @@ not_empty : (d : List ℕ) (y : ℕ) → with_byte y (d ++ 47 ∷ []) ≡ y ∷ 
 not_empty [] y = refl
 not_empty (x ∷ d) y = refl
 
--- the parent directory of a path, as the conflict modes have it, with its `/`
+-- The parent directory of a path with its `/`, as the conflict modes have it; empty if there is none.
 abbrev ended : Option (List ℕ) → List ℕ
 ended None = []
 ended (Some d) = d ++ 47 ∷ []
@@ -166,7 +166,7 @@ directory_is : (p : List ℕ) → directory p ≡ ended (dir_of p)
 directory_is [] = refl
 directory_is (x ∷ p) = ap (with_byte x) (directory_is p) ∙ from_step x p (dir_of p)
 
--- a path is below it
+-- If a path is below such a directory, there is one, and the path begins with it.
 below_is : (o : Option (List ℕ)) (q : List ℕ) → is_below (ended o) q ≡ true → (d : List ℕ) × (o ≡ Some d) × (begins (d ++ 47 ∷ []) q ≡ true)
 below_is None q h = absurd (false_true refl h)
 below_is (Some d) q h = (d, refl, sym (begins_is (d ++ 47 ∷ []) q) ∙ sym (below_some d q) ∙ h)
@@ -181,7 +181,7 @@ below_back (x ∷ d) q h = begins_is (x ∷ (d ++ 47 ∷ [])) q ∙ h
 
 -- ---- the partitions of wanted paths
 
--- some element passes a test
+-- If some element passes a test, one can be named.
 any_some : {X : Type 0} (test : X → Bool) (xs : List X) → list_any test xs ≡ true → (x : X) × IsIn x xs × (test x ≡ true)
 any_some test [] h = absurd (false_true refl h)
 any_some test (x ∷ xs) h = elim (true_or_false (test x)) [
@@ -232,7 +232,7 @@ module _ (w : Script) where
     | inr new ↦ elim new [ inl e ↦ (n, omega arith, e) | inr none ↦ absurd none ]
   ]
 
--- the picked attempt's files reach what each attempt of its task reaches
+-- The files of the picked attempt reach what each attempt of the task reaches.
 always_some : (q : List ℕ) (task : Attempts (List ℕ)) (fs : Files (List ℕ)) → always_reaches q task ≡ true → IsIn fs task
     → (f : File) × IsIn f fs × (is_below (directory f.0) q ≡ true)
 always_some q [] fs h i = absurd i

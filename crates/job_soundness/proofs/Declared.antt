@@ -26,13 +26,13 @@ use Rattle.s3_types.specs.declared.request.Actor.TheVariants.{Attempt, Driver}
 use Rattle.std.proofs.Common.{List, Some, ap, arith, inl, inr, length, refl, subst, sym, true, ℕ, [], ◌++◌, ◌∙◌, ◌∷◌, ◌≡◌, ◌⊎◌}
 use Rattle.std.proofs.lemmas.Bool.Decides.{nat_tests}
 
--- ---- who is busy is of the job
+-- ---- each busy actor is one of the job's
 
 abbrev KnownBusy : List Declared → Past → Type 0
 KnownBusy all p = (a : Actor) → is_busy (p.state a).life ≡ true → is_known all a ≡ true
 
 module _ (all : List Declared) (p : Past) (old : KnownBusy all p) where
-  -- who is given a state is of the job where that is busy
+  -- If one actor gets a state, and is one of the job's if it is busy then, each busy actor is one of the job's.
   put_known : (a : Actor) (s : ActorState) → (is_busy s.life ≡ true → is_known all a ≡ true) → (b : Actor)
       → is_busy (put p.state a s b).life ≡ true → is_known all b ≡ true
   put_known a s here b = one_put (λ (v : ActorState). is_busy v.life ≡ true
@@ -49,7 +49,7 @@ module _ (all : List Declared) (p : Past) (old : KnownBusy all p) where
   end_known y = put_known y.actor (ended y.end (p.state y.actor).stage) (λ b. absurd (false_true (ended_idle y.end
       (p.state y.actor).stage) b))
 
--- so is who sent an entry of the job
+-- Each sender of an entry of the job is one of its actors too.
 abbrev KnownSent : List Declared → List Entry → Type 0
 KnownSent all es = (e : Entry) → IsIn e es → is_own e.actor ≡ true → is_known all e.actor ≡ true
 
@@ -98,7 +98,7 @@ module _ (g : Setting) (opening : Content) (legal : IsLegal g.script) where
   known_all x nothing_happened = record { busy = λ a busy. absurd (false_true refl busy); sent = λ e i. absurd i }
   known_all x (happens y h before ok) = known_more y h before ok (known_all y before)
 
--- ---- so is each choice
+-- ---- each choice is of a declared attempt
 
 module _ (w : Script) (k : Times) where
   see_last : (s : Seen) (e : Entry) (t a : ℕ) → (see w k s e).last t ≡ Some a → (s.last t ≡ Some a) ⊎ (e.actor ≡ Attempt t a)

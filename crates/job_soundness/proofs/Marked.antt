@@ -1,4 +1,4 @@
--- Once the job's commit has begun, no success marker exists but one that the job has put: its set-up has deleted the old one.
+-- Once the job's commit has begun, no success marker exists unless the job has put it: its set-up has deleted the old one.
 use Rattle.basics.proofs.Members.{false_true, none_some, same_or_other, some_is, text_gone, text_true, true_or_false}
 use Rattle.job_facts.proofs.Aborting.{taken_in}
 use Rattle.job_facts.proofs.Cleaning.{clean_hides}
@@ -66,17 +66,17 @@ use Rattle.std.specs.FinMap as fin
 use Rattle.job_model.specs.declared.ends.SetupEnd.TheVariants as setups
 
 module _ (w : Script) where
-  -- no success marker exists
+  -- No success marker exists.
   abbrev pub NoMark : Scene → Type 0
   NoMark s = at_key w s.content (success_key w.dest.key) ≡ None
 
-  -- a set-up has deleted it once it sweeps, or where it ended Done
+  -- A set-up has deleted the marker once it sweeps, and if it ended Done.
   abbrev AfterSetup : Setup → Scene → Type 0
   AfterSetup (Sweeping t) s = NoMark s
   AfterSetup (SetupOver setups.Done) s = NoMark s
   AfterSetup _ s = Unit {0}
 
-  -- from then on it exists only where the job puts it
+  -- From then on the marker exists only if the job has put it.
   abbrev Clears : Option Operation → Seen → Type 0
   Clears None s = Unit {0}
   Clears (Some (TheSetup t)) s = AfterSetup t.operation s.scene
@@ -104,7 +104,7 @@ module _ (w : Script) where
     abbrev mark : List ℕ
     mark = success_key w.dest.key
 
-    -- what hides all that it changes leaves the marker
+    -- A request that changes only keys in the job's magic directory puts no success marker.
     hidden_mark : HasBucket s.content w.dest.bucket → (r : Request) → HidesAll w r → (o : Outcome) → NoMark s → NoMark (effect s r o)
     hidden_mark there r h o none = hidden_same w s there r h o mark (key_magic w.dest.key w.job SuccessPlace (some_dest j) tt) ∙ none
 
@@ -163,7 +163,7 @@ module _ (g : Setting) (k : Times) (opening : Content) (j : IsLegal g.script) (i
     unput : u.put_mark ≡ false → x.seen.put_mark ≡ false
     unput h = elim (true_or_false x.seen.put_mark) [ inl e ↦ absurd (false_true h (mark_stays v k x.seen n r e o)) | inr e ↦ e ]
 
-    -- by what it leaves where the job has not put it
+    -- The entry leaves no marker, if the job has not put one.
     leaves_by : (NoMark v x.seen.scene → NoMark v (effect x.seen.scene r o)) → (x.seen.put_mark ≡ false → NoMark v x.seen.scene)
         → u.put_mark ≡ false → NoMark v u.scene
     leaves_by go old put = subst (NoMark v) (sym scene_is) (go (old (unput put)))
@@ -326,7 +326,7 @@ module _ (g : Setting) (k : Times) (opening : Content) (j : IsLegal g.script) (i
     | inr l ↦ at_clears x.driver x.seen x.told l.driver (clears es x run own) put
   ]
 
-  -- at each moment of a run of the job's actors alone
+  -- At each moment of a run in which only the job's actors send.
   pub no_old : (es : List Entry) (x : Stand) → Runs g k opening es x → AreOwn es → (m : ℕ) → (seen v k opening es m).begun ≡ true
       → (seen v k opening es m).put_mark ≡ false → NoMark v (seen v k opening es m).scene
   no_old es x run own m begun put =

@@ -39,7 +39,7 @@ use Rattle.std.specs.List.{All}
 use Rattle.std.specs.Prelude.{is_some}
 use Rattle.soundness.specs.declared.marker.Marker.TheVariants as markers
 
--- what holds of each moment holds of the moments
+-- What holds of the state after each number of entries holds of all moments.
 each_moment : (w : Script) (k : Times) (opening : Content) (es : List Entry) (P : Moment (List ℕ) → Type 0) (n : ℕ) → ((m : ℕ) → m ≤ n
     → P (moment_of w (seen w k opening es m))) → All P (moments_to w k opening es n)
 each_moment w k opening es P zero h = All-push P [] (moment_of w (seen w k opening es 0)) (λ i d l. absurd (omega (arith, l))) (h 0
@@ -64,7 +64,7 @@ module _ (w : Script) (opening : Content) (s : Seen) (kept : Kept w opening s) w
   abbrev first : Shown (List ℕ)
   first = shown w.dest opening
 
-  -- where the views show the same, readers see the same
+  -- If two views are the same, readers see the same.
   same_shown : ((p : List ℕ) → view w.dest s.scene.content p ≡ view w.dest opening p) → (p : List ℕ) → now p ≡ first p
   same_shown h p = shown_is w.dest s.scene.content p ∙ ap (λ v. cond (is_visible p) v None) (h p) ∙ sym (shown_is w.dest opening p)
 
@@ -80,7 +80,7 @@ module _ (w : Script) (opening : Content) (s : Seen) (kept : Kept w opening s) w
     unmarked = λ new. (let whole = kept.whole (new_put there s.put_mark new) in false_true e (rw (whole.picked, whole.apart) refl));
   }
 
-  -- at a visible path readers see what the view shows
+  -- What readers see at a path is what the view has there, and the path is visible.
   visible_some : (c : Content) (p x : List ℕ) → shown w.dest c p ≡ Some x → (is_visible p ≡ true) × (view w.dest c p ≡ Some x)
   visible_some c p x e = elim (true_or_false (is_visible p)) [
     | inl v ↦ (v, sym (ap (λ b. cond b (view w.dest c p) None) v) ∙ sym (shown_is w.dest c p) ∙ e)
@@ -90,7 +90,7 @@ module _ (w : Script) (opening : Content) (s : Seen) (kept : Kept w opening s) w
   visible_is : (c : Content) (p : List ℕ) → is_visible p ≡ true → shown w.dest c p ≡ view w.dest c p
   visible_is c p v = shown_is w.dest c p ∙ ap (λ b. cond b (view w.dest c p) None) v
 
-  -- with the picks that are decided at the end
+  -- With the picks that are decided at the end.
   module _ (j : IsLegal w) (picks : Picks) (are : AreDeclared w picks) (decided : is_decided w picks ≡ true)
       (settled : is_decided w s.picks ≡ true → picks ≡ s.picks)
       (no_old : s.begun ≡ true → s.put_mark ≡ false → at_key w s.scene.content (success_key w.dest.key) ≡ None) where
@@ -189,7 +189,7 @@ module _ (g : Setting) (opening : Content) (x : Play) (j : IsLegal g.script) (is
   kept : (m : ℕ) → m ≤ length x.journal → Kept v opening (at m)
   kept = always g k opening j is x.journal r.stand r.runs own
 
-  -- what is seen at the end
+  -- What the whole journal shows is the state at its end.
   end_is : r.stand.seen ≡ at (length x.journal)
   end_is = sees g k opening j is x.journal r.stand r.runs ∙ ap (see_all v k (nothing_seen opening)) (sym (take_all x.journal
       (length x.journal) (omega arith)))

@@ -32,7 +32,7 @@ use Rattle.std.proofs.lemmas.List.{take-append-le}
 use Rattle.twin_facts.proofs.OneSide.{picks_still, unread_picks}
 use Rattle.twin_facts.proofs.Progress.{Committing, committing, undecided}
 
--- an entry changes no choice that is complete
+-- An entry changes no choice that is complete.
 abbrev Steady : Script → Seen → Seen → Type 0
 Steady w s u = (u.picks ≡ s.picks) ⊎ (is_decided w s.picks ≡ false)
 
@@ -46,7 +46,7 @@ module _ (g : Setting) (k : Times) (opening : Content) (j : IsLegal g.script) (i
   commit_steady x n r o (Fetching sets m) i e = inr (undecided w x.seen.picks sets i.alone.decides i.unread)
   commit_steady x n r o c i e = inl (unread_picks w k x.seen n r (commit_unread w g.minimum x.told c refl i.alone.decides r e) o)
 
-  -- nobody but the driver's own operations is at its place
+  -- The facts hold of the operation that the driver is running, or its set-up is not done yet.
   no_other : (x : Stand) (op : Operation) → Early g opening x ⊎ Late g opening x → x.driver ≡ Some op
       → At g opening (Some op) x.seen x.told ⊎ Early g opening x
   no_other x op (inl e) d = inr e

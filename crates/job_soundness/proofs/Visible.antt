@@ -23,7 +23,7 @@ use Rattle.std.proofs.lemmas.Bool.{and_parts, false≢true, not-true, or_parts}
 use Rattle.std.proofs.lemmas.Bool.Decides.{nat_tests}
 use Rattle.std.specs.List.{list_any}
 
--- ---- a visible path is a file's
+-- ---- a visible path is that of a file
 
 visible_no_folder : (b : Bool) (x : ℕ) (p : List ℕ) → is_visible_from b (x ∷ p) ≡ true → is_folder (x ∷ p) ≡ false
 visible_no_folder b x [] h = not-true (x == 47) (and_parts (not (b && hides x)) (not (x == 47)) h).1
@@ -37,7 +37,7 @@ visible_file (x ∷ p) h =
     let turned : nat_eq 95 x ≡ false = grind (arith, nat_tests) in
     rw (visible_no_folder true x p h, turned, same) refl
 
--- what readers see is what the view shows there
+-- What readers see at a visible path is what the view has there.
 pub shown_is : (dest : Path) (c : Content) (p : List ℕ) → shown dest c p ≡ cond (is_visible p) (view dest c p) None
 shown_is dest c p = elim (true_or_false (is_visible p)) [
   | inr e ↦ rw e refl
@@ -54,7 +54,7 @@ not_nil : (part : List ℕ) (x : ℕ) → is_nil (part ++ x ∷ []) ≡ false
 not_nil [] x = refl
 not_nil (y ∷ part) x = refl
 
--- the first part of a text of which none begins hidden does not
+-- If no part of a text begins as a hidden name does, the text does not begin so.
 first_part : (x : ℕ) (part p : List ℕ) → list_any begins_hidden (parts_from 47 (x ∷ part) p) ≡ false → (nat_eq x 95 || nat_eq x 46) ≡ false
 unfolding parts_from
 first_part x part [] h = (or_parts (begins_hidden (x ∷ part)) false h).0
@@ -107,7 +107,7 @@ path_visible : (p : List ℕ) → is_folder p ≡ false → is_hidden p ≡ fals
 path_visible [] f h = absurd (false_true f refl)
 path_visible (x ∷ p) f h = scanned [] x p f h
 
--- a path made unique to a job hides no element
+-- A path that is made unique to a job gets no hidden element.
 
 shown_id : (id e : List ℕ) → begins_hidden e ≡ false → begins_hidden (with_id id e) ≡ false
 shown_id id [] h = refl

@@ -1,4 +1,4 @@
--- That every run of a job is sound for readers.
+-- Every run of a job is sound for readers.
 use Rattle.job_model.specs.JobScript.{Script}
 use Rattle.job_model.specs.Legal.{IsLegal}
 use Rattle.job_model.specs.declared.ends.EventEnd.{EventEnd}
@@ -21,20 +21,20 @@ use Rattle.std.specs.Prelude.{List, None, length, true, ◌≡◌}
 abbrev pub picks_at_end : Script → Content → List Entry → List EventEnd → Picks
 picks_at_end w opening journal xs = (seen w (times w xs) opening journal (length journal)).picks
 
--- The attempts that the job's commit has chosen are a choice for its claim, and explain each moment of the journal.
+-- The attempts that the job's commit has chosen are a choice for the job's claim, and they explain each moment of the journal.
 pub record PicksExplain (w : Script) (opening : Content) (journal : List Entry) (xs : List EventEnd) : Type 0 where
   pub chooses : Chooses (claim_of w).tasks (chosen_below w (picks_at_end w opening journal xs) w.tasks)
   pub explain : All (Explains (claim_of w) (shown w.dest opening) (chosen_below w (picks_at_end w opening journal xs) w.tasks))
       (moments_to w (times w xs) opening journal (length journal))
 
--- Where the job's actors alone sent, its run was sound for readers at each moment of the journal.
+-- If only the job's actors sent requests, the run is sound for readers at each moment of the journal.
 pub record ReadersSafe (w : Script) (opening : Content) (journal : List Entry) (xs : List EventEnd) : Type 0 where
-  -- one attempt per task explains all that readers saw, or nothing needs to be explained
+  -- One attempt per task explains all that readers saw, or readers saw nothing that needs a choice.
   pub sound : AreOwn journal → Sound (claim_of w) (shown w.dest opening) (moments_to w (times w xs) opening journal (length journal))
-  -- once the commit has chosen an attempt of each task, and no two of these write one path, they do
+  -- If the commit has chosen an attempt of each task, and no two of these write one path, then the chosen attempts explain it.
   pub picks : AreOwn journal → is_decided w (picks_at_end w opening journal xs) ≡ true → PicksExplain w opening journal xs
 
--- Between events the run of a job was sound for readers.
+-- At each point between two events, the run of a legal script is sound for readers.
 abbrev pub RunsAreSafe : Type 0
 RunsAreSafe = (g : Setting) (opening : Content) (x : Play) → IsLegal g.script → IsOpening g opening → Reachable g opening x → x.now ≡ None
     → ReadersSafe g.script opening x.journal x.ends

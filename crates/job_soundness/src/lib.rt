@@ -1,16 +1,22 @@
-//! That every run of a job is sound for readers, in the words of `soundness`, which know no committer.
+//! Every run of a job is sound for readers, in the terms of `soundness`, which knows no committer.
 //!
 //! # What is proved
 //!
-//! For every committer, mode and number of lanes, with losses, retries, several attempts, kills, mixes and restarts, of
-//! what happened in a job's run wherever no event goes on, where the job's actors alone sent: there is one attempt per
-//! task such that at each moment readers see old files, or old files and whole files of these attempts, and all the job's
-//! files while its success marker exists; and once the job has chosen its attempts, they are those (`runs`).
+//! `runs`: every run of a legal script in which only the job's own actors send is sound for
+//! readers, at each point between two events.
+//!
+//! - It holds for every committer, mode and number of lanes, with lost requests and replies,
+//!   retries, several attempts of a task, kills, mixes and restarts.
+//! - One attempt per task explains all that readers see. At each moment they see only opening
+//!   files, or opening files and whole files of these attempts. While the success marker of this
+//!   run exists, they see all files of these attempts.
+//! - Once the commit has chosen one attempt per task, and no two of these write one path, these are
+//!   the chosen ones.
 #![tactic(auto)]
 
 ghost use Rattle.job_soundness.specs.Safe.{RunsAreSafe};
 
-/// Each run of a job is sound for readers.
+/// Every run of a job is sound for readers.
 pub fn runs()
     ensures safe { RunsAreSafe }
 {}

@@ -1,4 +1,4 @@
--- where each sending is answered no request wears out
+-- If each send is answered, no request runs out of retries.
 use Rattle.job_model.specs.JobScript.{Script}
 use Rattle.job_model.specs.declared.ends.EventEnd.{EventEnd}
 use Rattle.job_model.specs.declared.ends.OpEnd.{OpEnd}

@@ -1,4 +1,4 @@
--- a commit that nothing hinders is due to end Committed
+-- A commit that meets no fault results in Committed.
 use Rattle.job_model.specs.JobScript.{Script}
 use Rattle.job_model.specs.declared.ends.CommitEnd.{CommitEnd}
 use Rattle.job_protocol.specs.Outputs.{Picks, is_clash, same_path}

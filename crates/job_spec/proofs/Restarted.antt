@@ -1,4 +1,4 @@
--- what a restart leaves, and which operation decides a verdict
+-- What a restart leaves, and which operation decides the status.
 use Rattle.job_model.specs.Attempts.{Declared}
 use Rattle.job_model.specs.JobScript.{Script}
 use Rattle.job_model.specs.declared.ends.CheckEnd.{CheckEnd}
@@ -73,7 +73,7 @@ pub forgets_after : (w : Script) (xs : List EventEnd) → slice_get w.events (le
     → (past w (xs ++ Done ∷ [])).reported a ≡ false
 forgets_after w xs h a = ap (λ (p : Past). p.reported a) (restart_after w xs h)
 
--- none reported any
+-- No attempt has reported.
 none_reports : (t : ℕ) (ds : List Declared) → list_any (λ a. nat_eq a.0.task t && false) ds ≡ false
 none_reports t [] = refl
 none_reports t (d ∷ ds) = ap (λ b. b || list_any (λ (a : Declared). nat_eq a.0.task t && false) ds) (and-false (nat_eq d.0.task t)) ∙
@@ -91,7 +91,7 @@ pub attempts_after : (w : Script) (xs : List EventEnd) → slice_get w.events (l
     → (past w (xs ++ Done ∷ [])).state (Attempt t a) ≡ (past w xs).state (Attempt t a)
 attempts_after w xs h t a = ap (λ (p : Past). p.state (Attempt t a)) (restart_after w xs h)
 
--- ---- verdicts
+-- ---- statuses
 
 zero_setup : (e : SetupEnd) → end_verdict (ends.Setup e) ≡ 0 → ⊥
 zero_setup setups.Done h = cc

@@ -1,4 +1,4 @@
--- the folds and the journal in one job's eyes
+-- The state that a journal shows, and the journal as one job reads it.
 use Rattle.job_model.specs.JobScript.{Script}
 use Rattle.job_protocol.specs.Seen.{Seen, Times, is_publishing, nothing_seen, see, see_all, see_attempt, see_by, see_driver, seen}
 use Rattle.job_spec.specs.Eyes.{entry_in, in_eyes, number_in}
@@ -15,7 +15,7 @@ use Rattle.std.proofs.Common.{Bool, List, Option, Some, ap, arith, cond, false, 
 use Rattle.std.proofs.Common.{◌&&◌, ◌+◌, ◌-◌, ◌∙◌, ◌∷◌, ◌≡◌, ◌≤◌}
 use Rattle.std.proofs.Math.Nat.{le_refl, le_trans}
 
--- ---- what is seen
+-- ---- what the journal shows
 
 driver_scene : (w : Script) (b c : Bool) (s : Seen) (r : Request) (o : Outcome) → (see_driver w b c s r o).scene ≡ effect s.scene r o
 driver_scene w b c s r (Answered x) = refl
@@ -50,7 +50,7 @@ pub of_stranger : (w : Script) (k : Times) (s : Seen) (e : Entry) → e.actor �
     }
 of_stranger w k s e h = ap (see_by w k s e.event e.request e.outcome) h
 
--- ---- one job's eyes
+-- ---- the journal as one job reads it
 
 number_alone : (n : ℕ) → number_in (λ m. true) n ≡ n
 number_alone zero = refl
@@ -111,7 +111,7 @@ one_more : (last : Option ℕ) (attempt : ℕ) (b : Bool) → (n : ℕ) × (last
 one_more last attempt true h = (attempt, refl)
 one_more last attempt false h = h
 
--- a task that has one has one ever after
+-- A task that has a last publisher keeps having one.
 pub last_still : (w : Script) (k : Times) (s : Seen) (e : Entry) (t : ℕ) → (n : ℕ) × (s.last t ≡ Some n) → (n : ℕ)
     × ((see w k s e).last t ≡ Some n)
 last_still w k s e t h = by e.actor e.outcome

@@ -27,7 +27,8 @@ use Rattle.job_model.specs.declared.ends.CommitEnd.TheVariants as commits
 use Rattle.job_model.specs.declared.ends.OpEnd.TheVariants as ends
 use Rattle.job_model.specs.declared.states.ActorStage.TheVariants as stage
 
--- what is seen of the store is its moment, and of a stranger nothing else is seen
+-- The law of the state that a journal shows. Its store is the store after the same entries. A send of someone else, with the actor `Shell`,
+-- changes nothing but the store.
 pub record SeenIsMoment : Type 0 where
   pub scene : (w : Script) (k : Times) (opening : Content) (journal : List Entry) (m : ℕ)
       → (seen w k opening journal m).scene ≡ moment opening journal m
@@ -41,25 +42,26 @@ pub record SeenIsMoment : Type 0 where
             s.put_mark;
       }
 
--- a job that is alone reads the journal as it is; what others send is told otherwise, but the store, the answers and the order of events
--- stay
+-- The law of a journal as one job reads it. A job that is alone reads the journal itself. Otherwise the entries of others have other
+-- numbers and actors, but the store, the replies and the order of events stay.
 pub record EyesAreTrue : Type 0 where
   pub alone : (es : List Entry) → in_eyes (λ n. true) es ≡ es
   pub scene : (mine : ℕ → Bool) (opening : Content) (es : List Entry) (m : ℕ) → moment opening (in_eyes mine es) m ≡ moment opening es m
   pub honest : (mine : ℕ → Bool) (opening : Content) (es : List Entry) → IsHonest opening es → IsHonest opening (in_eyes mine es)
   pub rising : (mine : ℕ → Bool) (es : List Entry) → IsRising es → IsRising (in_eyes mine es)
 
--- a job's commit that misses no task, of which no request wore out and whose picks do not clash is due to end Committed
+-- The law of complete commits: a job's commit results in Committed if it misses no task, no request of it ran out of retries, and no two
+-- chosen attempts write the same path.
 pub record CommitsComplete : Type 0 where
   pub committed : (w : Script) (picks : Picks) → is_clash w picks ≡ false → commit_due w picks None None ≡ commits.Committed
 
--- where the script names no fate, so that each sending is answered, no request of an operation that ended wore out
+-- The law of scripts without fates: each send is answered, so no request of an operation that ended ran out of retries.
 pub record NothingWorn : Type 0 where
   pub none : (w : Script) (opening : Content) (journal : List Entry) (xs : List EventEnd) → w.fates ≡ fin.empty → Sent w opening journal
       → (j : ℕ) (a : Actor) (d : Doing) (end : OpEnd) (es : List Entry) → EndedIn w xs journal j a d end es → WornFirst w.retries es None
 
--- a restart after these events: a new driver, which has failed where the old one was committing and else stands where that stood, and knows
--- no report
+-- The law of restarts: the new driver is idle and knows no report. Its stage is `Failed` if the old one was committing, and otherwise the
+-- old one's stage.
 pub record RestartsAnew : Type 0 where
   pub idle : (w : Script) (xs : List EventEnd) → slice_get w.events (length xs) ≡ Some Restart
       → ((past w (xs ++ Done ∷ [])).state Driver).life ≡ Idle
@@ -69,28 +71,28 @@ pub record RestartsAnew : Type 0 where
   pub stays : (w : Script) (xs : List EventEnd) → slice_get w.events (length xs) ≡ Some Restart
       → is_committing ((past w xs).state Driver).stage ≡ false
       → ((past w (xs ++ Done ∷ [])).state Driver).stage ≡ ((past w xs).state Driver).stage
-  -- no report from before it counts, so a commit that begins right after it misses the first task there is
+  -- No report from before the restart counts. So a commit that begins right after it misses task 0.
   pub forgets : (w : Script) (xs : List EventEnd) → slice_get w.events (length xs) ≡ Some Restart → (a : Actor)
       → (past w (xs ++ Done ∷ [])).reported a ≡ false
   pub misses : (w : Script) (xs : List EventEnd) (n : ℕ) → slice_get w.events (length xs) ≡ Some Restart → w.tasks ≡ suc n
       → missing w (past w (xs ++ Done ∷ [])).reported ≡ Some 0
-  -- attempts stay as they are
+  -- Attempts stay as they are.
   pub attempts : (w : Script) (xs : List EventEnd) → slice_get w.events (length xs) ≡ Some Restart → (t a : ℕ)
       → (past w (xs ++ Done ∷ [])).state (Attempt t a) ≡ (past w xs).state (Attempt t a)
 
--- the driver's commit decides the status of a run where one was begun, and else its last set-up
+-- The law of the status: the driver's commit decides it if one was begun, and otherwise its last set-up.
 pub record CommitDecides : Type 0 where
-  -- of a commit that was begun 0 comes only where it ended Committed, and of a set-up it never comes
+  -- A commit that was begun gives 0 only if it ended with Committed, and a set-up never gives 0.
   pub zero : (w : Script) (xs : List EventEnd) → verdict w xs ≡ 0 → ((past w xs).commit ≡ EndedSo (ends.Commit commits.Committed))
       ⊎ ((past w xs).commit ≡ NotBegun)
   pub setup : (w : Script) (xs : List EventEnd) (e : SetupEnd) → (past w xs).commit ≡ NotBegun → (past w xs).setup ≡ EndedSo (ends.Setup e)
       → verdict w xs ≡ 0 → ⊥
-  -- a commit that was begun decides alone, whatever set-ups did
+  -- A commit that was begun decides alone, whatever the set-ups did.
   pub ended : (w : Script) (xs : List EventEnd) (e : OpEnd) → (past w xs).commit ≡ EndedSo e → verdict w xs ≡ end_verdict e
   pub unended : (w : Script) (xs : List EventEnd) → (past w xs).commit ≡ Unended → verdict w xs ≡ 1
   pub begun : (w : Script) (xs : List EventEnd) → slice_get w.events (length xs) ≡ Some (Start Driver Commit)
       → verdict w (xs ++ Done ∷ []) ≡ 1
-  -- one that was not leaves it to the last set-up
+  -- If no commit was begun, the last set-up decides.
   pub not_begun : (w : Script) (xs : List EventEnd) → (past w xs).commit ≡ NotBegun → verdict w xs ≡ verdict_or 1 (past w xs).setup
-  -- a refused event, and so a refused commit, decides nothing
+  -- A refused event decides nothing; nor does a refused commit.
   pub refused : (w : Script) (xs : List EventEnd) (f : EventFault) → verdict w (xs ++ Refused f ∷ []) ≡ verdict w xs

@@ -1,4 +1,4 @@
--- The causes of the ends of operations, and what holds at them.
+-- The causes of the ends of operations, and what these ends leave.
 use Rattle.basics.specs.Order.{text_cmp}
 use Rattle.job_model.specs.Attempts.{Who}
 use Rattle.job_model.specs.JobScript.{Script}
@@ -40,16 +40,16 @@ use Rattle.job_model.specs.declared.ends.Stage.TheVariants as stages
 
 -- ---- set-up
 
--- the least path at which a reader is shown a file
+-- Holds if p is the least path at which readers see a file.
 pub record IsLeastShown (w : Script) (c : Content) (p : List ℕ) : Type 0 where
   pub shown : IsSome (view w.dest c p)
   pub least : (q : List ℕ) → IsSome (view w.dest c q) → is_lt (text_cmp q p) ≡ false
 
--- the destination's bucket is there, and no object stands at the destination's own key
+-- Holds if the destination's bucket exists, and no object exists at the destination's own key.
 abbrev pub IsFree : Script → Content → Type 0
 IsFree w c = IsSome (fin.get c.buckets w.dest.bucket) × (object_at c w.dest.bucket w.dest.key ≡ None)
 
--- the end of a set-up over this content, by whether a request of it wore out
+-- The end of a set-up over this content; the request is the first that ran out of retries, if one did.
 abbrev pub SetupIs : Script → Content → Option Request → SetupEnd → Type 0
 SetupIs w c (Some r) e = e ≡ setups.StoreFault
 SetupIs w c None setups.NoSuchBucket = fin.get c.buckets w.dest.bucket ≡ None
@@ -60,7 +60,7 @@ SetupIs w c None _ = ⊥
 
 -- ---- an attempt's operations
 
--- the store was asked for one key below this partition, and answered with this page
+-- Holds if the store was asked for one key below this partition, and answered with this page.
 pub record WasListed (w : Script) (es : List Entry) (d : List ℕ) (page : List PageEntry) : Type 0 where
   pub entry : Entry
   pub is_entry : Contains es entry
@@ -68,7 +68,7 @@ pub record WasListed (w : Script) (es : List Entry) (d : List ℕ) (page : List 
   pub more : Bool
   pub answered : entry.outcome ≡ Answered (Page page more)
 
--- d is the first of the partitions that the attempt writes below which the store listed a key
+-- Holds if d is the first partition of the attempt below which the store listed a key.
 pub record IsFirstListed (w : Script) (a : Who) (es : List Entry) (d : List ℕ) : Type 0 where
   pub before : List (List ℕ)
   pub rest : List (List ℕ)
@@ -78,8 +78,8 @@ pub record IsFirstListed (w : Script) (a : Who) (es : List Entry) (d : List ℕ)
   pub others : List PageEntry
   pub listed : WasListed w es d (key ∷ others)
 
--- The ends of an attempt's operation of which no request wore out, by its entries, by whether it has sent its publishing
--- request and whether the driver's abort or clean has begun.
+-- The ends that an attempt's operation may have if no request of it ran out of retries. They depend on its entries, on whether it has sent
+-- its publishing request (`sent`), and on whether the driver's abort or clean has begun (`cleaned`).
 abbrev pub TaskMay : Op → Script → Who → List Entry → Bool → Bool → TaskEnd → Type 0
 TaskMay ops.Write w a es sent cleaned tasks.Done = Unit {0}
 TaskMay ops.Write w a es sent cleaned (tasks.Gone name) = cleaned ≡ true
@@ -90,12 +90,12 @@ TaskMay ops.Abort w a es sent cleaned tasks.Kept = sent ≡ true
 TaskMay ops.Abort w a es sent cleaned tasks.Done = sent ≡ false
 TaskMay op w a es sent cleaned e = ⊥
 
--- the end of an attempt's operation: StoreFault where a request of it wore out, and else one that has its cause
+-- The end of an attempt's operation: StoreFault if a request of it ran out of retries, and otherwise one that has its cause.
 abbrev pub TaskIs : Op → Script → Who → List Entry → Bool → Bool → Option Request → TaskEnd → Type 0
 TaskIs op w a es sent cleaned (Some r) e = e ≡ tasks.StoreFault
 TaskIs op w a es sent cleaned None e = TaskMay op w a es sent cleaned e
 
--- the attempt has published: one of these entries is its publishing request, and took effect
+-- Holds if the attempt has published by this event: an entry of it publishes the task's set, and took effect.
 pub record WasPublished (w : Script) (opening : Content) (journal : List Entry) (task attempt event : ℕ) : Type 0 where
   pub m : ℕ
   pub entry : Entry
@@ -107,44 +107,44 @@ pub record WasPublished (w : Script) (opening : Content) (journal : List Entry) 
 
 -- ---- the driver's abort and clean
 
--- the end of a job's abort or clean: StoreFault where a request of it wore out, and else Done
+-- The end of a job's abort or clean: StoreFault if a request of it ran out of retries, and otherwise Done.
 abbrev pub CleanIs : Option Request → CleanEnd → Type 0
 CleanIs (Some r) e = e ≡ cleans.StoreFault
 CleanIs None e = e ≡ cleans.Done
 
--- what it leaves at its end, and that it hides nothing: of the scenes before it and at its end
+-- What a job's abort or clean leaves, if `s` is the scene before it and `t` the scene at its end.
 pub record Cleaned (w : Script) (s t : Scene) : Type 0 where
-  -- nothing is left of the job
+  -- Nothing is left of the job.
   pub nothing : NothingLeft w.committer w t
-  -- a reader is shown what he was shown before
+  -- Readers see the same files as before.
   pub view_stays : Same (view w.dest t.content) (view w.dest s.content)
 
 -- ---- the driver's commit
 
--- no deletion of an object wore out
+-- Holds if no deletion of an object ran out of retries.
 abbrev pub NoDeletionWorn : ℕ → List Entry → Type 0
 NoDeletionWorn retries es = (bucket key : List ℕ) → IsWorn retries (DeleteObject bucket key) es → ⊥
 
--- each path that is shown has its opening bytes
+-- Holds if each file that readers see has the bytes that it had in the opening.
 abbrev pub OnlyOpening : Script → Content → Content → Type 0
 OnlyOpening w opening c = (p b : List ℕ) → view w.dest c p ≡ Some b → view w.dest opening p ≡ Some b
 
--- the request was lost, or its reply
+-- True if the request or its reply was lost.
 abbrev pub is_lost : Outcome → Bool
 is_lost RequestLost = true
 is_lost ReplyLost = true
 is_lost _ = false
 
--- a sending of this request was lost, before its effect or after it
+-- True if a send of this request was lost, before its effect or after it.
 abbrev pub was_lost : Request → List Entry → Bool
 was_lost r es = list_any (λ e. same_request r e.request && is_lost e.outcome) es
 
--- what these entries of it were answered
+-- The replies to the requests of a commit.
 pub record CommitServed (w : Script) (es : List Entry) : Type 0 where
-  -- each answered read of a task's set gave a set
+  -- Each answered read of a task's set returned a set.
   pub sets : (before : List Entry) (e : Entry) (later : List Entry) (t : ℕ) (r : Reply) → es ≡ before ++ e ∷ later
       → e.request ≡ set_request w.committer w t → e.outcome ≡ Answered r → IsSome (set_read r)
-  -- a refused completion found no upload, and an earlier sending of it was lost
+  -- A refused completion found no upload, and an earlier send of it was lost.
   pub completions : (before : List Entry) (e : Entry) (later : List Entry) (why : Refusal) → es ≡ before ++ e ∷ later
       → stage_of e.request ≡ stages.Complete → e.outcome ≡ Answered (Refused why) → (why ≡ NoSuchUpload)
       × (was_lost e.request before ≡ true)

@@ -1,4 +1,4 @@
--- The text of a report: a line per event with its end, per pick and per actor, the number of sendings and the status.
+-- The text of a report: a line for each event with its end, for each chosen attempt and each actor, the number of sends, and the status.
 use Rattle.job_model.specs.Attempts.{Who, actor_of}
 use Rattle.job_model.specs.JobScript.{Script}
 use Rattle.job_model.specs.Words.{event_text, fault_word, life_word, outcome_text, spaced, stage_word}
@@ -16,66 +16,66 @@ use Rattle.std.specs.Fmt.{decimal}
 use Rattle.std.specs.List.{enumerate_from, flat_map, join_by, zip}
 use Rattle.std.specs.Prelude.{List, codes, cond, nat_lt, ℕ, [], ◌++◌, ◌∷◌}
 
--- a line of words, ended by LF
+-- A line of words, ended by LF.
 abbrev pub line : List (List ℕ) → List ℕ
 line words = spaced words ++ 10 ∷ []
 
 -- ---- ends of events
 
--- an actor with the outcome of its operation
+-- An actor with the outcome of its operation.
 abbrev pub actor_end_text : ActorEnd → List ℕ
 actor_end_text x = spaced (actor_text x.actor ∷ outcome_text x.end ∷ [])
 
--- the ends of a mix in the order in which they came, with a comma and a blank between each two; `ok` for none
+-- The ends of a mix in their order, with a comma and a blank between each two; `ok` for none.
 abbrev pub mixed_text : List ActorEnd → List ℕ
 mixed_text [] = codes "ok"
 mixed_text (x ∷ xs) = join_by actor_end_text (codes ", ") (x ∷ xs)
 
--- how an event ended
+-- The text for how an event ended.
 abbrev pub end_text : EventEnd → List ℕ
 end_text Done = codes "ok"
 end_text (Ended end) = outcome_text end
 end_text (Mixed xs) = mixed_text xs
 end_text (Refused fault) = spaced (codes "refused" ∷ fault_word fault ∷ [])
 
--- ---- lines: each with some text in front, which in an event's line stands behind the number
+-- ---- lines: each begins with the text `before`; in an event's line the number comes first
 
--- a number and an event with its end, as `3 do 0.0 commit: done`
+-- The line of an event with its number and its end, for example `3 do 0.0 commit: done`.
 abbrev pub event_line : (before : List ℕ) → ℕ × (Event × EventEnd) → List ℕ
 event_line before e = line (decimal e.0 ∷ (before ++ (event_text e.1.0 ++ codes ":")) ∷ end_text e.1.1 ∷ [])
 
--- a line for each event that has its end, numbered from n on
+-- A line for each event that has ended, numbered from n on.
 abbrev pub event_lines : (before : List ℕ) → ℕ → List Event → List EventEnd → List ℕ
 event_lines before n events xs = flat_map (event_line before) (enumerate_from n (zip events xs))
 
--- a picked attempt by its task's number and its own
+-- The line of a chosen attempt: the number of its task, and its own.
 abbrev pub pick_line : (before : List ℕ) → Pick → List ℕ
 pick_line before p = before ++ line (codes "pick" ∷ decimal p.task ∷ decimal p.attempt ∷ [])
 
--- the words of an actor's life and stage
+-- The words for an actor's life and stage.
 abbrev pub state_words : (Actor → ActorState) → Actor → List (List ℕ)
 state_words state a = actor_text a ∷ life_word (state a).life ∷ stage_word (state a).stage ∷ []
 
--- an attempt with its life and stage
+-- The line of an attempt with its life and stage.
 abbrev pub attempt_line : (before : List ℕ) → (Actor → ActorState) → Who → List ℕ
 attempt_line before state a = before ++ line (state_words state (actor_of a))
 
--- the job attempt's number, from the second on
+-- The words for the number of the job attempt; none for the first one.
 abbrev pub number_words : ℕ → List (List ℕ)
 number_words n = cond (nat_lt 1 n) (codes "attempt" ∷ decimal n ∷ []) []
 
--- the driver with its life and stage, and with the job attempt's number from the second on
+-- The line of the driver with its life and stage, and with the number of the job attempt from the second one on.
 abbrev pub driver_line : (before : List ℕ) → Past → List ℕ
 driver_line before p = before ++ line (state_words p.state Driver ++ number_words p.attempt)
 
--- the driver, and each declared attempt, after events of these ends
+-- The lines of the driver and of each declared attempt, after events with these ends.
 abbrev pub actor_lines : (before : List ℕ) → Script → List EventEnd → List ℕ
 actor_lines before w xs = driver_line before (past w xs) ++ flat_map (λ a. attempt_line before (past w xs).state a.0) w.attempts
 
--- the number of sendings and the status
+-- The lines of the number of sends and of the status.
 abbrev pub closing : ℕ → ℕ → List ℕ
 closing sent due = line (codes "sent" ∷ decimal sent ∷ []) ++ line (codes "status" ∷ decimal due ∷ [])
 
--- the whole report: the status that was due, how many requests were sent, the picks and the events' ends, of a script
+-- The whole report of a script, with this status, number of sends, chosen attempts and ends of events.
 unfoldable pub report_text : ℕ → ℕ → List Pick → List EventEnd → Script → List ℕ
 report_text due sent picks xs w = event_lines [] 1 w.events xs ++ flat_map (pick_line []) picks ++ actor_lines [] w xs ++ closing sent due

@@ -1,4 +1,4 @@
--- Lives and stages of a job's actors, what each began last, and what its driver knows: one fold over its events and their ends.
+-- The lives and stages of a job's actors, what each of them began last, and what the driver knows, read from its events and their ends.
 use Rattle.job_model.specs.Attempts.{actor_of}
 use Rattle.job_model.specs.JobScript.{Script}
 use Rattle.job_model.specs.declared.ends.ActorEnd.{ActorEnd}
@@ -37,20 +37,20 @@ use Rattle.job_model.specs.declared.states.ActorStage.TheVariants as stage
 
 -- ---- actors
 
--- two actors are the same
+-- True if both actors are the same.
 abbrev pub same_actor : Actor → Actor → Bool
 same_actor Driver Driver = true
 same_actor (Attempt t a) (Attempt u b) = nat_eq t u && nat_eq a b
 same_actor Shell Shell = true
 same_actor _ _ = false
 
--- the driver, and then the attempts in script order
+-- The driver, and then the attempts in script order.
 abbrev pub actors : Script → List Actor
 actors w = Driver ∷ map (λ a. actor_of a.0) w.attempts
 
 -- ---- lives and stages
 
--- the stage that the start of an operation gives
+-- The stage of an actor once it begins an operation.
 abbrev pub stage_begun : Actor → Op → ActorStage → ActorStage
 stage_begun a Setup s = s
 stage_begun a Write s = stage.Writing
@@ -59,50 +59,50 @@ stage_begun Driver Abort s = stage.Aborted
 stage_begun a Abort s = s
 stage_begun a Clean s = s
 
--- an attempt that ended what it did
+-- The stage of an attempt whose operation ended with Done, by its stage before.
 abbrev pub stage_done : ActorStage → ActorStage
 stage_done stage.Writing = stage.Written
 stage_done stage.Committing = stage.Committed
 stage_done _ = stage.Aborted
 
--- the actor is idle, in this stage
+-- The state of an idle actor in this stage.
 abbrev pub idle : ActorStage → ActorState
 idle s = record { life = Idle; stage = s }
 
--- the actor is dead, in this stage
+-- The state of a dead actor in this stage.
 abbrev pub dead : ActorStage → ActorState
 dead s = record { life = Dead; stage = s }
 
--- the driver's state after a set-up that ended so
+-- The driver's state after a set-up with this end.
 abbrev pub setup_ended : SetupEnd → ActorStage → ActorState
 setup_ended setups.Done s = idle stage.Set
 setup_ended setups.NoMemory s = dead s
 setup_ended _ s = idle stage.New
 
--- the driver's state after a commit that ended so
+-- The driver's state after a commit with this end.
 abbrev pub commit_ended : CommitEnd → ActorStage → ActorState
 commit_ended commits.Committed s = idle stage.Committed
 commit_ended commits.NoMemory s = dead s
 commit_ended _ s = idle stage.Failed
 
--- the driver's state after a check that ended so, behind which no commit goes on
+-- The driver's state after a check with this end, if no commit follows.
 abbrev pub check_ended : CheckEnd → ActorStage → ActorState
 check_ended checks.NoMemory s = dead s
 check_ended _ s = idle stage.Failed
 
--- the driver's state after an abort or clean that ended so
+-- The driver's state after an abort or clean with this end.
 abbrev pub clean_ended : CleanEnd → ActorStage → ActorState
 clean_ended cleans.NoMemory s = dead s
 clean_ended _ s = idle s
 
--- an attempt's state after an operation that ended so
+-- An attempt's state after an operation with this end.
 abbrev pub task_ended : TaskEnd → ActorStage → ActorState
 task_ended tasks.Done s = idle (stage_done s)
 task_ended tasks.Kept s = idle s
 task_ended tasks.NoMemory s = dead s
 task_ended _ s = idle stage.Failed
 
--- the state that an operation's end gives to its actor; want of memory is death
+-- The state of an actor after its operation ended. If memory runs out, the actor is dead.
 abbrev pub ended : OpEnd → ActorStage → ActorState
 ended (ends.Setup e) s = setup_ended e s
 ended (ends.Commit e) s = commit_ended e s
@@ -111,73 +111,73 @@ ended (ends.Check e) s = check_ended e s
 ended (ends.Task e) s = task_ended e s
 ended ends.NoMemory s = dead s
 
--- a new driver goes on from the old one's stage, but for a commit that was under way, which has failed
+-- The stage of a new driver: the old one's stage, or `Failed` if the old one was committing.
 abbrev pub restarted : ActorStage → ActorStage
 restarted stage.Committing = stage.Failed
 restarted s = s
 
--- ---- the fold
+-- ---- reading the events
 
--- the function, with v at an actor
+-- The function with the value v at the actor a.
 abbrev pub put : {X : Type 0} → (Actor → X) → Actor → X → Actor → X
 put f a v b = cond (same_actor b a) v (f b)
 
--- an operation that an actor began: in which event, and what the driver knew of its tasks then
+-- An operation that an actor began: the number of its event, and what the driver knew of its tasks then.
 pub record Doing : Type 0 where
   pub op : Op
   pub since : ℕ
   pub reports : Reports
 
--- what became of the last one of a kind of the driver's operations
+-- What is known of the last set-up or commit of the driver.
 pub data Decided : Type 0 where
   NotBegun : Decided
-  -- it was begun, and has no end
+  -- It was begun and has not ended.
   Unended : Decided
   EndedSo : (end : OpEnd) → Decided
 
--- what is past
+-- The state of a job after some of its events.
 pub record Past : Type 0 where
-  -- how many events
+  -- The number of events.
   pub events : ℕ
-  -- each actor's state, and what it began last
+  -- The state of each actor, and the operation that it began last.
   pub state : Actor → ActorState
   pub doing : Actor → Option Doing
-  -- the job attempt's number: a restart gives the next one
+  -- The number of the job attempt: it rises by 1 with each restart.
   pub attempt : ℕ
-  -- who ended a commit of a task Done since the last restart
+  -- True for each attempt that reported a successful commit since the last restart.
   pub reported : Actor → Bool
-  -- the driver's last set-up, and its commit
+  -- The driver's last set-up and its commit.
   pub setup : Decided
   pub commit : Decided
 
--- the least of the n tasks from t on that fails the test
+-- The least of the n tasks from t on that fails the test, or none.
 abbrev pub first_not : (ℕ → Bool) → ℕ → ℕ → Option ℕ
 first_not p t zero = None
 first_not p t (suc n) = cond (p t) (first_not p (t + 1) n) (Some t)
 
--- one of the task's attempts has reported its commit
+-- True if an attempt of the task has reported its commit.
 abbrev pub is_reported : Script → (Actor → Bool) → ℕ → Bool
 is_reported w reported t = list_any (λ a. nat_eq a.0.task t && reported (actor_of a.0)) w.attempts
 
--- the least task of which none has
+-- The lowest task without a reported commit, or none.
 abbrev pub missing : Script → (Actor → Bool) → Option ℕ
 missing w reported = first_not (is_reported w reported) 0 w.tasks
 
--- that, and the attempts that have, in script order
+-- The lowest task without a reported commit, and the attempts that reported theirs, in script order.
 abbrev pub reports : Script → (Actor → Bool) → Reports
 reports w reported = record { missing = missing w reported; attempts = filter (λ a. reported (actor_of a)) (map (λ a. a.0) w.attempts) }
 
--- what is known of the driver's last set-up once an operation begins
+-- The driver's last set-up, after an actor begins an operation.
 abbrev pub setup_begun : Actor → Op → Decided → Decided
 setup_begun Driver Setup d = Unended
 setup_begun _ _ d = d
 
--- what is known of the driver's commit once an operation begins
+-- The driver's commit, after an actor begins an operation.
 abbrev pub commit_begun : Actor → Op → Decided → Decided
 commit_begun Driver Commit d = Unended
 commit_begun _ _ d = d
 
--- what is past once an actor begins an operation
+-- The state after an actor begins an operation.
 abbrev pub begin : Script → Past → Actor → Op → Past
 begin w p a op = record {
   events = p.events;
@@ -189,11 +189,11 @@ begin w p a op = record {
   commit = commit_begun a op p.commit;
 }
 
--- what is past once an actor is killed
+-- The state after an actor is killed.
 abbrev pub kill : Past → Actor → Past
 kill p a = record p { state = put p.state a (dead (p.state a).stage) }
 
--- a new driver, which knows no report of the earlier ones
+-- The state after a restart: the new driver knows none of the earlier reports.
 abbrev pub restart : Past → Past
 restart p = record p {
   state = put p.state Driver (idle (restarted (p.state Driver).stage));
@@ -201,7 +201,7 @@ restart p = record p {
   reported = λ a. false;
 }
 
--- what an event that is not refused does before its requests
+-- The state after an event that is not refused began, and before its requests.
 abbrev pub open_event : Script → Past → Event → Past
 open_event w p (Do a op) = begin w p a op
 open_event w p (Start a op) = begin w p a op
@@ -209,21 +209,21 @@ open_event w p (Kill a) = kill p a
 open_event w p Restart = restart p
 open_event w p _ = p
 
--- the stage of a commit that goes on
+-- True if this is the stage during a commit.
 abbrev pub is_committing : ActorStage → Bool
 is_committing stage.Committing = true
 is_committing _ = false
 
--- an attempt's operation ended Done
+-- True if an operation of an attempt ended with Done.
 abbrev pub is_done : OpEnd → Bool
 is_done (ends.Task tasks.Done) = true
 is_done _ = false
 
--- the end of an attempt's commit reports it
+-- The reported attempts, after an operation ended: an attempt whose commit is Done is one of them.
 abbrev pub report : Actor → ActorStage → OpEnd → (Actor → Bool) → Actor → Bool
 report a s e reported = put reported a (reported a || (is_committing s && is_done e))
 
--- what an actor began last is a set-up
+-- True if the actor began a set-up last.
 abbrev pub is_setup : Option Doing → Bool
 is_setup None = false
 is_setup (Some d) = is d.op
@@ -232,7 +232,7 @@ is_setup (Some d) = is d.op
     is Setup = true
     is _ = false
 
--- what an actor began last is a commit
+-- True if the actor began a commit last.
 abbrev pub is_commit : Option Doing → Bool
 is_commit None = false
 is_commit (Some d) = is d.op
@@ -241,12 +241,12 @@ is_commit (Some d) = is d.op
     is Commit = true
     is _ = false
 
--- an operation of the driver decides with its end
+-- The end of a set-up or commit of the driver; other ends leave what is known of it unchanged.
 abbrev pub decide : Actor → Bool → OpEnd → Decided → Decided
 decide Driver true e d = EndedSo e
 decide _ _ e d = d
 
--- what is past once an actor's operation has ended
+-- The state after an actor's operation ended.
 abbrev pub end_op : Past → ActorEnd → Past
 end_op p x = record {
   events = p.events;
@@ -258,12 +258,12 @@ end_op p x = record {
   commit = decide x.actor (is_commit (p.doing x.actor)) x.end p.commit;
 }
 
--- what is past once these operations have ended, in this order
+-- The state after these operations ended, in this order.
 abbrev pub end_ops : Past → List ActorEnd → Past
 end_ops p [] = p
 end_ops p (x ∷ xs) = end_ops (end_op p x) xs
 
--- the actor that an event names; a mix names none
+-- The actor of an event. A mix has none, and gives `Shell`.
 abbrev pub actor_named : Event → Actor
 actor_named (Do a op) = a
 actor_named (Start a op) = a
@@ -274,22 +274,22 @@ actor_named (Mix seed) = Shell
 actor_named Restart = Driver
 actor_named (Recover a) = a
 
--- the operations that ended in an event, in order
+-- The operations that ended in an event, in order.
 abbrev pub told : Event → EventEnd → List ActorEnd
 told ev (Ended e) = record { actor = actor_named ev; end = e } ∷ []
 told ev (Mixed xs) = xs
 told ev _ = []
 
--- what is past once an event is over
+-- The state with one more event counted.
 abbrev pub count : Past → Past
 count p = record p { events = p.events + 1 }
 
--- what is past after one more event; a refused one changes nothing
+-- The state after one more event. A refused event only counts.
 abbrev pub after_event : Script → Past → Event → EventEnd → Past
 after_event w p ev (Refused f) = count p
 after_event w p ev end = count (end_ops (open_event w p ev) (told ev end))
 
--- all begin idle and new
+-- The state before the first event: all actors are idle and new.
 abbrev pub nothing_past : Past
 nothing_past = record {
   events = 0;
@@ -301,49 +301,49 @@ nothing_past = record {
   commit = NotBegun;
 }
 
--- what is past after these events with these ends
+-- The state after these events with these ends.
 abbrev pub past_from : Script → Past → List Event → List EventEnd → Past
 past_from w p evs [] = p
 past_from w p [] (x ∷ xs) = p
 past_from w p (ev ∷ evs) (x ∷ xs) = past_from w (after_event w p ev x) evs xs
 
--- what is past after the first events, which had these ends
+-- The state after the first events, which had these ends.
 abbrev pub past : Script → List EventEnd → Past
 past w xs = past_from w nothing_past w.events xs
 
 -- ---- refusals, in the order of the checks
 
--- the stage before a set-up or a write
+-- True if this is the stage before a set-up or a write.
 abbrev pub is_new : ActorStage → Bool
 is_new stage.New = true
 is_new _ = false
 
--- the stage after a set-up that is done
+-- True if this is the stage after a set-up that is Done.
 abbrev pub is_set : ActorStage → Bool
 is_set stage.Set = true
 is_set _ = false
 
--- the stage after a write that is done
+-- True if this is the stage after a write that is Done.
 abbrev pub is_written : ActorStage → Bool
 is_written stage.Written = true
 is_written _ = false
 
--- the stage after a commit that is done
+-- True if this is the stage after a commit that is Done.
 abbrev pub is_committed : ActorStage → Bool
 is_committed stage.Committed = true
 is_committed _ = false
 
--- the stage after an operation that failed
+-- True if this is the stage after an operation that failed.
 abbrev pub is_failed : ActorStage → Bool
 is_failed stage.Failed = true
 is_failed _ = false
 
--- the stage after an abort
+-- True if this is the stage after an abort.
 abbrev pub is_aborted : ActorStage → Bool
 is_aborted stage.Aborted = true
 is_aborted _ = false
 
--- the stages in which the driver may begin an operation
+-- True if the driver may begin the operation in this stage.
 abbrev pub driver_may : Op → ActorStage → Bool
 driver_may Setup s = is_new s
 driver_may Commit s = is_set s
@@ -351,52 +351,52 @@ driver_may Abort s = is_set s || is_failed s || is_aborted s
 driver_may Clean s = is_committed s || is_failed s || is_aborted s
 driver_may Write s = false
 
--- the stages in which an attempt may
+-- True if an attempt may begin the operation in this stage.
 abbrev pub attempt_may : Op → ActorStage → Bool
 attempt_may Write s = is_new s
 attempt_may Commit s = is_written s
 attempt_may Abort s = not (is_aborted s)
 attempt_may _ s = false
 
--- the stages in which an actor may begin an operation
+-- True if the actor may begin the operation in this stage.
 abbrev pub may : Actor → Op → ActorStage → Bool
 may Driver op s = driver_may op s
 may (Attempt t a) op s = attempt_may op s
 may Shell op s = false
 
--- every operation but the driver's set-up waits for the end of that
+-- True if the operation must wait until a set-up is Done: every one except the driver's set-up.
 abbrev pub needs_set : Actor → Op → Bool
 needs_set Driver Setup = false
 needs_set _ _ = true
 
--- why an operation is refused to an actor who is idle, if it is
+-- Why an idle actor may not begin an operation, or none.
 abbrev pub refuse_op : ActorStage → Actor → Op → ActorStage → Option EventFault
 refuse_op driver a op s = if needs_set a op && is_new driver then Some faults.NotSet else
     (if may a op s then None else Some faults.WrongState)
 
--- who is dead or busy begins nothing
+-- Why an actor may not begin an operation: a dead or busy one begins nothing.
 abbrev pub refuse_begin : Life → Option EventFault → Option EventFault
 refuse_begin Dead r = Some faults.Dead
 refuse_begin Busy r = Some faults.Busy
 refuse_begin Idle r = r
 
--- who is not busy has nothing to send
+-- Why an actor may not send: only a busy one has requests to send.
 abbrev pub refuse_move : Life → Option EventFault
 refuse_move Dead = Some faults.Dead
 refuse_move Idle = Some faults.Idle
 refuse_move Busy = None
 
--- who is dead is not killed again
+-- Why an actor may not be killed: a dead one is not killed again.
 abbrev pub refuse_kill : Life → Option EventFault
 refuse_kill Dead = Some faults.Dead
 refuse_kill _ = None
 
--- a driver that is not dead is not restarted
+-- Why a driver may not be restarted: only a dead one is.
 abbrev pub refuse_restart : Life → Option EventFault
 refuse_restart Dead = None
 refuse_restart _ = Some faults.NotDead
 
--- why an event is refused, or None; a task's recovery always is
+-- Why an event is refused, or none. Recovery of an attempt is always refused.
 abbrev pub refusal : (Actor → ActorState) → Event → Option EventFault
 refusal st (Do a op) = refuse_begin (st a).life (refuse_op (st Driver).stage a op (st a).stage)
 refusal st (Start a op) = refuse_begin (st a).life (refuse_op (st Driver).stage a op (st a).stage)
@@ -409,18 +409,18 @@ refusal st (Recover a) = Some faults.NoRecovery
 
 -- ---- the event of the job's commit
 
--- the event begins the driver's commit
+-- True if the event begins the driver's commit.
 abbrev pub begins_commit : Event → Bool
 begins_commit (Do Driver Commit) = true
 begins_commit (Start Driver Commit) = true
 begins_commit _ = false
 
--- the event was refused
+-- True if the event was refused.
 abbrev pub is_refused : EventEnd → Bool
 is_refused (Refused f) = true
 is_refused _ = false
 
--- an abort or a clean of the job
+-- True if the event begins an abort or a clean of the job.
 abbrev pub begins_clean : Event → Bool
 begins_clean (Do Driver Abort) = true
 begins_clean (Do Driver Clean) = true
@@ -428,31 +428,31 @@ begins_clean (Start Driver Abort) = true
 begins_clean (Start Driver Clean) = true
 begins_clean _ = false
 
--- the number of the first event from n on that passes a test and is not refused; one without an end counts
+-- The number of the first event, numbered from n on, that passes the test and is not refused; an event without an end counts too.
 abbrev pub event_from : (Event → Bool) → ℕ → List Event → List EventEnd → Option ℕ
 event_from p n [] xs = None
 event_from p n (ev ∷ evs) [] = cond (p ev) (Some n) (event_from p (n + 1) evs [])
 event_from p n (ev ∷ evs) (x ∷ xs) = cond (p ev && not (is_refused x)) (Some n) (event_from p (n + 1) evs xs)
 
--- the number of the first event from n on that begins the driver's commit and is not refused
+-- The number of the first event, numbered from n on, that begins the driver's commit and is not refused.
 abbrev pub commit_from : ℕ → List Event → List EventEnd → Option ℕ
 commit_from n evs xs = event_from begins_commit n evs xs
 
--- the number of the first event that begins the driver's commit and is not refused, if one does
+-- The number of the first event that begins the driver's commit and is not refused, or none.
 abbrev pub commit_event : Script → List EventEnd → Option ℕ
 commit_event w xs = commit_from 1 w.events xs
 
--- the number of the first event that begins the driver's abort or clean and is not refused, if one does
+-- The number of the first event that begins the driver's abort or clean and is not refused, or none.
 abbrev pub clean_event : Script → List EventEnd → Option ℕ
 clean_event w xs = event_from begins_clean 1 w.events xs
 
--- the events of the job's commit and of its first abort or clean, if they are any
+-- The numbers of the events in which the job's commit and its first abort or clean begin, if they do.
 abbrev pub times : Script → List EventEnd → Times
 times w xs = record { commit = commit_event w xs; clean = clean_event w xs }
 
--- ---- the verdict on a run
+-- ---- the status of a run
 
--- 0 where the commit ended Committed, 8 where a request of what decides wore out, 9 where memory was wanting, and else 1
+-- The status by the end that decides: 0 for Committed, 8 if a request ran out of retries, 9 if memory ran out, and 1 otherwise.
 abbrev pub end_verdict : OpEnd → ℕ
 end_verdict (ends.Commit commits.Committed) = 0
 end_verdict (ends.Commit (commits.StoreFault s)) = 8
@@ -464,12 +464,12 @@ end_verdict (ends.Setup setups.NoMemory) = 9
 end_verdict ends.NoMemory = 9
 end_verdict _ = 1
 
--- what decides has ended, was begun and has no end, or was never begun and leaves it to another
+-- The status by a set-up or commit: its end decides, 1 if it has not ended, and `other` if it was never begun.
 abbrev pub verdict_or : ℕ → Decided → ℕ
 verdict_or other NotBegun = other
 verdict_or other Unended = 1
 verdict_or other (EndedSo e) = end_verdict e
 
--- what decides is the driver's commit where one was begun, else its last set-up that was, and else nothing
+-- The status of a run. The driver's commit decides it, or its last set-up if no commit was begun, and it is 1 if neither was.
 abbrev pub verdict : Script → List EventEnd → ℕ
 verdict w xs = verdict_or (verdict_or 1 (past w xs).setup) (past w xs).commit

@@ -1,4 +1,4 @@
--- Whose turn it is: which entries an event has.
+-- The turns of the actors: which entries an event has.
 use Rattle.job_model.specs.JobScript.{Script}
 use Rattle.job_model.specs.declared.ends.ActorEnd.{ActorEnd}
 use Rattle.job_model.specs.declared.ends.EventEnd.{EventEnd}
@@ -27,66 +27,66 @@ use Rattle.job_model.specs.declared.ends.CleanEnd.TheVariants as cleans
 
 -- ---- parts of a journal
 
--- an entry is of one of the job's actors, and no stranger's
+-- True if the entry belongs to one of the job's actors.
 abbrev pub is_own : Actor → Bool
 is_own Shell = false
 is_own _ = true
 
--- the entries of the job's own actors
+-- The entries of the job's own actors.
 abbrev pub own : List Entry → List Entry
 own es = filter (λ e. is_own e.actor) es
 
--- the job's own entries of event k
+-- The job's own entries of event k.
 abbrev pub of_event : ℕ → List Entry → List Entry
 of_event k es = filter (λ e. is_own e.actor && nat_eq e.event k) es
 
--- the entries of the events up to k
+-- The entries of the events up to k.
 abbrev pub until : ℕ → List Entry → List Entry
 until k es = filter (λ e. nat_le e.event k) es
 
--- the entries of the events before k
+-- The entries of the events before k.
 abbrev pub before : ℕ → List Entry → List Entry
 before k es = filter (λ e. nat_lt e.event k) es
 
--- the entries of event k and of later ones
+-- The entries of event k and of later ones.
 abbrev pub since : ℕ → List Entry → List Entry
 since k es = filter (λ e. nat_le k e.event) es
 
--- the entries of an actor
+-- The entries of an actor.
 abbrev pub by_actor : Actor → List Entry → List Entry
 by_actor a es = filter (λ e. same_actor e.actor a) es
 
--- the entries up to the last one of an actor, and that with them
+-- The entries up to and with the last one of an actor.
 abbrev pub until_last : Actor → List Entry → List Entry
 until_last a [] = []
 until_last a (e ∷ es) = cond (list_any (λ x. same_actor x.actor a) (e ∷ es)) (e ∷ until_last a es) []
 
--- all are an actor's
+-- Holds if all entries belong to the actor.
 abbrev pub AllBy : Actor → List Entry → Type 0
 AllBy a [] = Unit {0}
 AllBy a (e ∷ es) = (e.actor ≡ a) × AllBy a es
 
 -- ---- a mix
 
--- the sequence of a seed
+-- The i-th number of the random sequence of a seed.
 abbrev pub draw : ℕ → ℕ → ℕ
 draw seed zero = seed % 2 ^ 31
 draw seed (suc i) = (1103515245 * draw seed i + 12345) % 2 ^ 31
 
--- the place of the i-th sender among n busy actors
+-- The place of the i-th sender among n busy actors.
 abbrev pub place : ℕ → ℕ → ℕ → ℕ
 place seed i n = draw seed i / 65536 % n
 
--- the actor has an operation that goes on
+-- True if the actor runs an operation.
 abbrev pub is_busy : Life → Bool
 is_busy Busy = true
 is_busy _ = false
 
--- the busy actors, the driver first and then the attempts in script order
+-- The busy actors: the driver first, then the attempts in script order.
 abbrev pub busy_actors : Script → (Actor → ActorState) → List Actor
 busy_actors w st = filter (λ a. is_busy (st a).life) (actors w)
 
--- an operation ended for want of memory
+-- True if the operation ended because memory ran out.
 abbrev pub is_memory : OpEnd → Bool
 is_memory ends.NoMemory = true
 is_memory (ends.Setup setups.NoMemory) = true
@@ -96,7 +96,7 @@ is_memory (ends.Task tasks.NoMemory) = true
 is_memory (ends.Check checks.NoMemory) = true
 is_memory _ = false
 
--- want of memory, as it is told of this operation of an actor: as its own end, or as that of any
+-- True if this end says that memory ran out, and fits this operation of this actor.
 abbrev pub is_wanting : Actor → Op → OpEnd → Bool
 is_wanting a op ends.NoMemory = true
 is_wanting Driver ops.Setup (ends.Setup setups.NoMemory) = true
@@ -107,29 +107,29 @@ is_wanting Driver ops.Clean (ends.Clean cleans.NoMemory) = true
 is_wanting (Attempt task attempt) op (ends.Task tasks.NoMemory) = true
 is_wanting _ _ _ = false
 
--- In a mix that began with these actors busy: the entries so far, the ends so far, and who is busy still.
+-- The states of a mix that began with the busy actors `first`: the entries so far, the ends so far, and the actors that are still busy.
 pub data Mixing (seed : ℕ) (first : List Actor) : List Entry → List ActorEnd → List Actor → Type 0 where
   mix_begins : Mixing seed first [] [] first
-  -- the chosen actor sends
+  -- The chosen actor sends.
   mix_sends : (es : List Entry) (xs : List ActorEnd) (busy : List Actor) (e : Entry) → Mixing seed first es xs busy
       → slice_get busy (place seed (length es + 1) (length busy)) ≡ Some e.actor → Mixing seed first (es ++ e ∷ []) xs busy
-  -- it sends the last request of its operation
+  -- The chosen actor sends the last request of its operation.
   mix_ends : (es : List Entry) (xs : List ActorEnd) (busy : List Actor) (e : Entry) (end : OpEnd) → Mixing seed first es xs busy
       → slice_get busy (place seed (length es + 1) (length busy)) ≡ Some e.actor
       → Mixing seed first (es ++ e ∷ []) (xs ++ record { actor = e.actor; end = end } ∷ [])
       (remove busy (place seed (length es + 1) (length busy)))
-  -- an actor finds no memory
+  -- An actor runs out of memory.
   mix_dies : (es : List Entry) (xs : List ActorEnd) (busy : List Actor) (i : ℕ) (a : Actor) (end : OpEnd) → Mixing seed first es xs busy
       → slice_get busy i ≡ Some a → is_memory end ≡ true → Mixing seed first es (xs ++ record { actor = a; end = end } ∷ []) (remove busy i)
 
 -- ---- the table of turns
 
--- a step that ends an operation sends a request at least, but for want of memory
+-- Holds if a step that ends an operation sends 1 to n requests; it may send none if memory ran out.
 abbrev pub StepEnds : Bool → ℕ → List Entry → Type 0
 StepEnds true n es = length es ≤ n
 StepEnds false n es = (0 < length es) × (length es ≤ n)
 
--- which entries an event has that is not refused, by its end and the states before it
+-- The entries of an event that is not refused, by its end and the states before it.
 abbrev pub Turns : Script → (Actor → ActorState) → Event → EventEnd → List Entry → Type 0
 Turns w st (Do a op) (Ended e) es = AllBy a es
 Turns w st (Start a op) Done es = es ≡ []
@@ -142,7 +142,7 @@ Turns w st (Mix seed) (Mixed xs) es = Mixing seed (busy_actors w st) es xs []
 Turns w st Restart Done es = es ≡ []
 Turns w st ev end es = ⊥
 
--- which entries an event has that has begun and has no end yet, by the states before it
+-- The entries of an event that has begun and not ended, by the states before it.
 abbrev pub OpenTurns : Script → (Actor → ActorState) → Event → List Entry → Type 0
 OpenTurns w st (Do a op) es = AllBy a es
 OpenTurns w st (Step a n) es = AllBy a es × (length es ≤ n)
@@ -150,17 +150,17 @@ OpenTurns w st (Run a) es = AllBy a es
 OpenTurns w st (Mix seed) es = (xs : List ActorEnd) × (busy : List Actor) × Mixing seed (busy_actors w st) es xs busy
 OpenTurns w st _ es = es ≡ []
 
--- the events of the entries never fall
+-- Holds if no entry belongs to an event before n.
 abbrev pub AllFrom : ℕ → List Entry → Type 0
 AllFrom n [] = Unit {0}
 AllFrom n (e ∷ es) = (n ≤ e.event) × AllFrom n es
 
--- the numbers of the entries' events never fall
+-- Holds if the numbers of the entries' events never fall.
 abbrev pub IsRising : List Entry → Type 0
 IsRising [] = Unit {0}
 IsRising (e ∷ es) = AllFrom e.event es × IsRising es
 
--- no entry is of a later event
+-- Holds if no entry belongs to an event after n.
 abbrev pub AllUpTo : ℕ → List Entry → Type 0
 AllUpTo n [] = Unit {0}
 AllUpTo n (e ∷ es) = (e.event ≤ n) × AllUpTo n es

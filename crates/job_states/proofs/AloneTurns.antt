@@ -39,7 +39,7 @@ goes_on {place = place} {s = s} {t = t} {u = u} g turn =
       others = λ q ne. turn.0.others q ne ∙ g.others q ne;
     }
 
--- it has ended, and has sent so far
+-- The operation has ended after these entries.
 abbrev ran_on : {place : ℕ} {s t u : Table} → Going place s t → Beside place t u → Ending place t u → (part : List Entry)
     → AllBy (s.actor place) part → u.entries ≡ s.entries ++ part → Ran place s u
 ran_on {place = place} {s = s} {t = t} {u = u} g b e part by appended =
@@ -72,11 +72,11 @@ has_died g turn = ran_on g turn.0 turn.2.0 g.part g.by (turn.1 ∙ g.appended)
 pub one_more : (es : List Entry) (e : Entry) → length (es ++ e ∷ []) ≡ length es + 1
 one_more es e = length-append es (e ∷ [])
 
--- an operation that ended with a sending
+-- An operation that ended with a send.
 pub ends_sending : (b : Bool) (n : ℕ) (es : List Entry) (e : Entry) → length es < n → StepEnds b n (es ++ e ∷ [])
 ends_sending true n es e few = let l = one_more es e in omega (arith, l, few)
 ends_sending false n es e few = let l = one_more es e in (omega (arith, l), omega (arith, l, few))
 
--- and one that found no memory
+-- An operation that ended because memory ran out.
 pub ends_unsent : (b : Bool) (n : ℕ) (es : List Entry) → b ≡ true → length es ≤ n → StepEnds b n es
 ends_unsent b n es h g = grind arith

@@ -1,4 +1,4 @@
--- The choice of who sends next in a mix.
+-- The choice of the next sender in a mix.
 use Rattle.job_spec.specs.Turns.{draw, place}
 use Rattle.std.proofs.Common.{List, Some, ap, arith, false, get_or, length, slice_get, true, ℕ, ◌%◌, ◌*◌, ◌+◌, ◌/◌, ◌<◌, ◌==◌, ◌^◌, ◌≡◌}
 use Rattle.std.proofs.lemmas.Bool.Decides.{nat_tests}
@@ -20,7 +20,7 @@ is_zero n h = grind (arith, nat_tests)
 not_zero : (n : ℕ) → false ≡ (n == 0) → 0 < n
 not_zero n h = grind (arith, nat_tests)
 
--- the element at a place that is taken modulo the length stands there
+-- The element at a place modulo the length exists.
 pub picked : (busy : List ℕ) (l n x a : ℕ) → l ≡ length busy → false ≡ (l == 0) → n ≡ l → a ≡ get_or busy (x % n) a
     → slice_get busy (x % n) ≡ Some a
 picked busy l n x a h g e f = grind (arith, not_zero, mod_below, slice_get-get_or)

@@ -1,4 +1,4 @@
--- Lists of places that are apart, and their actors.
+-- Lists of different places, and their actors.
 use Rattle.basics.proofs.Members.{none_some, some_is}
 use Rattle.job_states.specs.Mixes.{AreApart, IsNotIn}
 use Rattle.std.proofs.Common.{List, Some, ap, map, refl, slice_get, suc, sym, zero, ℕ, [], ◌∙◌, ◌∷◌, ◌≡◌}
@@ -23,7 +23,7 @@ remove_apart [] (suc p) h = tt
 remove_apart (x ∷ xs) zero h = h.1
 remove_apart (x ∷ xs) (suc p) h = (not_in_remove x xs p h.0, remove_apart xs p h.1)
 
--- what is left behind a removal is another one that was there
+-- Each element that a removal leaves was in the list and is not the removed one.
 pub remove_get : (xs : List ℕ) (p a : ℕ) → AreApart xs → slice_get xs p ≡ Some a → (i b : ℕ) → slice_get (remove xs p) i ≡ Some b → (j : ℕ)
     × (slice_get xs j ≡ Some b) × (b ≡ a → ⊥)
 remove_get [] p a h e i b g = absurd (none_some refl e)
@@ -31,7 +31,7 @@ remove_get (x ∷ xs) zero a h e i b g = (suc i, g, λ s. not_in_get x xs i b h.
 remove_get (x ∷ xs) (suc p) a h e zero b g = (0, g, λ s. not_in_get x xs p a h.0 e (sym s ∙ sym (some_is g)))
 remove_get (x ∷ xs) (suc p) a h e (suc i) b g = let r = remove_get xs p a h.1 e i b g in (suc r.0, r.1, r.2)
 
--- and another one that was there is left
+-- Each other element of the list is left.
 pub get_remove : (xs : List ℕ) (p a : ℕ) → slice_get xs p ≡ Some a → (j b : ℕ) → slice_get xs j ≡ Some b → (b ≡ a → ⊥) → (i : ℕ)
     × (slice_get (remove xs p) i ≡ Some b)
 get_remove [] p a e j b g ne = absurd (none_some refl e)

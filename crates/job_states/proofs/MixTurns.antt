@@ -38,7 +38,7 @@ mixes_begin seed places drawn s apart going room is small = record {
 
 module _ {seed : ℕ} {places busy : List ℕ} {drawn : ℕ} {s t : Table} (u : Table) (m : Mixes seed places busy drawn s t) (a p : ℕ)
     (at : slice_get busy p ≡ Some a) where
-  -- the place where the chosen actor stands
+  -- The place of the chosen actor.
   chosen : (n next : ℕ) → next ≡ (1103515245 * drawn + 12345) % 2147483648 → p ≡ next / 65536 % n → n ≡ length busy
       → p ≡ place seed (length m.part + 1) (length (map s.actor busy))
   chosen n next next_is p_is n_is =
@@ -82,7 +82,7 @@ module _ {seed : ℕ} {places busy : List ℕ} {drawn : ℕ} {s t : Table} (u : 
         actors = λ q. turn.0.actors q ∙ m.actors q;
       }
 
-  -- without the actor at a place
+  -- The mix without the actor at a place.
   mixes_less : (rest : List ℕ) (next : ℕ) → rest ≡ remove busy p → Beside a t u → Ending a t u → (part : List Entry) (end : OpEnd)
       → u.entries ≡ s.entries ++ part → next ≡ draw seed (length part) → next < 2 ^ 31
       → Mixing seed (map s.actor places) part (m.ends ++ record { actor = t.actor a; end = end } ∷ []) (remove (map s.actor busy) p)

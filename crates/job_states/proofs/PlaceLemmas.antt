@@ -24,18 +24,18 @@ use Rattle.std.specs.Prelude.{is_some, option_map}
 pub same_exact : (b a : Actor) → same_actor b a ≡ true → b ≡ a
 same_exact b a h = grind (arith, nat_tests)
 
--- ---- a list of actors, in which one stands at a place alone
+-- ---- a list of actors, in which an actor has only one place
 
 abbrev PlacedIn : List Actor → Actor → Option ℕ → Type 0
 PlacedIn xs a place = (j : ℕ) (b : Actor) → slice_get xs j ≡ Some b → same_actor b a ≡ is_at place j
 
--- where it does not stand, nothing changes
+-- If the actor has no place, nothing changes.
 put_none : (xs : List Actor) (a : Actor) (f g : Actor → Standing) → PlacedIn xs a None → ((b : Actor) → same_actor b a ≡ false → g b ≡ f b)
     → map f xs ≡ map g xs
 put_none [] a f g at off = refl
 put_none (c ∷ xs) a f g at off = cc (off c (at zero c refl), put_none xs a f g (λ j. at (suc j)) off)
 
--- at its place it changes
+-- The value changes at the actor's place.
 put_some : (xs : List Actor) (a : Actor) (i : ℕ) (x : Standing) (f g : Actor → Standing) → i < length xs → PlacedIn xs a (Some i) → g a ≡ x
     → ((b : Actor) → same_actor b a ≡ false → g b ≡ f b) → set (map f xs) i x ≡ map g xs
 put_some [] a i x f g w at here off = absurd (omega arith)
@@ -48,7 +48,7 @@ put_some (c ∷ xs) a zero x f g w at here off = cc (
 put_some (c ∷ xs) a (suc k) x f g w at here off =
     cc (off c (at zero c refl ∙ suc_not k), put_some xs a k x f g (omega arith) (λ j b e. at (suc j) b e ∙ suc_same k j) here off)
 
--- and there it is found
+-- The actor's value is found at its place.
 get_some : (xs : List Actor) (a : Actor) (i : ℕ) (f : Actor → Standing) → i < length xs → PlacedIn xs a (Some i)
     → slice_get (map f xs) i ≡ Some (f a)
 get_some [] a i f w at = absurd (omega arith)
@@ -71,34 +71,34 @@ pub found_there : (w : Script) (a : Actor) (i : ℕ) (x : Standing) (f : Actor �
 found_there w a i x f standings place is found =
     same_Some x (f a) (sym found ∙ ap (λ (l : List Standing). slice_get l i) is ∙ get_some (actors w) a i f place.within place.only)
 
--- who has no place is not of the job
+-- An actor without a place does not belong to the job.
 pub no_place : (w : Script) (a : Actor) → IsPlace w a None → is_known w.attempts a ≡ true → ⊥
 no_place w a place known = true≢false (sym (place.known ∙ known))
 
--- ---- the place of each
+-- ---- the place of each actor
 
--- the place of an attempt among the attempts, from its place among their names
+-- The place of an attempt among the attempts, from the place of its name.
 name_there : (ds : List Declared) (j : ℕ) (b : Actor) → slice_get (map (λ d. actor_of d.0) ds) j ≡ Some b → (q : Who)
     × (slice_get (keys_of ds) j ≡ Some q) × (b ≡ actor_of q)
 name_there [] j b e = absurd cc
 name_there (d ∷ ds) zero b e = (d.0, refl, sym (same_Some (actor_of d.0) b e))
 name_there (d ∷ ds) (suc j) b e = name_there ds j b e
 
--- it stands where the names say
+-- An actor is at the place that the names tell.
 placed : (w : Script) (a : Actor) (place : Option ℕ) → is_some place ≡ is_known w.attempts a → IfSome place (λ i. i < length (actors w))
     → same_actor Driver a ≡ is_at place 0
     → ((j : ℕ) (q : Who) → slice_get (keys_of w.attempts) j ≡ Some q → same_actor (actor_of q) a ≡ is_at place (suc j)) → IsPlace w a place
 placed w a place h g e f = grind (arith, name_there)
 
--- the driver stands first
+-- The driver has the first place.
 pub driver_place : (w : Script) → IsPlace w Driver (Some 0)
 driver_place w = placed w Driver (Some 0) refl (omega arith) refl (λ j q e. sym (zero_not j))
 
--- a stranger stands nowhere
+-- The shell has no place.
 pub shell_place : (w : Script) → IsPlace w Shell None
 shell_place w = placed w Shell None refl tt refl (λ j q e. refl)
 
--- an attempt's actor is another's exactly where their names are the same
+-- Two attempts are the same actor exactly if their names are the same.
 pub name_of_actor : (x y : Who) → same_actor (actor_of y) (actor_of x) ≡ same_name x y
 name_of_actor x y = grind (arith, nat_tests)
 
@@ -149,12 +149,12 @@ pub no_attempt_place : (w : Script) (p : Who) (es : List Declared) → es ≡ w.
 no_attempt_place w p es is found = placed w (actor_of p) None (rw is at found) tt refl
     (λ j q e. name_of_actor p q ∙ none_named p w.attempts j q (sym (rw is at found)) e)
 
--- ---- how many they are
+-- ---- the number of actors
 
 pub length_actors : (w : Script) (n : ℕ) → n ≡ length w.attempts → length (actors w) ≡ n + 1
 length_actors w n e = let all = length-map w.attempts (λ d. actor_of d.0) in omega arith
 
--- ---- who stands at a place
+-- ---- the actor at a place
 
 pub stands_at : (w : Script) (place i : ℕ) (es : List Declared) (o : Option Declared) → es ≡ w.attempts → suc i ≡ place → o ≡ slice_get es i
     → option_map (λ d. actor_of d.0) o ≡ slice_get (actors w) place

@@ -1,4 +1,4 @@
--- Which tasks are reported, as a list of truth values, and who is busy.
+-- The reported tasks as a list of truth values, and the busy actors.
 use Rattle.job_model.specs.Jobs.{has_task}
 use Rattle.job_protocol.specs.Outputs.{first_where}
 use Rattle.job_spec.specs.States.{first_not}
@@ -19,14 +19,14 @@ use Rattle.std.specs.Ordering.{nat_cmp}
 
 -- ---- tests of tasks
 
--- tests that agree
+-- Tests that agree give the same list.
 pub same_tests : (f g : ℕ → Bool) (n tasks : ℕ) → ((t : ℕ) → f t ≡ g t) → map f (range_with_len n tasks) ≡ map g (range_with_len n tasks)
 same_tests f g n tasks h = λ i. map (λ t. h t i) (range_with_len n tasks)
 
 pub length_tested : (tasks : ℕ) (f : ℕ → Bool) → length (tested tasks f) ≡ tasks
 length_tested tasks f = length-map-range_with_len f 0 tasks
 
--- one more is true, and no other one changes
+-- If the task is not among these, none of their values changes.
 others_stay : (f : ℕ → Bool) (n tasks t : ℕ) → (t < n) ⊎ (n + tasks ≤ t)
     → map f (range_with_len n tasks) ≡ map (λ q. f q || nat_eq q t) (range_with_len n tasks)
 others_stay f n zero t out = refl
@@ -49,7 +49,7 @@ pub told_nowhere : (bs : List Bool) (tasks t : ℕ) (f : ℕ → Bool) → bs �
     → bs ≡ tested tasks (λ q. f q || nat_eq q t)
 told_nowhere bs tasks t f h g = grind (arith, length_tested, others_stay)
 
--- all false
+-- All values are false.
 all_false : (n tasks : ℕ) (bs : List Bool) → length bs ≡ tasks → ((k : ℕ) → k < length bs → get_or bs k false ≡ false)
     → bs ≡ map (λ t. false) (range_with_len n tasks)
 all_false n zero [] e h = refl
@@ -63,7 +63,7 @@ pub forgotten : (bs now : List Bool) (tasks : ℕ) (f : ℕ → Bool) → bs ≡
     → ((k : ℕ) → k < length now → get_or now k false ≡ false) → now ≡ tested tasks (λ t. false)
 forgotten bs now tasks f is same h = all_false 0 tasks now (same ∙ ap length is ∙ length_tested tasks f) h
 
--- ---- the least task that is not reported
+-- ---- the lowest task that is not reported
 
 first_same : (f : ℕ → Bool) (n tasks : ℕ) → first_false n (map f (range_with_len n tasks)) ≡ first_not f n tasks
 first_same f n zero = refl
@@ -72,7 +72,7 @@ first_same f n (suc tasks) = ap (λ o. cond (f n) o (Some n)) (first_same f (n +
 pub missing_is : (bs : List Bool) (tasks : ℕ) (f : ℕ → Bool) → bs ≡ tested tasks f → first_false 0 bs ≡ first_not f 0 tasks
 missing_is bs tasks f is = ap (first_false 0) is ∙ first_same f 0 tasks
 
--- ---- the set of those that are
+-- ---- the set of reported tasks
 
 at_test : (f : ℕ → Bool) (n tasks t : ℕ) → unwrap_or (slice_get (map f (range_with_len n tasks)) t) false ≡ (nat_lt t tasks && f (n + t))
 at_test f n zero t = grind (arith, nat_tests)
@@ -83,7 +83,7 @@ pub test_at : (bs : List Bool) (tasks : ℕ) (f : ℕ → Bool) (t : ℕ) → bs
     → unwrap_or (slice_get bs t) false ≡ (nat_lt t tasks && f t)
 test_at bs tasks f t h = grind (arith, at_test)
 
--- a search that passes over what a set has finds what the tests have
+-- A search that skips the tasks of a set finds the same as the tests.
 search_same : (s : List ℕ) (f : ℕ → Bool) (n left tasks : ℕ) → n + left ≡ tasks → ((t : ℕ) → has_task s t ≡ (nat_lt t tasks && f t))
     → first_where (λ t. not (has_task s t)) n left ≡ first_not f n left
 search_same s f n zero tasks e h = refl
@@ -101,9 +101,9 @@ pub added_task : (s : List ℕ) (k q : ℕ) → has_task (insert_key nat_cmp s k
 added_task [] k q = refl
 added_task (x ∷ xs) k q = grind (arith, nat_tests, added_task xs k q)
 
--- ---- who is busy
+-- ---- busy actors
 
--- the places of the busy ones in a list behind another
+-- The places of the busy actors in a list after another one.
 places_from : {A : Type 0} (before xs : List A) (n : ℕ) (f : A → Standing) → length before ≡ n
     → map (slice_get (before ++ xs)) (busy_from n (map f xs)) ≡ map Some (filter (λ a. is_busy (f a).state.life) xs)
 places_from before [] n f e = refl
@@ -136,18 +136,18 @@ all_same x n xs e = splat_is_map xs n x e
 pub none_reported : (tasks : ℕ) → replicate tasks false ≡ tested tasks (λ t. false)
 none_reported tasks = splat_is_map (range_with_len 0 tasks) tasks false (length-range_with_len 0 tasks)
 
--- a list with nothing of what is behind it
+-- The front part of a list is the list before what follows it.
 pub whole : {A : Type 0} (n : ℕ) (xs ys : List A) → n ≡ length xs → take n (xs ++ ys) ≡ xs
 whole n xs ys e = ap (λ k. take k (xs ++ ys)) e ∙ take-append_seam xs ys
 
 -- ---- a set that grows
 
--- behind the end of a list nothing is told
+-- No task is reported after the end of the list.
 pub all_told : (bs : List Bool) (n t : ℕ) → length bs ≤ n
     → (nat_lt t n && unwrap_or (slice_get bs t) false) ≡ unwrap_or (slice_get bs t) false
 all_told bs n t le = grind (arith, nat_tests, slice_get_past)
 
--- one more task, told or not
+-- One more task, reported or not.
 pub grown : (f : ℕ → Bool) (n t : ℕ) (b now before : Bool) → f n ≡ b → now ≡ ((b && nat_eq t n) || before) → before ≡ (nat_lt t n && f t)
     → now ≡ (nat_lt t (n + 1) && f t)
 grown f n t b now before e step old = grind (arith, nat_tests)

@@ -1,4 +1,4 @@
--- What is kept goes with the fold over events and ends.
+-- What `States` keeps follows the events and ends.
 use Rattle.job_model.specs.Attempts.{is_known}
 use Rattle.job_model.specs.JobScript.{Script}
 use Rattle.job_model.specs.declared.ends.ActorEnd.{ActorEnd}
@@ -19,7 +19,7 @@ use Rattle.s3_types.specs.declared.request.Actor.TheVariants.{Driver}
 use Rattle.std.proofs.Common.{Bool, Option, arith, false, true, ◌&&◌, ◌≡◌}
 use Rattle.std.specs.Prelude.{option_map}
 
--- ---- how one actor stands afterwards
+-- ---- the standing of one actor afterwards
 
 pub changes_end : (w : Script) (p : Past) (x : ActorEnd) (s : Standing) → (is_known w.attempts x.actor ≡ true → s ≡ standing p x.actor)
     → ChangesAt w x.actor (ended_in x.end s) (standing p) (standing (end_op p x))
@@ -29,7 +29,7 @@ pub changes_kill : (w : Script) (p : Past) (a : Actor) (s : Standing) → (is_kn
     → ChangesAt w a (killed_in s) (standing p) (standing (kill p a))
 changes_kill w p a s h = grind arith
 
--- a new driver that still knows the reports
+-- The state with a new driver that still knows the reports.
 abbrev pub renew : Past → Past
 renew p = record p { state = put p.state Driver (idle (restarted (p.state Driver).stage)) }
 
@@ -41,7 +41,7 @@ pub changes_begin : (w : Script) (p : Past) (a : Actor) (op : Op) (s : Standing)
     → ChangesAt w a (begun_in a op s) (standing p) (standing (begin w p a op))
 changes_begin w p a op s h = grind arith
 
--- ---- who is not of the job never commits
+-- ---- an actor outside the job never commits
 
 pub never : (e : OpEnd) (s : ActorStage) → is_committing s ≡ false → is_committing (ended e s).stage ≡ false
 never e s h = grind arith
@@ -54,13 +54,13 @@ others_put w p a x h g b e = grind arith
 
 -- ---- what an end reports and decides
 
--- what ends at a stage that is committing as much reports as much, by an attempt of the job alone
+-- An end at a stage that is equally committing reports the same tasks, and only for an attempt of the job.
 pub same_report : (w : Script) (a : Actor) (s t : ActorStage) (e : OpEnd) (f : Actor → Bool) → is_committing s ≡ is_committing t
     → (is_known w.attempts a ≡ false → is_committing t ≡ false)
     → tested w.tasks (told_by a (is_committing s && is_done e) (is_reported w f)) ≡ tested w.tasks (is_reported w (report a t e f))
 same_report w a s t e f h g = grind (arith, same_tests, told_more)
 
--- the stage of a declared actor as it is kept, and of another one that has begun nothing
+-- The kept stage of a declared actor is its stage. That of another actor is not committing, like its own.
 pub same_stage : (w : Script) (p : Past) (a : Actor) (s : Standing)
     → ((b : Actor) → is_known w.attempts b ≡ false → is_committing (p.state b).stage ≡ false)
     → (is_known w.attempts a ≡ true → s ≡ standing p a) → (is_known w.attempts a ≡ false → s ≡ fresh)

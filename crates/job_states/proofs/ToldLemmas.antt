@@ -19,7 +19,7 @@ of_declared : (ds : List Declared) (q : Who) (b : Bool) (f : Actor → Bool) (t 
 of_declared [] q b f t = grind arith
 of_declared (d ∷ ds) q b f t = grind (arith, nat_tests, of_declared ds q b f t)
 
--- who is of the job adds its task where it reports, and another one reports nothing
+-- An attempt of the job adds its task if it reports. Any other actor reports nothing.
 pub told_more : (w : Script) (a : Actor) (b : Bool) (f : Actor → Bool) (t : ℕ) → (is_known w.attempts a ≡ false → b ≡ false)
     → is_reported w (put f a (f a || b)) t ≡ told_by a b (is_reported w f) t
 told_more w Driver b f t own = refl
@@ -28,7 +28,7 @@ told_more w (Attempt task n) b f t own =
     let all = of_declared w.attempts (record { task = task; attempt = n }) b f t in
     grind (arith, nat_tests, all)
 
--- none has where nobody has
+-- No task is reported if no attempt has reported.
 none_of : (ds : List Declared) (t : ℕ) → list_any (λ d. nat_eq d.0.task t && false) ds ≡ false
 none_of [] t = refl
 none_of (d ∷ ds) t = grind (arith, none_of ds t)
@@ -40,7 +40,7 @@ pub map_twice : {A B C : Type 0} (g : B → C) (f : A → B) (xs : List A) → m
 map_twice g f [] = refl
 map_twice g f (x ∷ xs) = ap (λ l. g (f x) ∷ l) (map_twice g f xs)
 
--- one more of a list is mapped
+-- One more element of a list is mapped.
 pub mapped_more : {A : Type 0} (g : A → A) (xs : List A) (i : ℕ) (x : A) → i < length xs
     → set (map g (take i xs) ++ drop i xs) i (g (get_or (map g (take i xs) ++ drop i xs) i x)) ≡ map g (take (suc i) xs) ++ drop (suc i) xs
 mapped_more g [] i x lt = absurd (omega arith)

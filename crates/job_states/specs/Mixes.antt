@@ -5,21 +5,21 @@ use Rattle.job_states.specs.Turning.{Table}
 use Rattle.s3_types.specs.declared.journal.Entry.{Entry}
 use Rattle.std.specs.Prelude.{List, Some, false, length, map, slice_get, true, ℕ, [], ◌++◌, ◌<◌, ◌^◌, ◌∷◌, ◌≡◌, ◌≤◌, ◌⊎◌}
 
--- a number is none of these
+-- Holds if the number is not in the list.
 abbrev pub IsNotIn : ℕ → List ℕ → Type 0
 IsNotIn a [] = Unit {0}
 IsNotIn a (x ∷ xs) = (x ≡ a → ⊥) × IsNotIn a xs
 
--- no place stands twice
+-- Holds if no place occurs twice.
 abbrev pub AreApart : List ℕ → Type 0
 AreApart [] = Unit {0}
 AreApart (x ∷ xs) = IsNotIn x xs × AreApart xs
 
--- the actors at these places have more to send
+-- Holds if the actors at these places have more to send.
 abbrev pub AreGoing : Table → List ℕ → Type 0
 AreGoing s places = (i q : ℕ) → slice_get places i ≡ Some q → s.goes_on q ≡ true
 
--- the actors at these places were mixed until none had more to send
+-- Holds if the actors at these places were mixed until none had more to send.
 pub record Mixed (seed : ℕ) (places : List ℕ) (s t : Table) : Type 0 where
   pub part : List Entry
   pub ends : List ActorEnd
@@ -30,7 +30,7 @@ pub record Mixed (seed : ℕ) (places : List ℕ) (s t : Table) : Type 0 where
   pub others : (q : ℕ) → ((i : ℕ) → slice_get places i ≡ Some q → ⊥) → t.goes_on q ≡ s.goes_on q
   pub actors : (q : ℕ) → t.actor q ≡ s.actor q
 
--- a mix that goes on, while the actors at these places have more to send
+-- Holds during a mix, while the actors at the places `busy` have more to send.
 pub record Mixes (seed : ℕ) (places busy : List ℕ) (last : ℕ) (s t : Table) : Type 0 where
   pub part : List Entry
   pub ends : List ActorEnd

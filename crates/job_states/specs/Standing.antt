@@ -1,4 +1,4 @@
--- How an actor stands, and what became of the driver's operations, as they are kept.
+-- The standing of an actor, and what is known of the driver's operations, as `States` keeps them.
 use Rattle.job_model.specs.declared.ends.OpEnd.{OpEnd}
 use Rattle.job_model.specs.declared.events.Op.{Op}
 use Rattle.job_spec.specs.States.{Decided, EndedSo, NotBegun, Past, Unended, dead, end_verdict, ended, idle, is_committing, is_done}
@@ -12,15 +12,15 @@ use Rattle.job_model.specs.declared.states.Life.TheVariants as lives
 use Rattle.job_model.specs.declared.states.ActorStage.TheVariants as stages
 use Rattle.job_states.specs.declared.standing.Decision.TheVariants as kept
 
--- an actor's state, the operation that it began last, and whether it has reported
+-- The standing of an actor: its state, the operation that it began last, and whether it has reported.
 abbrev pub standing : Past → Actor → Standing
 standing p a = record { state = p.state a; begun = option_map (λ d. d.op) (p.doing a); reported = p.reported a }
 
--- an actor that has begun nothing
+-- The standing of an actor that has begun nothing.
 abbrev pub fresh : Standing
 fresh = record { state = idle stages.New; begun = None; reported = false }
 
--- how one stands that begins an operation
+-- The standing of an actor that begins an operation.
 abbrev pub begun_in : Actor → Op → Standing → Standing
 begun_in a op s = record {
   state = record { life = lives.Busy; stage = stage_begun a op s.state.stage };
@@ -29,7 +29,7 @@ begun_in a op s = record {
       s.reported;
 }
 
--- how one stands whose operation ended
+-- The standing of an actor after the end of its operation.
 abbrev pub ended_in : OpEnd → Standing → Standing
 ended_in end s = record {
   state = ended end s.state.stage;
@@ -38,19 +38,19 @@ ended_in end s = record {
       (is_committing s.state.stage && is_done end);
 }
 
--- how one stands that was killed
+-- The standing of an actor that was killed.
 abbrev pub killed_in : Standing → Standing
 killed_in s = record s { state = dead s.state.stage }
 
--- how a new driver stands in the place of one
+-- The standing of a new driver in place of the old one.
 abbrev pub renewed_in : Standing → Standing
 renewed_in s = record s { state = idle (restarted s.state.stage) }
 
--- how one stands of whom no report is known
+-- The standing of an actor whose reports are forgotten.
 abbrev pub unreported_in : Standing → Standing
 unreported_in s = record s { reported = false }
 
--- two operations are the same
+-- True if both operations are the same.
 abbrev pub same_op : Op → Op → Bool
 same_op ops.Setup ops.Setup = true
 same_op ops.Write ops.Write = true
@@ -59,12 +59,12 @@ same_op ops.Abort ops.Abort = true
 same_op ops.Clean ops.Clean = true
 same_op _ _ = false
 
--- this operation is the one that was begun last
+-- True if this operation is the one that was begun last.
 abbrev pub began : Op → Option Op → Bool
 began op None = false
 began op (Some last) = same_op op last
 
--- what is kept of what became of an operation: the status that its end gives
+-- What is kept of an operation that decides: for one that ended, the status for its end.
 abbrev pub decision : Decided → Decision
 decision NotBegun = kept.NotBegun
 decision Unended = kept.Unended

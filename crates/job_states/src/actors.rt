@@ -1,26 +1,26 @@
 ghost use Rattle.std.specs.Prelude.{◌≡◌, ℕ, ◌<◌, true};
 ghost use Rattle.job_states.specs.Turning.{Table, Turned, KeepsLaws};
 
-/// What a turn of an actor came to.
+/// The result of an actor's turn.
 #[derive(Clone, Copy, PartialEq, Eq)]
 pub enum Turn {
-    /// It sent a request, and has more to send.
+    /// The actor sent a request, and has more to send.
     GoesOn,
-    /// It sent a request, and its operation ended with that.
+    /// The actor sent a request, and its operation ended with that.
     Ended,
-    /// It found no memory before it could send, and its operation ended so.
+    /// Memory ran out before the actor could send, and its operation ended so.
     Died,
 }
 
-/// Actors, at places, of which some are at an operation.
+/// Actors at numbered places. Some of them run an operation.
 pub trait Actors {
-    /// What of them matters to turns.
+    /// The part of their state that turns depend on.
     ghost table: { Self → Table };
 
-    /// What holds of them while an event goes on.
+    /// The invariant of the actors during an event.
     ghost holds: { Self → Type 0 };
 
-    /// What no turn changes.
+    /// The relation that every turn keeps.
     ghost keeps: { Self → Self → Type 0 };
 
     /// One turn of the actor at a place.

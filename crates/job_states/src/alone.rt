@@ -21,7 +21,7 @@ pub fn run<A: Actors>(actors: &mut A, place: usize)
     }
 }
 
-/// Gives the actor at a place up to so many turns, and says whether its operation goes on.
+/// Gives the actor at a place at most `count` turns. Returns true if its operation goes on.
 pub fn step<A: Actors>(actors: &mut A, place: usize, count: u32) -> bool
     requires holds { A.holds actors.old }
     requires going { (A.table actors.old).goes_on place ≡ true }

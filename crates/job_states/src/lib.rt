@@ -1,19 +1,24 @@
-//! Lives and stages of a job's actors while its events are played, what each of them began last, which tasks are
-//! reported, and what decides the status of the run; and whose turn it is among actors that send: one of them until
-//! its operation ends, so many of its requests, or all of them mixed as a seed chooses.
+//! The lives and stages of a job's actors during its run, the operation that each began last, the
+//! reported tasks, and the status of the run. It also gives turns to actors: to one of them until
+//! its operation ends, to one for a number of requests, or to all of them in an order that a seed
+//! decides.
 //!
 //! # What is proved
 //!
-//! `States`: What is past of a run by `job_spec` (`Stands`): lives and stages, what each began last,
-//! what is reported, and what decides the status. `open`, `end`, `count`, `pass` and `after` go on as
-//! that fold does; `state`, `is_busy`, `begun_last`, `missing`, `attempt`, `events` and `verdict`
-//! answer what it has, `refusal` by the table, `busy` the busy actors in their order, `reported` the
-//! tasks of which a commit misses the same one.
+//! `States`: It keeps the state of a run as `job_spec` defines it (`Stands`): lives and stages,
+//! what each actor began last, the reported tasks, and what decides the status.
 //!
-//! `run`, `step`, `mix`: Of any actors, by what one turn of one of them does: `run` gives an actor
-//! turns until its operation ends, and all entries are its own; `step` gives it at most so many, and
-//! exactly so many where its operation goes on; `mix` gives them to the busy actors as the seed
-//! chooses, entry by entry, until none is busy.
+//! - `open`, `end`, `count`, `pass` and `after` change it as events do in that definition.
+//! - `state`, `is_busy`, `begun_last`, `missing`, `attempt`, `events` and `verdict` return parts of
+//!   it.
+//! - `refusal` follows the table of refusals, `busy` returns the busy actors in their order, and
+//!   `reported` returns tasks with which a commit misses the same task.
+//!
+//! `run`, `step`, `mix`: They give turns to any actors, by the contract of one turn.
+//!
+//! - `run` gives an actor turns until its operation ends, and all entries are its own.
+//! - `step` gives it at most `count` turns, and exactly `count` if its operation goes on.
+//! - `mix` gives turns to the busy actors as the seed decides, entry by entry, until none is busy.
 #![tactic(auto)]
 
 mod actors;

@@ -3,9 +3,9 @@ ghost use Rattle.job_states.specs.Mixes.{AreApart, AreGoing, Mixed};
 
 use crate::actors::{Actors, Turn};
 
-/// Gives one turn after another to one of the busy actors, as the seed chooses it, until none is busy. The busy
-/// actors are told by their places, in the order in which they are counted. O(1) a turn, and O(n) for each
-/// actor that ends.
+/// Gives one turn after another to one of the busy actors, as the seed decides, until none is busy.
+/// `busy` has their places, in the order in which the seed counts them. O(1) a turn, and O(n) for
+/// each actor whose operation ends.
 pub fn mix<A: Actors>(actors: &mut A, seed: u32, busy: Vec<usize>)
     requires holds { A.holds actors.old }
     requires apart { AreApart busy.items }

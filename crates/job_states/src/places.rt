@@ -10,8 +10,8 @@ use crate::standing::{FRESH, Standing};
 use job_model::{AttemptName, Script};
 use s3_types::Actor;
 
-/// The place of an actor: 0 the driver's, and then those of the attempts in script order; None for one that
-/// is not of the job. It is found in O(1), and takes no memory.
+/// The place of an actor: 0 for the driver, then the attempts in script order. None if the actor
+/// does not belong to the job. Takes O(1) and no memory.
 pub fn place_of(script: &Script, actor: Actor) -> Option<usize>
     ensures { IsPlace script.now actor result }
 {
@@ -28,7 +28,7 @@ pub fn place_of(script: &Script, actor: Actor) -> Option<usize>
     }
 }
 
-/// The actor at a place, where one stands there. Takes no memory.
+/// The actor at a place, or none. Takes no memory.
 pub fn actor_at(script: &Script, place: usize) -> Option<Actor>
     ensures { result ≡ slice_get (actors script.now) place }
 {
@@ -44,7 +44,8 @@ pub fn actor_at(script: &Script, place: usize) -> Option<Actor>
     }
 }
 
-/// How an actor stands, and one that is not of the job as one that has begun nothing. Takes no memory.
+/// The standing of an actor. An actor that does not belong to the job has begun nothing. Takes no
+/// memory.
 pub fn standing_of(standings: &[Standing], script: &Script, actor: Actor) -> Standing
     ensures known { (f : Actor → Standing) → standings.now ≡ map f (actors script.now)
         → is_known script.now.attempts actor ≡ true → result ≡ f actor }
@@ -59,7 +60,7 @@ pub fn standing_of(standings: &[Standing], script: &Script, actor: Actor) -> Sta
     }
 }
 
-/// Writes down how an actor stands, where it is of the job. Takes no memory.
+/// Stores the standing of an actor, if it belongs to the job. Takes no memory.
 pub fn put_standing(
     standings: &mut Vec<Standing>,
     script: &Script,

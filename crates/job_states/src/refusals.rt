@@ -4,7 +4,7 @@ ghost use Rattle.job_spec.specs.States.{is_new, driver_may, attempt_may, may, ne
 use job_model::{ActorStage, EventFault, Life, Op};
 use s3_types::Actor;
 
-/// Whether the driver may begin an operation at this stage.
+/// True if the driver may begin the operation at this stage.
 fn driver_may(op: Op, stage: ActorStage) -> bool
     ensures { result ≡ driver_may op stage }
 {
@@ -23,7 +23,7 @@ fn driver_may(op: Op, stage: ActorStage) -> bool
     }
 }
 
-/// Whether an attempt may.
+/// True if an attempt may begin the operation at this stage.
 fn attempt_may(op: Op, stage: ActorStage) -> bool
     ensures { result ≡ attempt_may op stage }
 {
@@ -48,7 +48,7 @@ fn may(actor: Actor, op: Op, stage: ActorStage) -> bool
     }
 }
 
-/// Whether an operation waits for the end of the driver's set-up.
+/// True if the operation must wait for the end of the driver's set-up.
 fn waits(actor: Actor, op: Op, driver: ActorStage) -> bool
     ensures { result ≡ (needs_set actor op && is_new driver) }
 {
@@ -58,7 +58,7 @@ fn waits(actor: Actor, op: Op, driver: ActorStage) -> bool
     }
 }
 
-/// Why an actor at this stage may not begin an operation while the driver is at that one.
+/// Why an actor at stage `stage` may not begin an operation, if the driver is at stage `driver`.
 fn refuse_op(driver: ActorStage, actor: Actor, op: Op, stage: ActorStage) -> Option<EventFault>
     ensures { result ≡ refuse_op driver actor op stage }
 {
@@ -71,7 +71,7 @@ fn refuse_op(driver: ActorStage, actor: Actor, op: Op, stage: ActorStage) -> Opt
     Some(EventFault::WrongState)
 }
 
-/// Why an actor is not given an operation, by its life and stage and the driver's stage.
+/// Why an actor may not begin an operation, by its life and stage and the driver's stage.
 pub fn refuse_begin(
     life: Life,
     driver: ActorStage,
@@ -88,7 +88,7 @@ pub fn refuse_begin(
     }
 }
 
-/// Why an actor does not go on.
+/// Why an actor may not send.
 pub fn refuse_move(life: Life) -> Option<EventFault>
     ensures { result ≡ refuse_move life }
 {
@@ -99,7 +99,7 @@ pub fn refuse_move(life: Life) -> Option<EventFault>
     }
 }
 
-/// Why an actor is not killed.
+/// Why an actor may not be killed.
 pub fn refuse_kill(life: Life) -> Option<EventFault>
     ensures { result ≡ refuse_kill life }
 {
@@ -109,7 +109,7 @@ pub fn refuse_kill(life: Life) -> Option<EventFault>
     }
 }
 
-/// Why no new driver takes the place of one with this life.
+/// Why a driver with this life may not be replaced by a new one.
 pub fn refuse_restart(life: Life) -> Option<EventFault>
     ensures { result ≡ refuse_restart life }
 {

@@ -6,8 +6,8 @@ use job_model::TaskSet;
 use std::alloc::{AllocError, Global};
 use std::marker::Model;
 
-/// Which of a job's tasks are reported: those of which an attempt ended its commit Done since the last
-/// restart. Clauses see a truth value for each task.
+/// The reported tasks of a job: those with an attempt whose commit ended with Done since the last
+/// restart. Contracts see a truth value for each task.
 #[derive(Drop)]
 pub struct Reports {
     told: Vec<bool>,
@@ -23,14 +23,14 @@ impl Model for Reports {
     ghost invariant = { λ r. length r.told.items < 2 ^ 32 };
 }
 
-/// So many of which none is told.
+/// A list of `count` tasks, none of which is reported.
 fn untold(alloc: Global, count: usize) -> Result<Vec<bool>, AllocError>
     ensures { IfOk result (λ told. told.items ≡ replicate count false) }
 {
     vec![in alloc; false; count]
 }
 
-/// The first that is not told.
+/// The lowest task that is not reported, or none.
 fn first_untold(told: &[bool]) -> Option<u32>
     requires { length told.now < 2 ^ 32 }
     ensures { result ≡ first_false 0 told.now }
@@ -43,7 +43,7 @@ fn first_untold(told: &[bool]) -> Option<u32>
     None
 }
 
-/// Adds a number, if its task is told.
+/// Adds a task to the set, if it is reported.
 fn add_told(set: &mut TaskSet, task: u32, is_told: bool) -> Result<(), AllocError>
     ensures { OnOk result ((t : ℕ) → has_task set.new t ≡ ((is_told && nat_eq t task) || has_task set.old t)) }
 {
@@ -53,7 +53,7 @@ fn add_told(set: &mut TaskSet, task: u32, is_told: bool) -> Result<(), AllocErro
     Ok(())
 }
 
-/// The numbers of those that are told.
+/// The reported tasks.
 fn told_tasks(alloc: Global, told: &[bool]) -> Result<TaskSet, AllocError>
     requires { length told.now < 2 ^ 32 }
     ensures { IfOk result (λ set. (t : ℕ) → has_task set t ≡ unwrap_or (slice_get told.now t) false) }
@@ -65,7 +65,7 @@ fn told_tasks(alloc: Global, told: &[bool]) -> Result<TaskSet, AllocError>
     Ok(set)
 }
 
-/// None is told any more.
+/// Marks all tasks as not reported.
 fn untell(told: &mut [bool])
     ensures { (k : ℕ) → k < length told.new → slice_index_or told.new k false ≡ false }
 {
@@ -75,7 +75,7 @@ fn untell(told: &mut [bool])
 }
 
 impl Reports {
-    /// Of so many tasks none. Its memory serves for all that is told later.
+    /// `tasks` tasks, none of which is reported. Later reports take no more memory.
     pub fn new(alloc: Global, tasks: u32) -> Result<Reports, AllocError>
         ensures { IfOk result (λ reports. reports ≡ tested tasks (λ t. false)) }
     {
@@ -83,7 +83,7 @@ impl Reports {
         Ok(Reports { told })
     }
 
-    /// A task is reported. Takes no memory.
+    /// Marks a task as reported. Takes no memory.
     pub fn tell(&mut self, task: u32)
         ensures { (tasks : ℕ) (f : ℕ → Bool) → self.old ≡ tested tasks f → self.new
             ≡ tested tasks (λ t. f t || nat_eq t task) }
@@ -93,21 +93,21 @@ impl Reports {
         }
     }
 
-    /// No task is reported any more. Takes no memory.
+    /// Marks all tasks as not reported. Takes no memory.
     pub fn forget(&mut self)
         ensures { (tasks : ℕ) (f : ℕ → Bool) → self.old ≡ tested tasks f → self.new ≡ tested tasks (λ t. false) }
     {
         untell(&mut self.told);
     }
 
-    /// The least task that is not reported. Takes no memory.
+    /// The lowest task that is not reported, or none. Takes no memory.
     pub fn missing(&self) -> Option<u32>
         ensures { result ≡ first_false 0 self.now }
     {
         first_untold(&self.told)
     }
 
-    /// The tasks that are reported.
+    /// The reported tasks.
     pub fn tasks(&self, alloc: Global) -> Result<TaskSet, AllocError>
         ensures { IfOk result (λ set. (t : ℕ) → has_task set t ≡ unwrap_or (slice_get self.now t) false) }
     {

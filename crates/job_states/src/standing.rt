@@ -7,7 +7,8 @@ use job_model::{
 };
 use s3_types::Actor;
 
-/// An actor's state, the operation that it began last, and whether it has reported a task since the last restart.
+/// An actor's state, the operation that it began last, and whether it has reported a task since the
+/// last restart.
 #[derive(Clone, Copy, PartialEq, Eq)]
 pub struct Standing {
     pub state: ActorState,
@@ -15,17 +16,17 @@ pub struct Standing {
     pub reported: bool,
 }
 
-/// What became of the last one of a kind of the driver's operations.
+/// What is known of the driver's last set-up or of its commit.
 #[derive(Clone, Copy, PartialEq, Eq)]
 pub enum Decision {
     NotBegun,
-    /// It was begun, and has no end.
+    /// It was begun and has not ended.
     Unended,
-    /// It ended, and this is the status that its end gives: 0, 1, 8 or 9.
+    /// It ended. The number is the status for that end: 0, 1, 8 or 9.
     Ended(u8),
 }
 
-/// An actor that has begun nothing.
+/// The standing of an actor that has begun nothing.
 pub const FRESH: Standing = Standing {
     state: ActorState {
         life: Life::Idle,
@@ -35,7 +36,7 @@ pub const FRESH: Standing = Standing {
     reported: false,
 };
 
-/// The stage that the start of an operation gives.
+/// The stage of an actor that begins an operation.
 fn stage_begun(actor: Actor, op: Op, stage: ActorStage) -> ActorStage
     ensures { result ≡ stage_begun actor op stage }
 {
@@ -47,7 +48,7 @@ fn stage_begun(actor: Actor, op: Op, stage: ActorStage) -> ActorStage
     }
 }
 
-/// The stage of an attempt that ended what it did.
+/// The stage of an attempt whose operation ended with Done, by its stage before.
 fn stage_done(stage: ActorStage) -> ActorStage
     ensures { result ≡ stage_done stage }
 {
@@ -68,7 +69,7 @@ fn restarted(stage: ActorStage) -> ActorStage
     }
 }
 
-/// The state that the end of an attempt's operation gives.
+/// The state of an attempt after the end of its operation.
 fn after_task(end: &TaskEnd, stage: ActorStage) -> ActorState
     ensures { result ≡ task_ended end.now stage }
 {
@@ -81,7 +82,7 @@ fn after_task(end: &TaskEnd, stage: ActorStage) -> ActorState
     ActorState { life, stage }
 }
 
-/// The state that an operation's end gives.
+/// The state of an actor after the end of its operation.
 fn ended(end: &OpEnd, stage: ActorStage) -> ActorState
     ensures { result ≡ ended end.now stage }
 {
@@ -101,7 +102,7 @@ fn ended(end: &OpEnd, stage: ActorStage) -> ActorState
     ActorState { life, stage }
 }
 
-/// How an actor stands that begins an operation.
+/// The standing of an actor that begins an operation.
 pub fn begun(actor: Actor, op: Op, standing: Standing) -> Standing
     ensures { result ≡ begun_in actor op standing }
 {
@@ -115,7 +116,7 @@ pub fn begun(actor: Actor, op: Op, standing: Standing) -> Standing
     }
 }
 
-/// How an actor stands whose operation ended.
+/// The standing of an actor after the end of its operation.
 pub fn after_end(end: &OpEnd, standing: Standing) -> Standing
     ensures { result ≡ ended_in end.now standing }
 {
@@ -126,7 +127,7 @@ pub fn after_end(end: &OpEnd, standing: Standing) -> Standing
     }
 }
 
-/// How an actor stands that was killed.
+/// The standing of an actor that was killed.
 pub fn killed(standing: Standing) -> Standing
     ensures { result ≡ killed_in standing }
 {
@@ -140,7 +141,7 @@ pub fn killed(standing: Standing) -> Standing
     }
 }
 
-/// How one stands of whom no report is known.
+/// The standing of an actor whose reports are forgotten.
 pub fn unreported(standing: Standing) -> Standing
     ensures { result ≡ unreported_in standing }
 {
@@ -151,7 +152,7 @@ pub fn unreported(standing: Standing) -> Standing
     }
 }
 
-/// How a new driver stands in the place of one.
+/// The standing of a new driver in place of the old one.
 pub fn renewed(standing: Standing) -> Standing
     ensures { result ≡ renewed_in standing }
 {
@@ -165,7 +166,7 @@ pub fn renewed(standing: Standing) -> Standing
     }
 }
 
-/// Whether an attempt that ended so at this stage reports its task.
+/// True if an attempt reports its task when its operation ends so at this stage.
 pub fn is_reporting(stage: ActorStage, end: &OpEnd) -> bool
     ensures { result ≡ (is_committing stage && is_done end.now) }
 {
@@ -175,7 +176,7 @@ pub fn is_reporting(stage: ActorStage, end: &OpEnd) -> bool
     }
 }
 
-/// What becomes of the last set-up where an actor begins an operation.
+/// What is known of the last set-up, after an actor begins an operation.
 pub fn setup_begun(actor: Actor, op: Op, setup: Decision) -> Decision
     ensures { (d : Decided) → setup ≡ decision d → result ≡ decision (setup_begun actor op d) }
 {
@@ -185,7 +186,7 @@ pub fn setup_begun(actor: Actor, op: Op, setup: Decision) -> Decision
     }
 }
 
-/// What becomes of the commit where an actor begins an operation.
+/// What is known of the commit, after an actor begins an operation.
 pub fn commit_begun(actor: Actor, op: Op, commit: Decision) -> Decision
     ensures { (d : Decided) → commit ≡ decision d → result ≡ decision (commit_begun actor op d) }
 {
@@ -195,7 +196,7 @@ pub fn commit_begun(actor: Actor, op: Op, commit: Decision) -> Decision
     }
 }
 
-/// The status that an operation's end gives.
+/// The status for an operation's end.
 fn status_of(end: &OpEnd) -> u8
     ensures { result ≡ end_verdict end.now }
 {
@@ -212,7 +213,8 @@ fn status_of(end: &OpEnd) -> u8
     }
 }
 
-/// What becomes of an operation of the driver where an actor's operation ends, which was that one or not.
+/// What is known of an operation of the driver, after an actor's operation ends. `is_that` tells
+/// whether it is this one.
 pub fn decided(actor: Actor, is_that: bool, end: &OpEnd, before: Decision) -> Decision
     ensures { (d : Decided) → before ≡ decision d → result ≡ decision (decide actor is_that end.now d) }
 {
@@ -223,7 +225,7 @@ pub fn decided(actor: Actor, is_that: bool, end: &OpEnd, before: Decision) -> De
 }
 
 impl Standing {
-    /// Whether this operation is the one that the actor began last.
+    /// True if this operation is the one that the actor began last.
     pub fn began(&self, op: Op) -> bool
         ensures { result ≡ began op self.now.begun }
     {
@@ -235,7 +237,7 @@ impl Standing {
 }
 
 impl Decision {
-    /// The status that this decides, or else another one.
+    /// The status of this set-up or commit, or `other` if it was never begun.
     pub fn status_or(self, other: u8) -> u8
         ensures { (d : Decided) → self ≡ decision d → result ≡ verdict_or other d }
     {

@@ -24,10 +24,13 @@ use s3_types::Actor;
 use std::alloc::{AllocError, Global};
 use std::marker::Model;
 
-/// How a script's actors stand while its events are played: the driver's and each declared attempt's life
-/// and stage, and what each began last; the number of events; the job attempt's number, from 1; which tasks
-/// are reported; and what became of the driver's last set-up and of its commit. All memory is taken when it is
-/// made.
+/// The state of a script's actors during its run. All its memory is taken when it is made. It has:
+///
+/// - the life and stage of the driver and of each declared attempt, and the operation that each
+///   began last
+/// - the number of events, and the number of the job attempt, from 1
+/// - the reported tasks
+/// - what is known of the driver's last set-up and of its commit
 #[derive(Drop)]
 pub struct States {
     events: u32,
@@ -53,14 +56,14 @@ impl Model for States {
     } };
 }
 
-/// So many that have begun nothing.
+/// The standings of `count` actors that have begun nothing.
 fn fresh_standings(alloc: Global, count: usize) -> Result<Vec<Standing>, AllocError>
     ensures { IfOk result (λ standings. standings.items ≡ replicate count fresh) }
 {
     vec![in alloc; FRESH; count]
 }
 
-/// The driver and all attempts, each as one that has begun nothing.
+/// The standings of the driver and all attempts, which have begun nothing.
 fn all_fresh(alloc: Global, script: &Script) -> Result<Vec<Standing>, AllocError>
     ensures { IfOk result (λ standings. standings.items ≡ map (λ a. fresh) (actors script.now)) }
 {
@@ -74,7 +77,7 @@ fn is_busy(life: Life) -> bool
     matches!(life, Life::Busy)
 }
 
-/// The places of those who are busy.
+/// The places of the busy actors.
 fn busy_places(alloc: Global, standings: &[Standing]) -> Result<Vec<usize>, AllocError>
     ensures { IfOk result (λ places. places.items ≡ busy_from 0 standings.now) }
 {
@@ -87,7 +90,7 @@ fn busy_places(alloc: Global, standings: &[Standing]) -> Result<Vec<usize>, Allo
     Ok(places)
 }
 
-/// The actor that an event names; a mix names none of the job.
+/// The actor of an event. A mix has none, and gives an actor outside the job.
 fn named(event: Event) -> Actor
     ensures { result ≡ actor_named event }
 {
@@ -103,7 +106,7 @@ fn named(event: Event) -> Actor
     }
 }
 
-/// What the end of an actor's operation at this stage does to the reports.
+/// The reports after the end of an actor's operation at this stage.
 fn report(reports: &mut Reports, actor: Actor, stage: ActorStage, end: &OpEnd)
     ensures { (tasks : ℕ) (f : ℕ → Bool) → reports.old ≡ tested tasks f → reports.new
         ≡ tested tasks (told_by actor (is_committing stage && is_done end.now) f) }
@@ -116,7 +119,7 @@ fn report(reports: &mut Reports, actor: Actor, stage: ActorStage, end: &OpEnd)
     }
 }
 
-/// No report of any is known any more.
+/// Marks no actor as one that has reported.
 fn unreport(standings: &mut [Standing])
     ensures { standings.new ≡ map unreported_in standings.old }
 {
@@ -126,7 +129,8 @@ fn unreport(standings: &mut [Standing])
 }
 
 impl States {
-    /// The driver and each declared attempt idle and new, the job attempt 1, and nothing begun or reported.
+    /// The state before the first event: the driver and each declared attempt are idle and new, the
+    /// job attempt is 1, and nothing was begun or reported.
     pub fn new(alloc: Global, script: &Script) -> Result<States, AllocError>
         ensures { IfOk result (λ states. Stands script.now states nothing_past) }
     {
@@ -142,7 +146,8 @@ impl States {
         })
     }
 
-    /// The states after the first events of a script, which had these ends; ends of no event are passed over.
+    /// The states after the first events of a script, which had these ends. Ends without an event
+    /// are skipped.
     pub fn after(alloc: Global, script: &Script, ends: &[EventEnd]) -> Result<States, AllocError>
         ensures { IfOk result (λ states. Stands script.now states (past script.now ends.now)) }
     {
@@ -165,7 +170,7 @@ impl States {
         standing_of(&self.actors, script, actor).state
     }
 
-    /// Whether an actor has an operation to go on with. Takes no memory.
+    /// True if an actor runs an operation. Takes no memory.
     pub fn is_busy(&self, script: &Script, actor: Actor) -> bool
         requires { is_known script.now.attempts actor ≡ true }
         ensures { (p : Past) → Stands script.now self.now p → result ≡ is_busy (p.state actor).life }
@@ -173,7 +178,7 @@ impl States {
         is_busy(self.state(script, actor).life)
     }
 
-    /// The operation that an actor began last, if any. Takes no memory.
+    /// The operation that an actor began last, or none. Takes no memory.
     pub fn begun_last(&self, script: &Script, actor: Actor) -> Option<Op>
         requires { is_known script.now.attempts actor ≡ true }
         ensures { (p : Past) → Stands script.now self.now p → result ≡ option_map (λ d. d.op) (p.doing actor) }
@@ -181,7 +186,7 @@ impl States {
         standing_of(&self.actors, script, actor).begun
     }
 
-    /// The places of the busy actors, rising: 0 the driver's, and then those of the attempts in script order.
+    /// The places of the busy actors, rising: 0 for the driver, then the attempts in script order.
     pub fn busy(&self, alloc: Global) -> Result<Vec<usize>, AllocError>
         ensures { (w : Script) (p : Past) → Stands w self.now p
             → IfOk result (λ places. map (slice_get (actors w)) places.items ≡ map Some (busy_actors w p.state)) }
@@ -190,14 +195,15 @@ impl States {
         Ok(places)
     }
 
-    /// The least task of which no attempt ended its commit Done since the last restart. Takes no memory.
+    /// The lowest task without an attempt whose commit ended with Done since the last restart, or
+    /// none. Takes no memory.
     pub fn missing(&self) -> Option<u32>
         ensures { (w : Script) (p : Past) → Stands w self.now p → result ≡ missing w p.reported }
     {
         self.reports.missing()
     }
 
-    /// The tasks of which an attempt did. A job's commit that is given them misses the same one.
+    /// The tasks with such an attempt. A job's commit with these misses the same task.
     pub fn reported(&self, alloc: Global) -> Result<TaskSet, AllocError>
         ensures exact { (w : Script) (p : Past) → Stands w self.now p
             → IfOk result (λ set. (t : ℕ) → has_task set t ≡ (nat_lt t w.tasks && is_reported w p.reported t)) }
@@ -208,7 +214,7 @@ impl States {
         Ok(tasks)
     }
 
-    /// Whether an actor has ended its commit Done since the last restart. Takes no memory.
+    /// True if an actor's commit has ended with Done since the last restart. Takes no memory.
     pub fn has_reported(&self, script: &Script, actor: Actor) -> bool
         requires { is_known script.now.attempts actor ≡ true }
         ensures { (p : Past) → Stands script.now self.now p → result ≡ p.reported actor }
@@ -216,7 +222,7 @@ impl States {
         standing_of(&self.actors, script, actor).reported
     }
 
-    /// The job attempt's number: one more than the restarts so far.
+    /// The number of the job attempt: one more than the number of restarts so far.
     pub fn attempt(&self) -> u32
         ensures { (w : Script) (p : Past) → Stands w self.now p → result ≡ p.attempt }
     {
@@ -230,15 +236,16 @@ impl States {
         self.events
     }
 
-    /// The status of the run: 0 where the driver's commit ended Committed, 8 where a request of it wore out, 9 where
-    /// memory was wanting, and else 1; where no commit was begun, the same of its last set-up.
+    /// The status of the run: 0 if the driver's commit ended with Committed, 8 if one of its
+    /// requests ran out of retries, 9 if memory ran out, and 1 otherwise. If no commit was begun,
+    /// its last set-up decides in the same way.
     pub fn verdict(&self) -> u8
         ensures { (w : Script) (p : Past) → Stands w self.now p → result ≡ verdict_or (verdict_or 1 p.setup) p.commit }
     {
         self.commit.status_or(self.setup.status_or(1))
     }
 
-    /// Why an event of the script is refused, if it is. Takes no memory.
+    /// Why an event of the script is refused, or none. Takes no memory.
     pub fn refusal(&self, script: &Script, event: Event) -> Option<EventFault>
         requires { IsEvent script.now.attempts event }
         ensures { (p : Past) → Stands script.now self.now p → result ≡ refusal p.state event }
@@ -268,8 +275,8 @@ impl States {
         refuse_begin(state.life, driver.stage, actor, op, state.stage)
     }
 
-    /// What an event of the script that is not refused does before its requests. Takes no memory. There are fewer
-    /// than 2^32 - 1 restarts in a script.
+    /// Begins an event of the script that is not refused, before its requests. Takes no memory. A
+    /// script has fewer than 2^32 - 1 restarts.
     pub fn open(&mut self, script: &Script, event: Event)
         requires event { IsEvent script.now.attempts event }
         requires room { self.old.attempt < 2 ^ 32 - 1 }
@@ -286,7 +293,7 @@ impl States {
         }
     }
 
-    /// What the end of an actor's operation does. Takes no memory.
+    /// Ends an actor's operation. Takes no memory.
     pub fn end(&mut self, script: &Script, actor_end: &ActorEnd)
         ensures stands { (p : Past) → Stands script.now self.old p
             → Stands script.now self.new (end_op p actor_end.now) }
@@ -296,7 +303,7 @@ impl States {
         self.end_of(script, actor_end.actor, &actor_end.end);
     }
 
-    /// One more event is past. Takes no memory.
+    /// Counts one more event. Takes no memory.
     pub fn count(&mut self)
         requires { self.old.events < 2 ^ 32 - 1 }
         ensures stands { (w : Script) (p : Past) → Stands w self.old p → Stands w self.new (count p) }
@@ -306,8 +313,8 @@ impl States {
         self.events += 1;
     }
 
-    /// One more event of the script had this end: it is opened unless it was refused, then the operations that
-    /// ended in it end, and it is counted. Takes no memory.
+    /// Adds one more event of the script with its end: the event begins unless it was refused, then
+    /// the operations that ended in it end, and it is counted. Takes no memory.
     pub fn pass(&mut self, script: &Script, event: Event, end: &EventEnd)
         requires event { IsEvent script.now.attempts event }
         requires attempt { self.old.attempt < 2 ^ 32 - 1 }
@@ -321,7 +328,7 @@ impl States {
         self.count();
     }
 
-    /// An event that was refused changes nothing; another is opened, and then its ends come.
+    /// A refused event changes nothing. Any other one begins, and then its operations end.
     fn play(&mut self, script: &Script, event: Event, end: &EventEnd)
         requires event { IsEvent script.now.attempts event }
         requires room { self.old.attempt < 2 ^ 32 - 1 }
@@ -339,7 +346,7 @@ impl States {
         }
     }
 
-    /// What the ends do that an event had.
+    /// Ends the operations that ended in an event.
     fn finish(&mut self, script: &Script, event: Event, end: &EventEnd)
         ensures stands { (p : Past) → Stands script.now self.old p
             → Stands script.now self.new (end_ops p (told event end.now)) }

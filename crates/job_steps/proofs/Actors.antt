@@ -1,4 +1,4 @@
--- Actors that are the same or not, and what is put at one of them.
+-- Actors that are the same or not, and values that are put at one of them.
 use Rattle.basics.proofs.Members.{false_true, true_or_false}
 use Rattle.job_spec.specs.States.{put, same_actor}
 use Rattle.s3_types.specs.declared.request.Actor.{Actor}
@@ -25,7 +25,7 @@ put_here f k v q e = ap (λ b. cond b v (f q)) (same_true q k e)
 pub put_other : {X : Type 0} (f : Actor → X) (k : Actor) (v : X) (q : Actor) → (q ≡ k → ⊥) → put f k v q ≡ f q
 put_other f k v q ne = ap (λ b. cond b v (f q)) (same_false q k ne)
 
--- what is put at an actor holds there, and what held elsewhere holds still
+-- A property holds of the value that is put at an actor, and still holds of the values of the others.
 pub one_put : {X : Type 0} (P : X → Type 0) (f : Actor → X) (c : Actor) (v : X) (q : Actor) → (q ≡ c → P v) → ((q ≡ c → ⊥) → P (f q))
     → P (put f c v q)
 one_put P f c v q here old = elim (same_or_not q c) [

@@ -61,7 +61,7 @@ from_part n p [] all = tt
 from_part n p (e ∷ es) all = elim (p e) as (λ b. AllFrom n (cond b (e ∷ filter p es) (filter p es)))
     [ true ↦ (all.0, from_part n p es all.1) | false ↦ from_part n p es all.1 ]
 
--- one more of the job's own
+-- One more entry of the job's own.
 pub from_own : (n : ℕ) (es : List Entry) (e : Entry) → AllFrom n (own es) → n ≤ e.event → AllFrom n (own (es ++ e ∷ []))
 from_own n es e h g = grind (arith, kept, from_last, left_out)
 
@@ -75,7 +75,7 @@ rising_last n (x ∷ es) e all late h = let one : x.event ≤ n = all.0 in (
 
 -- ---- parts by events
 
--- a test that takes all, and one that takes none
+-- A test that every entry passes, and one that none passes.
 all_taken : (p : Entry → Bool) (n : ℕ) (es : List Entry) → ((e : Entry) → e.event ≤ n → p e ≡ true) → AllUpTo n es → filter p es ≡ es
 all_taken p n [] h all = refl
 all_taken p n (e ∷ es) h all = ap (λ b. cond b (e ∷ filter p es) (filter p es)) (h e all.0) ∙ ap (λ z. e ∷ z) (all_taken p n es h all.1)
@@ -110,7 +110,7 @@ since_late k es e h = kept (λ x. nat_le k x.event) es e (at_most_so k e.event h
 pub until_late : (k : ℕ) (es : List Entry) (e : Entry) → k < e.event → until k (es ++ e ∷ []) ≡ until k es
 until_late k es e h = left_out (λ x. nat_le x.event k) es e (above_so e.event k h)
 
--- one more is of them or not
+-- One more entry is among them or is not.
 pub until_either : (k : ℕ) (es : List Entry) (e : Entry) → (until k (es ++ e ∷ []) ≡ until k es)
     ⊎ (until k (es ++ e ∷ []) ≡ until k es ++ e ∷ [])
 until_either k es e = elim (true_or_false (nat_le e.event k)) [
@@ -128,7 +128,7 @@ by_itself a es e h = kept (λ x. same_actor x.actor a) es e h
 pub by_another : (a : Actor) (es : List Entry) (e : Entry) → same_actor e.actor a ≡ false → by_actor a (es ++ e ∷ []) ≡ by_actor a es
 by_another a es e h = left_out (λ x. same_actor x.actor a) es e h
 
--- an actor of the job, and a stranger's entry
+-- An actor of the job, and a stranger's entry.
 pub by_own : (a : Actor) → is_own a ≡ true → (es : List Entry) (n : ℕ) (r : Request) (o : Outcome)
     → by_actor a (es ++ strange_entry n r o ∷ []) ≡ by_actor a es
 by_own Shell own es n r o = absurd (false_true refl own)

@@ -1,4 +1,4 @@
--- What is past after one more event or end, who is busy then, and which operations events begin.
+-- The states after one more event or end, which actors are busy then, and which operations events begin.
 use Rattle.basics.proofs.Members.{false_true, none_some, some_is}
 use Rattle.job_model.specs.Attempts.{Declared}
 use Rattle.job_model.specs.JobScript.{Script}
@@ -60,7 +60,7 @@ busy_is l h = grind arith
 pub busy_not : (l : Life) → l ≡ Busy → is_busy l ≡ false → ⊥
 busy_not l e h = false_true h (busy_so l e)
 
--- who ended is not busy
+-- An actor whose operation ended is not busy.
 pub ended_idle : (e : OpEnd) (s : ActorStage) → is_busy (ended e s).life ≡ false
 ended_idle e s = grind arith
 
@@ -70,7 +70,7 @@ pub turns_refused : (w : Script) (st : Actor → ActorState) (ev : Event) (end :
     → Turns w st ev end es → end ≡ Refused f → ⊥
 turns_refused w st ev end es f h g = grind arith
 
--- an event may have no entry yet
+-- An event in progress may have no entry yet.
 pub turns_open : (w : Script) (st : Actor → ActorState) (ev : Event) → OpenTurns w st ev []
 turns_open w st (Do a op) = tt
 turns_open w st (Step a n) = let l : 0 ≤ n = omega arith in (tt, l)
@@ -80,11 +80,11 @@ turns_open w st _ = refl
 
 -- ---- operations that begin
 
--- the actor has such an operation
+-- The actor has such an operation.
 abbrev pub Starts : Setting → Actor → Op → Type 0
 Starts g a op = (reports : Reports) (k : Known) → (o : Operation) × (start_of g a op reports k ≡ Some o)
 
--- an event begins operations that its actor has
+-- An event begins only operations that its actor has.
 abbrev pub Begins : Setting → Event → Type 0
 Begins g (Do a op) = Starts g a op
 Begins g (Start a op) = Starts g a op
@@ -105,13 +105,13 @@ fine_starts : (g : Setting) (a : Actor) (op : Op) (st : Actor → ActorState)
 fine_starts g a op st h = has_starts g a op (may_has a op (st a).stage (begins_so (st Driver).stage a op (st a).life (st a).stage
     h).may_begin)
 
--- an event that is not refused does
+-- An event that is not refused does so.
 pub fine_begins : (g : Setting) (st : Actor → ActorState) (ev : Event) → refusal st ev ≡ None → Begins g ev
 fine_begins g st (Do a op) h = fine_starts g a op st h
 fine_begins g st (Start a op) h = fine_starts g a op st h
 fine_begins g st _ h = tt
 
--- so does each event of a legal script
+-- So does each event of a legal script.
 pub legal_begins : (g : Setting) (attempts : List Declared) (ev : Event) → IsEvent attempts ev → Begins g ev
 legal_begins g attempts ev h = grind (arith, has_starts)
 

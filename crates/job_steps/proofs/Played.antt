@@ -1,4 +1,4 @@
--- Between events a run has done what its events say.
+-- At each point between two events a run has done what its events say.
 use Rattle.job_model.specs.Legal.{IsLegal}
 use Rattle.job_model.specs.declared.events.Event.{Event}
 use Rattle.job_protocol.specs.Operations.{Setting}
@@ -21,7 +21,7 @@ module _ (g : Setting) (opening : Content) (x : Play) (legal : IsLegal g.script)
   up_to : AllUpTo (length x.ends) x.journal
   up_to = (h.closed idle).1
 
-  -- the next event has no entry
+  -- The next event has no entry.
   no_entry : of_event (length x.ends + 1) x.journal ≡ []
   no_entry = event_none (length x.ends) x.journal up_to
 

@@ -1,4 +1,4 @@
--- Until the driver cleans up each task that is reported has a last publisher.
+-- Until the driver cleans up, each task that is reported was published.
 use Rattle.basics.proofs.Members.{eq_nat, false_true, nat_true, none_some, same_or_not, some_is, true_or_false}
 use Rattle.job_facts.proofs.Whose.{attempt}
 use Rattle.job_facts.specs.Standing.{HasPublished}
@@ -48,7 +48,7 @@ use Rattle.std.specs.List.{list_any}
 use Rattle.job_model.specs.declared.ends.TaskEnd.TheVariants as tasks
 use Rattle.job_model.specs.declared.ends.OpEnd.TheVariants as ends
 
--- who has begun to clean up has begun to ever after
+-- If the driver has begun to clean up, it has ever after.
 tell_keeps : (w : Script) (m : Told) (e : Entry) → m.cleaned ≡ true → (tell w m e).cleaned ≡ true
 tell_keeps w m e h = elim e.actor as (λ a. (tell_by w m e.event e.request e.outcome a).cleaned ≡ true)
     [ Driver ↦ ap (λ c. c || is_begun m.cleans_at e.event) h | _ ↦ h ]
@@ -60,20 +60,20 @@ cleaned_more w m (x ∷ es) e h = cleaned_more w (tell w m x) es e h
 
 -- ---- who has published
 
--- what has a last publisher has one behind more entries
+-- A task that was published still is after more entries.
 pub last_more : (w : Script) (k : Times) (s : Seen) (es : List Entry) (t : ℕ) → HasPublished s t → HasPublished (see_all w k s es) t
 last_more w k s [] t h = h
 last_more w k s (e ∷ es) t h = last_more w k (see w k s e) es t (last_still w k s e t h)
 
 module _ (w : Script) (k : Times) where
-  -- a publishing request that took effect makes a last publisher
+  -- After a publishing request that took effect, the task is published.
   published_here : (s : Seen) (n : ℕ) (r : Request) (o : Outcome) (t a : ℕ) → is_effective o ≡ true → is_publishing w s.scene t r ≡ true
       → HasPublished (see_by w k s n r o (Attempt t a)) t
   published_here s n r Slow t a took h = absurd (false_true refl took)
   published_here s n r RequestLost t a took h = absurd (false_true refl took)
   published_here s n r _ t a took h = (a, rw (nat_true t t refl, h) refl)
 
-  -- and it has one ever after
+  -- It is published ever after.
   published_at : (s : Seen) (es : List Entry) (m : ℕ) (e : Entry) (t a : ℕ) → slice_get es m ≡ Some e → e.actor ≡ Attempt t a
       → is_effective e.outcome ≡ true → is_publishing w (see_all w k s (take m es)).scene t e.request ≡ true
       → HasPublished (see_all w k s es) t
@@ -86,7 +86,7 @@ module _ (w : Script) (k : Times) where
   published_at s (x ∷ es) (suc m) e t a at by took h = published_at (see w k s x) es m e t a at by took h
 
 module _ (g : Setting) (k : Times) (opening : Content) (j : IsLegal g.script) (is_opening : IsOpening g opening) where
-  -- a task's commit that is done has made a last publisher, until the driver cleans up
+  -- If an attempt's commit is done, its task is published, until the driver cleans up.
   done_published : (es : List Entry) (x : Stand) → Runs g k opening es x → x.told.cleaned ≡ false → (a : Who) (t : Retried TaskCommit)
       → x.attempts a ≡ Some (TheTaskCommit t) → t.operation ≡ TaskCommitOver tasks.Done → HasPublished x.seen a.task
   done_published es x run clean a t at done =
@@ -104,7 +104,7 @@ module _ (g : Setting) (k : Times) (opening : Content) (j : IsLegal g.script) (i
 abbrev pub AllReported : (Actor → Bool) → Seen → Type 0
 AllReported reported s = (t n : ℕ) → reported (Attempt t n) ≡ true → HasPublished s t
 
--- where none is missing all are so
+-- If no task is missing, all are reported.
 none_left : (p : ℕ → Bool) (t n : ℕ) → first_not p t n ≡ None → (u : ℕ) → t ≤ u → u < t + n → p u ≡ true
 none_left p t zero e u low high = absurd (omega (arith, low, high))
 none_left p t (suc n) e u low high = elim (true_or_false (p t)) [
@@ -116,7 +116,7 @@ none_left p t (suc n) e u low high = elim (true_or_false (p t)) [
   ]
 ]
 
--- a task that is reported is so by an attempt
+-- If a task is reported, some attempt has reported it.
 reported_by : (reported : Actor → Bool) (t : ℕ) (ds : List Declared)
     → list_any (λ a. nat_eq a.0.task t && reported (actor_of a.0)) ds ≡ true → (n : ℕ) × (reported (Attempt t n) ≡ true)
 reported_by reported t [] h = absurd (false_true refl h)
@@ -127,13 +127,13 @@ reported_by reported t (d ∷ ds) h = elim (or_cases (nat_eq d.0.task t && repor
   | inr more ↦ reported_by reported t ds more
 ]
 
--- where none is missing each has a last publisher
+-- If no task is missing, each is published.
 pub all_published : (w : Script) (reported : Actor → Bool) (s : Seen) → AllReported reported s → missing w reported ≡ None → (t : ℕ)
     → t < w.tasks → HasPublished s t
 all_published w reported s all none t low = let x = reported_by reported t w.attempts
     (none_left (is_reported w reported) 0 w.tasks none t (omega arith) (omega (arith, low))) in all t x.0 x.1
 
--- what an end reports: an attempt's commit that is done
+-- An end that reports: that of an attempt's commit which is done.
 record Reporting (a : Actor) (s : ActorStage) (e : OpEnd) (t : ℕ) : Type 0 where
   number : ℕ
   actor : a ≡ Attempt t number
@@ -156,7 +156,7 @@ reporting (Attempt u m) s e p t n =
     (λ ne. inl)
 reporting _ s e p t n = inl
 
--- the task's commit that is done
+-- Two ends of attempts' operations that are equal as ends of operations are equal.
 task_is : {x y : TaskEnd} → ends.Task x ≡ ends.Task y → x ≡ y
 task_is e = cc
 
@@ -176,7 +176,7 @@ module _ (g : Setting) (opening : Content) (j : IsLegal g.script) (is_opening : 
   abbrev pub seen_of : Play → Seen
   seen_of x = see_all w k (nothing_seen opening) x.journal
 
-  -- the driver has not begun to clean up
+  -- The driver has not begun to clean up.
   abbrev pub Unclean : Play → Type 0
   Unclean x = (tell_all w (nothing_told (clean_event w all_ends)) x.journal).cleaned ≡ false
 
@@ -187,12 +187,12 @@ module _ (g : Setting) (opening : Content) (j : IsLegal g.script) (is_opening : 
   opened : (y : Play) (ev : Event) → AllReported y.past.reported (seen_of y) → AllReported (open_event w y.past ev).reported (seen_of y)
   opened y ev h = grind arith
 
-  -- a task that has a last publisher has one ever after
+  -- A task that is published is published ever after.
   pub later : (y : Play) (e : Entry) (t : ℕ) → HasPublished (seen_of y) t
       → HasPublished (see_all w k (nothing_seen opening) (y.journal ++ e ∷ [])) t
   later y e t h = subst (λ s. HasPublished s t) (sym (see_more w k (nothing_seen opening) y.journal e)) (last_still w k (seen_of y) e t h)
 
-  -- what is told now was not told before
+  -- If the driver has not begun to clean up after an entry, it had not before it.
   pub unclean_before : (y : Play) (e : Entry) → (tell_all w (nothing_told (clean_event w all_ends)) (y.journal ++ e ∷ [])).cleaned ≡ false
       → Unclean y
   unclean_before y e h =

@@ -1,4 +1,4 @@
--- What happens in a run is one of the job's runs, by each kind of happening.
+-- A run of allowed steps is one of the job's runs, by each kind of step.
 use Rattle.basics.proofs.Members.{none_some}
 use Rattle.job_facts.proofs.Whose.{attempt}
 use Rattle.job_model.specs.JobScript.{Script}
@@ -40,17 +40,17 @@ use Rattle.std.proofs.Common.{List, None, Option, Some, ap, append_assoc, arith,
 use Rattle.std.proofs.Common.{sym, true, ℕ, [], ◌++◌, ◌+◌, ◌^◌, ◌||◌, ◌∙◌, ◌∷◌, ◌≡◌, ◌≤◌, ◌⊎◌}
 use Rattle.std.proofs.Math.Bool.{and-false}
 
--- the number of the event that goes on, or of the last one
+-- The number of the event in progress, or of the last one.
 abbrev pub number : Option Event → ℕ → ℕ
 number None n = n
 number (Some ev) n = n + 1
 
--- what is carried from one happening to the next
+-- What each step keeps.
 pub record Carried (g : Setting) (opening : Content) (k : Times) (x : Play) : Type 0 where
   pub along : Along g opening k (begun_at k (number x.now (length x.ends))) x.journal x.running x.live.state
   pub rest : x.now ≡ None → x.live.state ≡ x.past.state
 
--- ---- what is ahead was ahead before
+-- ---- the ends of a longer run are those of a shorter one
 
 pub sent_ahead : (g : Setting) (x : Play) (e : Entry) (ends : List EventEnd) → Ahead (happen g x (Sends e)) ends → Ahead x ends
 sent_ahead g x e ends h = record { rest = h.rest; is = h.is; going = h.going }
@@ -75,7 +75,7 @@ refused_ahead g x f ends idle h = record {
       e. absurd (none_some idle e);
 }
 
--- an event that was opened does not end refused
+-- An event that was opened does not end as refused.
 pub not_refused : (w : Script) (st : Actor → ActorState) (ev : Event) (end : EventEnd) (es : List Entry) → Turns w st ev end es
     → is_refused end ≡ false
 not_refused w st ev end es h = grind arith
@@ -124,7 +124,7 @@ module _ (g : Setting) (opening : Content) (j : IsLegal g.script) (is_opening : 
   begun_so k b x h (Recover a) e legal = absurd cc
   begun_so k b x h _ e legal = still g opening k j is_opening h
 
-  -- between events, by the number of the last one and the states then
+  -- Between two events, by the number of the last one and the states then.
   between : (k : Times) (x : Play) → Carried g opening k x → x.now ≡ None
       → Along g opening k (begun_at k (length x.ends)) x.journal x.running x.past.state
   between k x h idle =
@@ -224,7 +224,7 @@ module _ (g : Setting) (opening : Content) (j : IsLegal g.script) (is_opening : 
     rest = λ e. absurd (none_some e may.during);
   }
 
-  -- ---- all of them
+  -- ---- all steps
 
   first : (k : Times) → (is_begun k.commit 0 ≡ false) × (is_begun k.clean 0 ≡ false) → Carried g opening k nothing_played
   first k e = record {

@@ -1,4 +1,4 @@
--- How far a run has come with a job: it is one of the job's runs, and what its actors are at is by their lives and stages.
+-- A run of allowed steps is one of the job's runs, and the operation of each actor fits the actor's life and stage.
 use Rattle.basics.proofs.Members.{false_true, none_some, some_is, true_or_false}
 use Rattle.job_facts.proofs.Whose.{attempt, who_is}
 use Rattle.job_facts.specs.Foreign.{IsForeign}
@@ -37,18 +37,18 @@ use Rattle.s3_types.specs.declared.request.Request.{Request}
 use Rattle.std.proofs.Common.{List, None, Option, Some, ap, arith, cond, false, inl, inr, length, refl, subst, sym, true, ℕ, [], ◌++◌, ◌^◌}
 use Rattle.std.proofs.Common.{◌∙◌, ◌∷◌, ◌≡◌, ◌≤◌}
 
--- where it stands is where one of the job's runs does, and its actors began these operations last
+-- The state is that of one of the job's runs, and its actors began these operations last.
 pub record Ran (g : Setting) (opening : Content) (k : Times) (journal : List Entry) (running : Actor → Option Running) (stand : Stand) :
     Type 0 where
   pub runs : Runs g k opening journal stand
   pub cleans : stand.told.cleans_at ≡ k.clean
   pub driver : stand.driver ≡ operation_of (running Driver)
   pub attempts : (a : Who) → stand.attempts a ≡ operation_of (running (actor_of a))
-  -- what an attempt knew as it last sent it knows still
+  -- What an attempt knew when it sent last is what it knows now.
   pub last : (a : Who) (m : Running) → running (actor_of a) ≡ Some m → m.known ≡ known stand.told a
   pub nobody : running Shell ≡ None
 
--- the driver and the attempts are in these states and at these operations; b says whether the commit has begun
+-- The driver and the attempts are in these states and run these operations; b says whether the commit, and an abort or clean, have begun.
 pub record Along (g : Setting) (opening : Content) (k : Times) (b : Begun) (journal : List Entry) (running : Actor → Option Running)
     (state : Actor → ActorState) : Type 0 where
   pub stand : Stand
@@ -56,11 +56,11 @@ pub record Along (g : Setting) (opening : Content) (k : Times) (b : Begun) (jour
   pub open ran use *
   pub timed : IsTimed b (operation_of (running Driver))
   pub driver_at : DriverAt (state Driver).stage (state Driver).life (operation_of (running Driver))
-  -- while the driver is at its first stage no attempt is at anything
+  -- While the driver is new, no attempt has begun anything.
   pub unset : is_new (state Driver).stage ≡ true → (a : Who) → operation_of (running (actor_of a)) ≡ None
   pub attempt_at : (a : Who) → AttemptAt (state (actor_of a)).stage (state (actor_of a)).life (operation_of (running (actor_of a)))
 
--- ---- what an actor is at
+-- ---- the operation of an actor
 
 abbrev pub ActorAt : Actor → ActorStage → Life → Option Operation → Type 0
 ActorAt Driver s l d = DriverAt s l d
@@ -70,7 +70,7 @@ ActorAt Shell s l d = Unit {0}
 pub actor_dies : (a : Actor) (s : ActorStage) (l : Life) (d : Option Operation) → ActorAt a s l d → ActorAt a s Dead d
 actor_dies a s l d h = grind arith
 
--- where its operation ended so it is at what it was at, the driver at its first stage only where it was
+-- When its operation ends, the operation still fits the actor's new state, and the driver is new only if it was new before.
 pub actor_ends : (a : Actor) (s : ActorStage) (op : Operation) (e : OpEnd) → ActorAt a s Busy (Some op) → over op ≡ Some e
     → ActorAt a (ended e s).stage (ended e s).life (Some op) × (a ≡ Driver → is_new (ended e s).stage ≡ true → is_new s ≡ true)
 actor_ends Driver s op e h o = let x = driver_ends s op e h o in (x.0, λ is. x.1)
@@ -78,7 +78,7 @@ actor_ends (Attempt t n) s op e h o = (attempt_ends s op e h o, λ is. absurd cc
 actor_ends Shell s op e h o = (tt, λ is. absurd cc)
 
 module _ (g : Setting) (opening : Content) (k : Times) (j : IsLegal g.script) (is_opening : IsOpening g opening) where
-  -- what an attempt knows by its entries
+  -- What an attempt knows by its entries.
   pub told_known : (es : List Entry) (x : Stand) → Runs g k opening es x → (a : Who)
       → known x.told a ≡ knows g.script a (by_actor (actor_of a) es)
   told_known es x run a = ap (λ m. known m a) (tells_so g k opening j is_opening es x run) ∙ known_is g.script a es
@@ -93,12 +93,12 @@ module _ (g : Setting) (opening : Content) (k : Times) (j : IsLegal g.script) (i
     at_of (Attempt t n) = h.attempt_at (attempt t n)
     at_of Shell = tt
 
-    -- of one that is busy
+    -- The operation of a busy actor.
     pub busy_at : (a : Actor) (m : Running) → (st a).life ≡ Busy → r a ≡ Some m → ActorAt a (st a).stage Busy (Some m.operation)
     busy_at a m busy is = subst (λ l. ActorAt a (st a).stage l (Some m.operation)) busy
         (subst (λ o. ActorAt a (st a).stage (st a).life (operation_of o)) is (at_of a))
 
-    -- ---- states change alone
+    -- ---- only the states change
 
     pub state_so : (a : Actor) (v : ActorState) → ActorAt a v.stage v.life (operation_of (r a))
         → (a ≡ Driver → is_new v.stage ≡ true → is_new (st a).stage ≡ true)
@@ -248,7 +248,7 @@ module _ (g : Setting) (opening : Content) (k : Times) (j : IsLegal g.script) (i
               ]) (who_is c a);
         }
 
-    -- a stranger sends what is foreign
+    -- A stranger sends a request that is foreign.
     pub strays_on : (n : ℕ) (q : Request) (o : Outcome) → IsForeign g.script (λ a. (knows g.script a (by_actor (actor_of a) es)).drawn) q
         → Along g opening k b (es ++ strange_entry n q o ∷ []) r st
     strays_on n q o foreign = record {

@@ -55,12 +55,12 @@ module _ (w : Script) (a : Who) where
   pub commit_begins : FreeCommit (task_commit_start w a)
   commit_begins = elim w.committer as (λ c. FreeCommit (task_commit_start_by c w a)) [ Magic ↦ refl | _ ↦ free_checking (to_check w a) ]
 
--- the end that a task's commit has
+-- A task's commit that is over has this end.
 pub over_is : (t : TaskCommit) (e : TaskEnd) → task_commit_over t ≡ Some e → t ≡ TaskCommitOver e
 over_is t e h = grind arith
 
--- ---- ahead
+-- ---- how a run may go on
 
--- the run may go on so
+-- The run may go on with this end.
 pub goes_on : (x : Play) → Ahead x (x.ends ++ Done ∷ [])
 goes_on x = record { rest = Done ∷ []; is = refl; going = λ ev e. (Done, [], refl, refl) }

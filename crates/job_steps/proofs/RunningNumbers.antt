@@ -1,4 +1,4 @@
--- Where the event of the job's commit is, by the events and ends that are there and to come; and what a script's bounds say of its events.
+-- The number of the event of the job's commit, by the events and ends so far and to come; and what a script's bounds say of its events.
 use Rattle.basics.proofs.Members.{none_some, some_is, true_or_false}
 use Rattle.basics.proofs.Naturals.{above_so}
 use Rattle.job_facts.proofs.Whose.{attempt, who_is}
@@ -20,7 +20,7 @@ use Rattle.std.specs.Map.{lookup}
 -- ---- the first event that passes a test
 
 module _ (f : Event → Bool) where
-  -- it is none of those before the first that is looked at
+  -- No event before the first one that is examined has that number.
   pub later : (n : ℕ) (evs : List Event) (xs : List EventEnd) (p : ℕ) → p < n → is_begun (event_from f n evs xs) p ≡ false
   later n [] xs p l = refl
   later n (v ∷ evs) [] p l = cond_both (f v) (Some n) (event_from f (n + 1) evs []) (λ o. is_begun o p ≡ false) (λ t. above_so n p l)
@@ -29,7 +29,7 @@ module _ (f : Event → Bool) where
       cond_both (f v && not (is_refused x)) (Some n) (event_from f (n + 1) evs xs) (λ o. is_begun o p ≡ false) (λ t. above_so n p l)
       (λ t. later (n + 1) evs xs p (omega arith))
 
-  -- with one more event it has begun where it had, or where that event passes it and is not refused
+  -- After one more event it has begun if it had before, or if that event passes the test and is not refused.
   here : (n p : ℕ) (next : Option ℕ) → n ≡ p + 1 → is_begun next (p + 1) ≡ false → is_begun next p ≡ false → (b : Bool)
       → is_begun (cond b (Some n) next) (p + 1) ≡ (is_begun (cond b (Some n) next) p || b)
   here n p next h g e b = grind arith
@@ -51,7 +51,7 @@ module _ (f : Event → Bool) where
       there n p (event_from f (n + 1) evs (front ++ end ∷ more)) (f ev && not (is_refused end)) (omega arith)
       (begun_from (n + 1) evs front end more ev p (omega arith) e) (f v && not (is_refused x))
 
--- in a run, with one more event
+-- In a run, after one more event.
 abbrev pub begun_at : Times → ℕ → Begun
 begun_at k n = record { commit = is_begun k.commit n; clean = is_begun k.clean n }
 
@@ -66,7 +66,7 @@ begun_next w front end more ev e b fine =
     (λ v. is_begun (clean_event w (front ++ end ∷ more)) (length front) || (begins_clean ev && v)) fine in
     λ i. record { commit = c i; clean = d i }
 
--- before the first event neither has
+-- Before the first event neither has begun.
 pub unbegun : (w : Script) (xs : List EventEnd) → (is_begun (commit_event w xs) 0 ≡ false) × (is_begun (clean_event w xs) 0 ≡ false)
 unbegun w xs = (later begins_commit 1 w.events xs 0 (omega arith), later begins_clean 1 w.events xs 0 (omega arith))
 
@@ -84,6 +84,6 @@ bounds_in tasks before (d ∷ es) a h e = elim (true_or_false (same_name a d.0))
   | inr s ↦ bounds_in tasks (before ++ d ∷ []) es a h.4 (sym (ap (λ b. is_some (cond b (Some d.1) (lookup (same_name a) es))) s) ∙ e)
 ]
 
--- an attempt that an event names has a task of the job
+-- An attempt that an event names has a task of the job.
 pub known_attempt : {w : Script} → IsLegal w → (t n : ℕ) → is_known w.attempts (Attempt t n) ≡ true → IsAttempt w (attempt t n)
 known_attempt {w = w} j t n e = let b = bounds_in w.tasks [] w.attempts (attempt t n) j.attempts e in record { task = b.0; attempt = b.1 }

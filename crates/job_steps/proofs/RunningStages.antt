@@ -1,4 +1,4 @@
--- What the driver is at, by its life and stage.
+-- The operation of the driver, by the driver's life and stage.
 use Rattle.job_model.specs.Known.{Known}
 use Rattle.job_model.specs.declared.ends.ActorEnd.{ActorEnd}
 use Rattle.job_model.specs.declared.ends.CheckEnd.{CheckEnd}
@@ -51,7 +51,7 @@ let_by : (unset may : Bool) → (if unset then Some faults.NotSet else (if may t
     → (unset ≡ false) × (may ≡ true)
 let_by unset may h = grind arith
 
--- an operation that is not refused: its actor is idle, the job is set up if it must be, and the stage is one that it may begin in
+-- An operation is not refused: its actor is idle, the job is set up if it must be, and the operation may begin in this stage.
 pub record Begins (driver : ActorStage) (a : Actor) (op : Op) (life : Life) (s : ActorStage) : Type 0 where
   pub idle : life ≡ Idle
   pub set : (needs_set a op && is_new driver) ≡ false
@@ -61,12 +61,12 @@ pub begins_so : (driver : ActorStage) (a : Actor) (op : Op) (life : Life) (s : A
     → refuse_begin life (refuse_op driver a op s) ≡ None → Begins driver a op life s
 begins_so driver a op life s h = grind (arith, idle_begins, let_by)
 
--- ---- an end for want of memory
+-- ---- an end because memory ran out
 
 wanting_memory : (a : Actor) (op : Op) (e : OpEnd) → is_wanting a op e ≡ true → is_memory e ≡ true
 wanting_memory a op e h = grind arith
 
--- whose it is aside
+-- The same for any actor and operation.
 pub memory_or : {X : Type 0} (a : Actor) (op : Op) (e : OpEnd) → (is_wanting a op e ≡ true) ⊎ X → (is_memory e ≡ true) ⊎ X
 memory_or a op e h = grind arith
 
@@ -74,19 +74,19 @@ pub may_end : (x : Play) (y : ActorEnd) → MayFinish x y → (is_memory y.end �
     ⊎ ((m : Running) × (x.running y.actor ≡ Some m) × (over m.operation ≡ Some y.end))
 may_end x y may = memory_or y.actor may.doing.op y.end may.end
 
--- its actor is dead, at its stage
+-- Its actor is dead, in its stage.
 pub memory_dies : (e : OpEnd) (s : ActorStage) → is_memory e ≡ true → ended e s ≡ dead s
 memory_dies e s h = grind arith
 
--- ---- what the driver is at
+-- ---- the operation of the driver
 
--- nothing, or its set-up
+-- No operation, or a set-up.
 abbrev pub IsSettingUp : Option Operation → Type 0
 IsSettingUp None = Unit {0}
 IsSettingUp (Some (TheSetup t)) = Unit {0}
 IsSettingUp (Some _) = ⊥
 
--- its commit or the check before that, or an abort or clean of the job
+-- A commit or the check before it, or an abort or clean of the job.
 abbrev pub IsBehind : Option Operation → Type 0
 IsBehind (Some (TheCommit c)) = Unit {0}
 IsBehind (Some (TheClean t)) = Unit {0}
@@ -102,13 +102,13 @@ DriverAt _ l d = IsBehind d
 behind_set : (d : Option Operation) → IsBehind d → is_set d ≡ true
 behind_set d h = grind arith
 
--- behind its first stage the job is set up
+-- If the driver is not new, the job is set up.
 pub driver_set : (s : ActorStage) (l : Life) (d : Option Operation) → DriverAt s l d → is_new s ≡ false → is_set d ≡ true
 driver_set s l d h g = grind arith
 
 -- ---- it begins an operation
 
--- a set-up at the first stage: none is done, or the driver was not told of its end
+-- A set-up may begin if none is done, or if the last one is but the driver did not learn of its end.
 abbrev pub MaySet : Option Operation → Type 0
 MaySet d = (is_set d ≡ false) ⊎ (is_just_set d ≡ true)
 
@@ -122,11 +122,11 @@ may_setup s l d h g = grind arith
 pub may_commit_job : (s : ActorStage) (l : Life) (d : Option Operation) → DriverAt s l d → driver_may Commit s ≡ true → is_just_set d ≡ true
 may_commit_job s l d h g = grind arith
 
--- at its first stage it is at nothing or at its set-up, at a new set-up too
+-- The operation of a new driver may be a set-up, a new one too.
 pub new_at : (s : ActorStage) (l : Life) (t : Retried setup.Setup) → is_new s ≡ true → DriverAt s l (Some (TheSetup t))
 new_at s l t h = grind arith
 
--- a clean begins at a stage behind the commit or an abort, which stays
+-- A clean begins after the commit or after an abort, and the stage stays.
 pub behind_at : (s : ActorStage) (l : Life) (d : Option Operation) → IsBehind d → driver_may Clean s ≡ true → DriverAt s l d
     × (is_new s ≡ false)
 behind_at s l d h g = grind arith
@@ -144,12 +144,12 @@ restarted_new s h = grind arith
 
 -- ---- its operation ends
 
--- what holds of each end of a sort holds of the end
+-- What holds of each end of one kind holds of the end.
 pub of_sort : {X Y : Type 0} (f : X → Y) (P : Y → Type 0) (o : Option X) (y : Y) → option_map f o ≡ Some y
     → ((x : X) → o ≡ Some x → P (f x)) → P y
 of_sort f P o y h g = grind arith
 
--- where its operation ended so the driver is at what it was at, and at its first stage only where it was
+-- When its operation ends, the operation still fits the driver's new state, and the driver is new only if it was new before.
 abbrev pub EndedAt : ActorStage → Operation → OpEnd → Type 0
 EndedAt s op e = DriverAt (ended e s).stage (ended e s).life (Some op) × (is_new (ended e s).stage ≡ true → is_new s ≡ true)
 
@@ -169,11 +169,11 @@ check_ends s op e h g = grind arith
 clean_ends : (s : ActorStage) (op : Operation) (e : CleanEnd) → DriverAt s Busy (Some op) → EndedAt s op (ends.Clean e)
 clean_ends s op e h = grind arith
 
--- a set-up is gone on with at the first stage alone
+-- Only a new driver goes on with a set-up.
 setup_new : (s : ActorStage) (t : Retried setup.Setup) → DriverAt s Busy (Some (TheSetup t)) → s ≡ stage.New
 setup_new s t h = grind arith
 
--- it is at a set-up, or behind that
+-- The operation is a set-up, or one that comes after it.
 abbrev pub Kind : Option Operation → Type 0
 Kind d = IsSettingUp d ⊎ IsBehind d
 
@@ -183,7 +183,7 @@ just_kind d h = grind arith
 pub driver_kind : (s : ActorStage) (l : Life) (d : Option Operation) → DriverAt s l d → Kind d
 driver_kind s l d h = grind arith
 
--- a busy driver that is at something else than a set-up is behind it
+-- If the operation of a busy driver is no set-up, it comes after the set-up.
 goes_behind : (s : ActorStage) (d e : Option Operation) → DriverAt s Busy d → (IsSettingUp d → ⊥) → IsBehind e → DriverAt s Busy e
 goes_behind s d e h g f = grind arith
 
@@ -203,7 +203,7 @@ driver_ends s op e h o = elim (driver_kind s Busy (Some op) h) [ inl x ↦ absur
 
 -- ---- it goes on
 
--- what it asks does not read what is known
+-- What it asks does not depend on what is known.
 pub driver_asks : (g : Setting) (op : Operation) (k : Known) (r : Request) → Kind (Some op) → asks g (who Driver) k op ≡ Some r
     → asks g (who Driver) nothing_learnt op ≡ Some r
 driver_asks g op k r h e = grind arith
@@ -220,20 +220,20 @@ driver_hears g s op o h = elim (driver_kind s Busy (Some op) h) [ inl x ↦ absu
 
 -- ---- whether its commit has begun
 
--- whether they have begun
+-- Whether the commit, and an abort or clean, have begun.
 pub record Begun : Type 0 where
   pub commit : Bool
   pub clean : Bool
 
--- with an event that is refused or not, and with one that begins neither
+-- After an event that is refused or not, and after one that begins neither.
 abbrev pub with_event : Bool → Begun → Event → Begun
 with_event fine b ev = record { commit = b.commit || (begins_commit ev && fine); clean = b.clean || (begins_clean ev && fine) }
 
 abbrev pub still_begun : Begun → Begun
 still_begun b = record { commit = b.commit || false; clean = b.clean || false }
 
--- where the driver is at its commit that has begun, and no abort or clean; where it is at an abort or clean that has; and neither has where
--- it is at its set-up
+-- A commit or its check: the commit has begun, and no abort or clean has. An abort or clean: that has begun. A set-up or nothing: neither
+-- has begun.
 abbrev pub IsTimed : Begun → Option Operation → Type 0
 IsTimed b None = (b.commit ≡ false) × (b.clean ≡ false)
 IsTimed b (Some (TheSetup t)) = (b.commit ≡ false) × (b.clean ≡ false)
@@ -254,6 +254,6 @@ pub timed_tells : (g : Setting) (b : Begun) (op : Operation) (o : Outcome) → I
     → IsTimed b (Some (tells g (who Driver) op o))
 timed_tells g b op o h = grind arith
 
--- a later event that begins neither
+-- After a later event that begins neither.
 pub timed_on : (b : Begun) (d : Option Operation) → IsTimed b d → IsTimed (still_begun b) d
 timed_on b d h = subst (λ c. IsTimed c d) (λ i. record { commit = sym (or-false b.commit) i; clean = sym (or-false b.clean) i }) h

@@ -1,4 +1,4 @@
--- An actor's operation begins: it is one that the job's runs let begin.
+-- An actor begins an operation that the job's runs allow.
 use Rattle.basics.proofs.Members.{false_true}
 use Rattle.job_facts.proofs.Whose.{attempt}
 use Rattle.job_facts.specs.Facts.{IsAttempt}
@@ -47,7 +47,7 @@ use Rattle.std.proofs.Math.Bool.{or-false, or-true}
 use Rattle.job_model.specs.declared.ends.TaskEnd.TheVariants as tasks
 use Rattle.job_model.specs.declared.states.ActorStage.TheVariants as stage
 
--- the state of an actor that begins this at its stage
+-- The state of an actor that begins this operation in this stage.
 abbrev pub busy_at : Actor → Op → ActorStage → ActorState
 busy_at a op s = record { life = Busy; stage = stage_begun a op s }
 
@@ -55,14 +55,14 @@ module _ (g : Setting) (opening : Content) (k : Times) (j : IsLegal g.script) (i
   abbrev w : Script
   w = g.script
 
-  -- one more set-up
+  -- Another set-up may begin.
   setup_may : (x : Stand) (d : Option Operation) → x.driver ≡ d → MaySet d → ((a : Who) → x.attempts a ≡ None) → MaySetUp x
   setup_may x d h g e = grind arith
 
   module _ {b : Begun} {es : List Entry} {r : Actor → Option Running} {st : Actor → ActorState} (h : Along g opening k b es r st) where
     -- ---- the driver
 
-    -- an abort or a clean of the job
+    -- An abort or a clean of the job.
     starts_clean : (c : Begun) (kn : Known) (v : ActorState) → is_new (st Driver).stage ≡ false → c.clean ≡ true
         → ((t : Operation) → IsBehind (Some t) → DriverAt v.stage v.life (Some t) × (is_new v.stage ≡ false))
         → Along g opening k c es (put r Driver (Some (record { operation = clean_of g; known = kn }))) (put st Driver v)
@@ -107,7 +107,7 @@ module _ (g : Setting) (opening : Content) (k : Times) (j : IsLegal g.script) (i
         (λ t i. behind_at (st Driver).stage Busy (Some t) i may.may_begin)
     driver_op kn reports Write may legal = absurd legal
 
-    -- whether the commit has begun is as it was
+    -- Whether the commit has begun does not change.
     pub still : Along g opening k (still_begun b) es r st
     still = record {
       stand = h.stand;
@@ -121,7 +121,7 @@ module _ (g : Setting) (opening : Content) (k : Times) (j : IsLegal g.script) (i
 
   -- ---- an attempt
 
-  -- it has not sent its publishing request where its write is done
+  -- An attempt whose write is done has not sent its publishing request.
   written_sent : (x : Stand) → Late g opening x → (a : Who) (d : Option Operation) → x.attempts a ≡ d → HasWritten d
       → (known x.told a).publish_sent ≡ false
   written_sent x l a d e h =

@@ -1,4 +1,4 @@
--- What an attempt is at, by its life and stage.
+-- The operation of an attempt, by the attempt's life and stage.
 use Rattle.basics.proofs.Members.{false_true}
 use Rattle.job_facts.proofs.Going.{step_so}
 use Rattle.job_model.specs.Attempts.{Who}
@@ -34,12 +34,12 @@ use Rattle.job_protocol.specs.TaskAborts as aborts
 
 -- ---- ends that are never Kept
 
--- an operation under retries stays so
+-- What each item keeps of an operation under retries, each outcome keeps.
 step_keeps : {M : Type 0} (P : M → Type 0) (retries : ℕ) (after : M → Item → M) (t : Retried M) (o : Outcome) → P t.operation
     → ((i : Item) → P (after t.operation i)) → P (step retries after t o).operation
 step_keeps P retries after t o h next = step_so retries after t o P (λ x e. next (Got x t.repeated)) (λ none. h) (λ none. next WornOut)
 
--- a write
+-- A write never ends Kept.
 abbrev pub FreeWrite : writes.Write → Type 0
 FreeWrite x = is_kept (write_over x) ≡ false
 
@@ -52,7 +52,7 @@ free_start w a = elim w.committer as (λ c. FreeWrite (writes.write_start_by c (
 free_after : (w : Script) (minimum : ℕ) (x : writes.Write) → FreeWrite x → (i : Item) → FreeWrite (write_after w minimum x i)
 free_after w minimum x h i = grind arith
 
--- an abort that did not begin so
+-- An abort that did not begin as Kept.
 abbrev pub FreeAbort : TaskAbort → Type 0
 FreeAbort x = is_kept (task_abort_over x) ≡ false
 
@@ -62,28 +62,28 @@ free_dropped c sent = grind arith
 free_dropping : (c : Committer) (sent : Bool) (ds : List Drawn) → FreeAbort (aborts.dropping c sent ds)
 free_dropping c sent ds = grind arith
 
--- it begins so only where the publishing request was sent
+-- An abort begins as Kept only if the publishing request was sent.
 pub free_abort : (w : Script) (k : Known) → k.publish_sent ≡ false → FreeAbort (task_abort_start w k)
 free_abort w k e = subst (λ b. FreeAbort (task_abort_by b w.committer k)) (sym e) (free_dropping w.committer k.put_sent (as_made k.drawn))
 
 abort_after : (w : Script) (x : TaskAbort) → FreeAbort x → (i : Item) → FreeAbort (task_abort_after w x i)
 abort_after w x h i = grind arith
 
--- ---- what an attempt is at
+-- ---- the operation of an attempt
 
--- such an operation, that never ends Kept
+-- An operation of this kind that never ends Kept.
 abbrev pub Held : Op → Option Operation → Type 0
 Held Write (Some (TheWrite t)) = FreeWrite t.operation
 Held Commit (Some (TheTaskCommit t)) = FreeCommit t.operation
 Held Abort (Some (TheTaskAbort t)) = FreeAbort t.operation
 Held _ _ = ⊥
 
--- its write, which is done
+-- A write that is done.
 abbrev pub HasWritten : Option Operation → Type 0
 HasWritten (Some (TheWrite t)) = t.operation ≡ writes.WriteOver tasks.Done
 HasWritten _ = ⊥
 
--- nothing, or an operation that is an attempt's
+-- No operation, or one of an attempt.
 abbrev pub IsTask : Option Operation → Type 0
 IsTask None = Unit {0}
 IsTask (Some (TheWrite t)) = Unit {0}
@@ -119,7 +119,7 @@ attempt_dies s l d h = grind arith
 
 -- ---- it begins an operation
 
--- a write where it is at nothing
+-- A write may begin if the attempt has begun nothing.
 pub may_write : (s : ActorStage) (d : Option Operation) → AttemptAt s Idle d → attempt_may Write s ≡ true → d ≡ None
 may_write s d h g = grind arith
 
@@ -133,20 +133,20 @@ written_is (Some (TheWrite t)) h = (
 )
 written_is _ h = absurd h
 
--- a commit where its write is done
+-- A commit may begin if the write is done.
 pub may_publish : (s : ActorStage) (d : Option Operation) → AttemptAt s Idle d → attempt_may Commit s ≡ true → (spare : ℕ)
     × (repeated : Bool) × (d ≡ Some (TheWrite (record { operation = writes.WriteOver tasks.Done; spare = spare; repeated = repeated })))
 may_publish stage.Written d h m = written_is d h
 may_publish _ d h m = absurd (false_true refl m)
 
--- an abort: where the attempt is at nothing or its write is done, it is not to begin Kept
+-- An abort may begin. If the attempt has begun nothing or its write is done, the abort must not begin as Kept.
 pub may_abort : (s : ActorStage) (d : Option Operation) (t : Retried TaskAbort) → AttemptAt s Idle d → (d ≡ None → FreeAbort t.operation)
     → (HasWritten d → FreeAbort t.operation) → AttemptAt s Busy (Some (TheTaskAbort t))
 may_abort s d t h g e = grind arith
 
 -- ---- its operation ends
 
--- how an attempt's operation ended
+-- How an attempt's operation ended.
 abbrev pub task_over : Operation → Option TaskEnd
 task_over (TheWrite t) = write_over t.operation
 task_over (TheTaskCommit t) = task_commit_over t.operation
@@ -168,7 +168,7 @@ EndsAt s op e = AttemptAt (task_ended e s).stage (task_ended e s).life (Some op)
 task_ends : (s : ActorStage) (op : Operation) (e : TaskEnd) → AttemptAt s Busy (Some op) → task_over op ≡ Some e → EndsAt s op e
 task_ends s op e h g = grind arith
 
--- where it ended so the attempt is at what it was at
+-- When its operation ends, the operation still fits the attempt's new state.
 abbrev EndsWith : ActorStage → Operation → OpEnd → Type 0
 EndsWith s op e = AttemptAt (ended e s).stage (ended e s).life (Some op)
 
@@ -197,6 +197,6 @@ attempt_hears g a stage.Written op o h = held_hears g a Abort op o h
 attempt_hears g a stage.Committing op o h = held_hears g a Commit op o h
 attempt_hears g a _ op o h = task_hears g a op o h
 
--- a busy attempt at the stage of its commit is at that
+-- The operation of a busy attempt in the stage of its commit is a commit.
 pub at_commit : (s : ActorStage) (op : Operation) → is_committing s ≡ true → AttemptAt s Busy (Some op) → Held Commit (Some op)
 at_commit s op h g = grind arith

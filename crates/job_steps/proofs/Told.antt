@@ -1,4 +1,4 @@
--- What happened so far is as the script's events say, by the journal and the ends alone: each happening keeps it.
+-- What happened so far is as the script's events say, by the journal and the ends alone: each step keeps that.
 use Rattle.basics.proofs.Members.{none_some, some_is}
 use Rattle.job_facts.specs.Told.{strange_entry}
 use Rattle.job_model.specs.JobScript.{Script}
@@ -45,7 +45,7 @@ use Rattle.s3_types.specs.Store as store
 
 -- ---- operations
 
--- an operation that its actor began, knowing this, and where its entries since then led
+-- An operation that its actor began, knowing k, and to which its entries since then led.
 pub record Led (g : Setting) (a : Actor) (d : Doing) (k : Known) (part : List Entry) (m : Option Running) : Type 0 where
   pub op : Operation
   pub begun_is : start_of g a d.op d.reports k ≡ Some op
@@ -56,7 +56,7 @@ led_more : (g : Setting) (a : Actor) (d : Doing) (k : Known) (part : List Entry)
     → wants g a m ≡ Some e.request → Led g a d k (part ++ e ∷ []) (hear g a (Some m) e)
 led_more g a d k part m e h f = grind (arith, follows_more, run_more)
 
--- what an actor began last, in one of the first n events, and where its own entries es led it
+-- The operation that an actor began last, in one of the first n events, and to which its own entries es led.
 pub record Runs (g : Setting) (a : Actor) (d : Doing) (es : List Entry) (m : Option Running) (n : ℕ) : Type 0 where
   pub from_then : d.since ≤ n
   pub led : Led g a d (known_then g a d es) (since d.since es) m
@@ -79,22 +79,22 @@ pub record Opened (g : Setting) (x : Play) (ev : Event) : Type 0 where
   pub fine : refusal x.past.state ev ≡ None
   pub live_is : x.live ≡ end_ops (open_event g.script x.past ev) x.finished
 
--- an operation that ended in the event that goes on
+-- An operation that ended in the event in progress.
 pub record Finished (x : Play) (y : ActorEnd) : Type 0 where
   pub idle : is_busy (x.live.state y.actor).life ≡ false
   pub doing : Doing
   pub does : x.live.doing y.actor ≡ Some doing
   pub end : (is_wanting y.actor doing.op y.end ≡ true) ⊎ ((m : Running) × (x.running y.actor ≡ Some m) × (over m.operation ≡ Some y.end))
 
--- each actor's operation
+-- The operation of each actor.
 abbrev pub AllRun : Setting → (Actor → Option Doing) → List Entry → (Actor → Option Running) → ℕ → Type 0
 AllRun g doing journal running n = (a : Actor) (d : Doing) → doing a ≡ Some d → Runs g a d (by_actor a journal) (running a) n
 
--- who is busy has begun an operation
+-- Each busy actor has begun an operation.
 abbrev pub AllDo : Past → Type 0
 AllDo p = (a : Actor) → (p.state a).life ≡ Busy → (d : Doing) × (p.doing a ≡ Some d)
 
--- who is busy has more to send
+-- Each busy actor has more to send.
 abbrev pub AllGo : Past → (Actor → Option Running) → Type 0
 AllGo p running = (a : Actor) (m : Running) → (p.state a).life ≡ Busy → running a ≡ Some m → over m.operation ≡ None
 
@@ -106,7 +106,7 @@ pub record Told (g : Setting) (opening : Content) (x : Play) : Type 0 where
   pub opened : (ev : Event) → x.now ≡ Some ev → Opened g x ev
   pub up_to : AllUpTo (length x.ends + 1) x.journal
   pub runs : AllRun g x.live.doing x.journal x.running (length x.ends + 1)
-  -- between events all was begun in one that is over
+  -- Between two events, each operation was begun in an event that is over.
   pub over : x.now ≡ None → (a : Actor) (d : Doing) → x.live.doing a ≡ Some d → d.since ≤ length x.ends
   pub does : AllDo x.live
   pub finish : (i : ℕ) (y : ActorEnd) → slice_get x.finished i ≡ Some y → Finished x y
@@ -117,14 +117,14 @@ pub record Told (g : Setting) (opening : Content) (x : Play) : Type 0 where
   pub honest : IsHonest opening x.journal
   pub within : length x.ends ≤ length g.script.events
 
--- while an event goes on nothing is said of the time between
+-- While an event is in progress, nothing is said of the time between events.
 during : (y : Play) (ev : Event) → y.now ≡ Some ev
     → (y.now ≡ None → (y.live ≡ y.past) × AllUpTo (length y.ends) y.journal)
     × (y.now ≡ None → (a : Actor) (d : Doing) → y.live.doing a ≡ Some d → d.since ≤ length y.ends)
     × (y.now ≡ None → AllGo y.live y.running)
 during y ev is = (λ e. absurd (none_some e is), λ e. absurd (none_some e is), λ e. absurd (none_some e is))
 
--- ---- events that are over, and a stranger's entry behind them
+-- ---- events that are over, and an entry of a stranger after them
 
 module _ (g : Setting) (xs : List EventEnd) (journal : List Entry) (n : ℕ) (r : Request) (o : Outcome) where
   abbrev more : List Entry
@@ -191,7 +191,7 @@ module _ (g : Setting) (xs : List EventEnd) (journal : List Entry) (ev : Event) 
         (subst (λ u. Obeyed g xs journal v u) h.1 (subst (λ u. Obeyed g xs journal u end) same one))))
   ]
 
--- ---- plain facts of the happenings
+-- ---- simple facts about the steps
 
 refused_is : {f k : EventFault} → Refused f ≡ Refused k → f ≡ k
 refused_is e = cc
@@ -200,7 +200,7 @@ begun_do : (w : Script) (p : Past) (a : Actor) (op : Op) → AllDo p → AllDo (
 begun_do w p a op old b = both_put (λ s o. s.life ≡ Busy → (d : Doing) × (o ≡ Some d)) p.state p.doing a _ _ b (λ s busy. (_, refl))
     (λ ne. old b)
 
--- who is given a state that is not busy
+-- An actor gets a state that is not busy.
 idled_do : (p : Past) (a : Actor) (s : ActorState) → is_busy s.life ≡ false → AllDo p → (b : Actor) → (put p.state a s b).life ≡ Busy
     → (d : Doing) × (p.doing b ≡ Some d)
 idled_do p a s idle old b = one_put (λ s. s.life ≡ Busy → (d : Doing) × (p.doing b ≡ Some d)) p.state a s b
@@ -301,7 +301,7 @@ module _ (g : Setting) (opening : Content) (x : Play) (h : Told g opening x) whe
         ],
       ))
 
-  -- at rest it goes on from what is past
+  -- Between two events the operations go on from the states then.
   resting : x.now ≡ None → AllRun g x.past.doing x.journal x.running (length x.ends + 1) × AllDo x.past × AllGo x.past x.running
   resting idle =
       let e = (h.closed idle).0 in (
@@ -327,7 +327,7 @@ module _ (g : Setting) (opening : Content) (x : Play) (h : Told g opening x) whe
   abbrev since_now : Actor → Op → Doing
   since_now a op = record { op = op; since = x.past.events + 1; reports = reports g.script x.past.reported }
 
-  -- who begins has no entry in this event yet
+  -- An actor that begins an operation has no entry in this event yet.
   began_at : (a : Actor) (op : Op) → Starts g a op → AllUpTo (length x.ends) x.journal
       → Runs g a (since_now a op) (by_actor a x.journal) (begun (start_of g a op (reports g.script x.past.reported) (knows_now g x a))
       (knows_now g x a)) (length x.ends + 1)
@@ -437,7 +437,7 @@ module _ (g : Setting) (opening : Content) (x : Play) (h : Told g opening x) whe
         n : ℕ
         n = length x.ends + 1
 
-    -- who ended in this event sends no more
+    -- An actor whose operation ended in this event sends no more.
     sent_finish : (i : ℕ) (y : ActorEnd) → slice_get x.finished i ≡ Some y → Finished (happen g x (Sends e)) y
     sent_finish i y k =
         let f = h.finish i y k in

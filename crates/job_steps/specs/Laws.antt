@@ -1,4 +1,4 @@
--- The laws of this crate.
+-- What a run of allowed steps is at each point between two events.
 use Rattle.job_model.specs.Legal.{IsLegal}
 use Rattle.job_protocol.specs.Operations.{Setting}
 use Rattle.job_spec.specs.Follows.{Plays}
@@ -8,14 +8,15 @@ use Rattle.s3_types.specs.Moment.{IsHonest}
 use Rattle.s3_types.specs.Store.{Content}
 use Rattle.std.specs.Prelude.{None, ◌≡◌}
 
--- between events a run has done what its events say, by its journal and its ends alone
+-- The run is as its script's events say, by its journal and its ends alone; each outcome was due; and its states are those that follow from
+-- its ends.
 pub record IsPlayed (g : Setting) (opening : Content) (x : Play) : Type 0 where
   pub plays : Plays g x.ends x.journal
   pub honest : IsHonest opening x.journal
   pub past : x.past ≡ past g.script x.ends
   pub live : x.live ≡ x.past
 
--- a run of allowed happenings does what its script's events say
+-- At each point between two events, a run of allowed steps is as its script's events say.
 abbrev pub HappeningsPlay : Type 0
 HappeningsPlay = (g : Setting) (opening : Content) (x : Play) → IsLegal g.script → Reachable g opening x → x.now ≡ None
     → IsPlayed g opening x

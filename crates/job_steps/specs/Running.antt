@@ -1,4 +1,4 @@
--- That what happens in a run is one of the job's runs, whose every moment is known.
+-- A run of allowed steps is one of the job's runs, of which the facts are known at every moment.
 use Rattle.job_facts.specs.Told.{known}
 use Rattle.job_model.specs.Attempts.{Who, actor_of}
 use Rattle.job_model.specs.Legal.{IsLegal}
@@ -13,31 +13,31 @@ use Rattle.s3_types.specs.Store.{Content}
 use Rattle.s3_types.specs.declared.request.Actor.TheVariants.{Driver}
 use Rattle.std.specs.Prelude.{List, None, Option, Some, false, true, ◌++◌, ◌∷◌, ◌≡◌}
 
--- the ends go on so, and the event that goes on is not to be refused
+-- These are the ends of a run that goes on from here. If an event is in progress, its end is the next one and is no refusal.
 pub record Ahead (x : Play) (ends : List EventEnd) : Type 0 where
   pub rest : List EventEnd
   pub is : ends ≡ x.ends ++ rest
   pub going : (ev : Event) → x.now ≡ Some ev → (end : EventEnd) × (more : List EventEnd) × (rest ≡ end ∷ more) × (is_refused end ≡ false)
 
--- the operation that an actor began last, as far as it has come
+-- The operation that an actor began last, with its progress.
 abbrev pub operation_of : Option Running → Option Operation
 operation_of None = None
 operation_of (Some m) = Some m.operation
 
--- what happened is one of the job's runs, told request by request
+-- What has happened is one of the job's runs, request by request.
 pub record IsRun (g : Setting) (opening : Content) (x : Play) (k : Times) : Type 0 where
   pub stand : Stand
   pub runs : Runs g k opening x.journal stand
   pub cleans : stand.told.cleans_at ≡ k.clean
   pub driver : stand.driver ≡ operation_of (x.running Driver)
   pub attempts : (a : Who) → stand.attempts a ≡ operation_of (x.running (actor_of a))
-  -- what each attempt knows, and what it knew as it last sent
+  -- What each attempt knows, and what it knew when it sent last.
   pub knows : (a : Who) → knows_now g x (actor_of a) ≡ known stand.told a
   pub last : (a : Who) (m : Running) → x.running (actor_of a) ≡ Some m → m.known ≡ known stand.told a
-  -- a driver behind its first stage has set the job up
+  -- A driver that is not new any more has set the job up.
   pub set_up : is_new (x.live.state Driver).stage ≡ false → is_set stand.driver ≡ true
 
--- a run of allowed happenings is one of the job's runs, request by request
+-- A run of allowed steps is one of the job's runs, request by request.
 abbrev pub HappeningsRun : Type 0
 HappeningsRun = (g : Setting) (opening : Content) (x : Play) → IsLegal g.script → IsOpening g opening → Reachable g opening x
     → (ends : List EventEnd) → Ahead x ends → IsRun g opening x (times g.script ends)

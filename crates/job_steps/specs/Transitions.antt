@@ -1,5 +1,5 @@
--- What happens in a run of a job, one thing after another, and where it leads. Between events strangers may send what leaves the job's own
--- alone.
+-- What happens in a run of a job, one step after another, and the state that each step leads to. Between events strangers may send what
+-- leaves the job's own alone.
 use Rattle.job_facts.specs.Foreign.{IsForeign}
 use Rattle.job_facts.specs.Told.{strange_entry}
 use Rattle.job_model.specs.Attempts.{actor_of}
@@ -25,23 +25,23 @@ use Rattle.s3_types.specs.declared.request.Actor.{Actor}
 use Rattle.s3_types.specs.declared.request.Request.{Request}
 use Rattle.std.specs.Prelude.{List, None, Option, Some, length, slice_get, true, [], ◌++◌, ◌+◌, ◌^◌, ◌∷◌, ◌≡◌, ◌≤◌, ◌⊎◌}
 
--- ---- how far a run has come
+-- ---- the state of a run
 
--- how far a run has come
+-- The state of a run.
 pub record Play : Type 0 where
   pub journal : List Entry
   pub ends : List EventEnd
-  -- the event that goes on
+  -- The event in progress.
   pub now : Option Event
-  -- what is past before it, and as it stands
+  -- The states of the actors before that event, and as they are now.
   pub past : Past
   pub live : Past
-  -- the operations that ended in it
+  -- The operations that ended in that event.
   pub finished : List ActorEnd
-  -- what each actor began last, as far as its entries led it
+  -- The operation that each actor began last, as far as its entries took it.
   pub running : Actor → Option Running
 
--- a run before its first event
+-- A run before its first event.
 abbrev pub nothing_played : Play
 nothing_played = record {
   journal = [];
@@ -53,54 +53,54 @@ nothing_played = record {
   running = λ a. None;
 }
 
--- the store and the cluster then
+-- The store and the cluster in this state.
 abbrev pub scene_of : Content → Play → Scene
 scene_of opening x = moment opening x.journal (length x.journal)
 
--- what an actor knows then, by its own entries
+-- What an actor knows in this state, from its own entries.
 abbrev pub knows_now : Setting → Play → Actor → Known
 knows_now g x a = knows g.script (who a) (by_actor a x.journal)
 
 -- ---- what may happen
 
--- one thing that happens in a run
+-- One step of a run.
 pub data Transition : Type 0 where
-  -- the next event is refused
+  -- The next event is refused.
   Refuses : (fault : EventFault) → Transition
-  -- the next event begins
+  -- The next event begins.
   Opens : (event : Event) → Transition
-  -- an actor sends a request
+  -- An actor sends a request.
   Sends : (entry : Entry) → Transition
-  -- an actor's operation ends
+  -- An actor's operation ends.
   Finishes : (ended : ActorEnd) → Transition
-  -- the event is over
+  -- The event is over.
   Closes : (end : EventEnd) → Transition
-  -- a stranger sends a request
+  -- A stranger sends a request.
   Strays : (request : Request) (outcome : Outcome) → Transition
 
--- ---- where it leads
+-- ---- where a step leads
 
--- an operation that begins, with what its actor knows then
+-- An operation that begins, with what its actor knows then.
 abbrev pub begun : Option Operation → Known → Option Running
 begun None k = None
 begun (Some op) k = Some (record { operation = op; known = k })
 
--- an actor begins an operation
+-- The last operation of each actor, after this one begins an operation.
 abbrev pub begin_running : Setting → Play → Actor → Op → Actor → Option Running
 begin_running g x a op = put x.running a (begun (start_of g a op (reports g.script x.past.reported) (knows_now g x a)) (knows_now g x a))
 
--- what each actor began last, once an event begins
+-- The last operation of each actor, after an event begins.
 abbrev pub open_running : Setting → Play → Event → Actor → Option Running
 open_running g x (Do a op) = begin_running g x a op
 open_running g x (Start a op) = begin_running g x a op
 open_running g x _ = x.running
 
--- where the outcome of a sending leads
+-- An operation after the outcome of its send.
 abbrev pub hear : Setting → Actor → Option Running → Entry → Option Running
 hear g a None e = None
 hear g a (Some m) e = Some (advance g a m e.outcome)
 
--- where a happening leads a run
+-- The state after a step.
 abbrev pub happen : Setting → Play → Transition → Play
 happen g x (Refuses f) = record {
   journal = x.journal;
@@ -160,15 +160,15 @@ happen g x (Strays r o) = record {
   running = x.running;
 }
 
--- ---- when it may happen
+-- ---- when a step may happen
 
--- the event is next, and refused so, or not
+-- No event is in progress, this one is next, and it is refused with this fault, or not refused.
 pub record MayOpen (g : Setting) (x : Play) (ev : Event) (fault : Option EventFault) : Type 0 where
   pub idle : x.now ≡ None
   pub next : slice_get g.script.events (length x.ends) ≡ Some ev
   pub refusal_is : refusal x.past.state ev ≡ fault
 
--- a busy actor sends what it asks, during an event, and the outcome is one that is due
+-- During an event a busy actor sends the request that its operation asks, and S3 may give the outcome.
 pub record MaySend (g : Setting) (opening : Content) (x : Play) (e : Entry) : Type 0 where
   pub event : Event
   pub during : x.now ≡ Some event
@@ -178,10 +178,10 @@ pub record MaySend (g : Setting) (opening : Content) (x : Play) (e : Entry) : Ty
   pub is_at : x.running e.actor ≡ Some at
   pub asked : wants g e.actor at ≡ Some e.request
   pub honest : IsHonestOutcome e.outcome (answer (scene_of opening x) e.request)
-  -- the store has drawn fewer ids than there are
+  -- The store has drawn fewer ids than there are.
   pub few : (scene_of opening x).content.next ≤ 2 ^ 64
 
--- an operation ends as it stands, or for its want of memory
+-- A busy actor's operation ends during an event: with its own end, or because memory ran out.
 pub record MayFinish (x : Play) (y : ActorEnd) : Type 0 where
   pub event : Event
   pub during : x.now ≡ Some event
@@ -190,7 +190,8 @@ pub record MayFinish (x : Play) (y : ActorEnd) : Type 0 where
   pub does : x.live.doing y.actor ≡ Some doing
   pub end : (is_wanting y.actor doing.op y.end ≡ true) ⊎ ((m : Running) × (x.running y.actor ≡ Some m) × (over m.operation ≡ Some y.end))
 
--- the event's entries are by turns, and who is busy has more to send
+-- The event in progress may end so: its entries follow its turns, its end names the operations that ended in it, and each busy actor has
+-- more to send.
 pub record MayClose (g : Setting) (x : Play) (end : EventEnd) : Type 0 where
   pub event : Event
   pub during : x.now ≡ Some event
@@ -198,13 +199,13 @@ pub record MayClose (g : Setting) (x : Play) (end : EventEnd) : Type 0 where
   pub turns : Turns g.script x.past.state event end (of_event (length x.ends + 1) x.journal)
   pub going : (a : Actor) (m : Running) → (x.live.state a).life ≡ Busy → x.running a ≡ Some m → over m.operation ≡ None
 
--- between events a stranger sends what is foreign to the job, by what its attempts know then, and the outcome is one that is due
+-- Between events a stranger sends a request that is foreign to the job, by what its attempts know then, and S3 may give the outcome.
 pub record MayStray (g : Setting) (opening : Content) (x : Play) (r : Request) (o : Outcome) : Type 0 where
   pub idle : x.now ≡ None
   pub foreign : IsForeign g.script (λ a. (knows_now g x (actor_of a)).drawn) r
   pub honest : IsHonestOutcome o (answer (scene_of opening x) r)
 
--- a happening may happen at this point of a run
+-- The step may happen in this state.
 abbrev pub Enabled : Setting → Content → Play → Transition → Type 0
 Enabled g opening x (Refuses f) = (ev : Event) × MayOpen g x ev (Some f)
 Enabled g opening x (Opens ev) = MayOpen g x ev None
@@ -213,7 +214,7 @@ Enabled g opening x (Finishes y) = MayFinish x y
 Enabled g opening x (Closes end) = MayClose g x end
 Enabled g opening x (Strays r o) = MayStray g opening x r o
 
--- all that happened was allowed when it happened
+-- The states that a run can reach: each step was allowed when it happened.
 pub data Reachable (g : Setting) (opening : Content) : Play → Type 0 where
   nothing_happened : Reachable g opening nothing_played
   happens : (x : Play) (h : Transition) → Reachable g opening x → Enabled g opening x h → Reachable g opening (happen g x h)

@@ -43,7 +43,7 @@ use Rattle.std.specs.FinMap as fin
 
 -- ---- contents that are the same outside
 
--- nothing, or an upload below the destination
+-- There is no upload, or one below the destination.
 abbrev Inside : Script → Option Upload → Type 0
 Inside w None = Unit {0}
 Inside w (Some u) = begins (dest_prefix w) u.key ≡ true
@@ -60,19 +60,19 @@ module _ (w : Script) where
   moves_outside : (a b : Option Upload) → Moves w a b → SameOutsideUpload w a b
   moves_outside a b h = grind arith
 
-  -- where a live upload keeps its key
+  -- If a live upload keeps its key.
   step_moves : (a b : Option Upload) → SameOutsideUpload w a b → ((u v : Upload) → a ≡ Some u → b ≡ Some v → u.key ≡ v.key) → Moves w a b
   step_moves a b h g = grind arith
 
   leaves_on : (a b c : Content) → Leaves w a b → Leaves w b c → Leaves w a c
   leaves_on a b c h g = grind arith
 
-  -- one entry
+  -- What one entry changes.
   record Changes (e : Entry) (c d : Content) : Type 0 where
     pub rename : IsZeroRename w e c d
     pub keys : (id : ℕ) (u v : Upload) → upload_at c w.dest.bucket id ≡ Some u → upload_at d w.dest.bucket id ≡ Some v → u.key ≡ v.key
 
-  -- a live upload keeps its key, whoever sends
+  -- A live upload keeps its key, whoever sends.
   keys_stay : (s : Scene) → HasBucket s.content w.dest.bucket
       → ((id : ℕ) (x : Upload) → at_id w s.content id ≡ Some x → id < s.content.next) → (r : Request) (o : Outcome)
       → (id : ℕ) (u v : Upload) → at_id w s.content id ≡ Some u → at_id w (effect s r o).content id ≡ Some v → u.key ≡ v.key
@@ -94,7 +94,7 @@ module _ (g : Setting) (k : Times) (opening : Content) (j : IsLegal g.script) (i
   abbrev Step : Stand → Entry → Request → Outcome → Type 0
   Step x e r o = Changes w e x.seen.scene.content (effect x.seen.scene r o).content
 
-  -- where a live upload keeps its key
+  -- A live upload keeps its key.
   late_step : (x : Stand) → Late g opening x → (e : Entry) (r : Request) (o : Outcome)
       → IsZeroRename w e x.seen.scene.content (effect x.seen.scene r o).content → Step x e r o
   late_step x l e r o rename = record { rename = rename; keys = keys_stay w x.seen.scene l.hold.there l.hold.ids.fresh r o }
@@ -157,12 +157,12 @@ module _ (g : Setting) (k : Times) (opening : Content) (j : IsLegal g.script) (i
   pub earlier : (es : List Entry) (e : Entry) (m : ℕ) → m ≤ length es → moment opening (es ++ e ∷ []) m ≡ moment opening es m
   earlier es e m l = ap (after_all (opening_scene opening)) (take-append-le m es (e ∷ []) l)
 
-  -- all of its entries, and the content that it has now
+  -- What holds of all entries so far, and of the content after them.
   record Moments (es : List Entry) (now : Content) : Type 0 where
     pub entries : ZeroRename w opening es
     pub whole : AreOwn es → Leaves w opening now
 
-  -- one more entry changes what it may where it is the job's own
+  -- One more entry of the job changes only what it may.
   one_more : (es : List Entry) (x : Stand) (e : Entry) → Runs g k opening es x → (is_own e.actor ≡ true → Step x e e.request e.outcome)
       → Moments es x.seen.scene.content
       → Moments (es ++ e ∷ []) (see w k x.seen e).scene.content

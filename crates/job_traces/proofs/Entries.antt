@@ -1,4 +1,4 @@
--- What a run's entries say, at each of its moments.
+-- What a run's entries say at each moment.
 use Rattle.job_facts.specs.Facts.{Hold}
 use Rattle.job_facts.specs.Filed.{Gone}
 use Rattle.job_facts.specs.Told.{Told, driver_entry, entry, nothing_told, strange_entry, tell, tell_all}
@@ -49,7 +49,7 @@ module _ (g : Setting) (k : Times) (opening : Content) (j : IsLegal g.script) (i
   abbrev all : List Entry → Seen
   all es = see_all w k (nothing_seen opening) es
 
-  -- a front of its entries is that of a run
+  -- Each front of a run's entries is that of a run.
   front_more : (es : List Entry) (e : Entry) (z : Stand) → Runs g k opening (es ++ e ∷ []) z
       → ((m : ℕ) → (y : Stand) × Runs g k opening (take m es) y) → (m : ℕ)
       → (y : Stand) × Runs g k opening (take m (es ++ e ∷ [])) y
@@ -77,7 +77,7 @@ module _ (g : Setting) (k : Times) (opening : Content) (j : IsLegal g.script) (i
       h)
       (λ es x n r o run f h. front_more es (strange_entry n r o) _ (strays es x n r o run f) h)
 
-  -- ---- what a run sees and tells
+  -- ---- what a run's entries show and say
 
   pub sees : (es : List Entry) (x : Stand) → Runs g k opening es x → x.seen ≡ all es
   sees = each_seen g k opening (λ es s m. s ≡ all es) refl (λ es x e run h. ap (λ s. see w k s e) h ∙ sym
@@ -96,12 +96,12 @@ module _ (g : Setting) (k : Times) (opening : Content) (j : IsLegal g.script) (i
       (kept_now g k opening j is_opening f.0 (good g k opening j is_opening (take m es) f.0 f.1)
       (shown g k opening j is_opening (take m es) f.0 f.1 (own_taken es m own)))
 
-  -- ---- what its stand says
+  -- ---- what the state of a run says
 
   pub late_now : (es : List Entry) (x : Stand) → Runs g k opening es x → is_set x.driver ≡ true → Late g opening x
   late_now es x run set = late g k opening j is_opening x (good g k opening j is_opening es x run) set
 
-  -- while the commit goes on
+  -- While the commit goes on.
   pub in_commit : (es : List Entry) (x : Stand) → Runs g k opening es x → (c : Commit) → x.driver ≡ Some (TheCommit c)
       → Hold w g.minimum x.seen x.told × Gone w x.seen.scene.content x.told × InCommit g opening x.seen.picks x.told c
   in_commit es x h c g = grind (arith, late_now, InCommit, At)

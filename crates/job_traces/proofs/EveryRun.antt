@@ -1,4 +1,4 @@
--- Every run comes as far as it says, whatever strangers send that leave the job's own alone; and among none a reader is shown what the
+-- In every run the state fits the facts, whatever strangers send that leave the job's own alone. If no stranger sends, readers see what the
 -- headline says.
 use Rattle.basics.proofs.Members.{false_true, none_or_some, none_some, same_or_other, some_is, text_here, text_other}
 use Rattle.basics.specs.Members.{IsIn}
@@ -87,7 +87,7 @@ use Rattle.job_model.specs.declared.ends.SetupEnd.TheVariants as setups
 use Rattle.job_protocol.specs.Cleanups as cleanups
 use Rattle.job_protocol.specs.Sparing as sparing
 
--- who has just set up has set up
+-- A driver whose set-up has just ended Done is set up.
 pub just_set : (d : Option Operation) → is_just_set d ≡ true → is_set d ≡ true
 just_set d h = grind arith
 
@@ -101,16 +101,16 @@ pub own_last : (es : List Entry) (e : Entry) → AreOwn (es ++ e ∷ []) → is_
 own_last [] e h = h.0
 own_last (x ∷ es) e h = own_last es e h.1
 
--- what is so of one attempt's new value and of the others' old ones is so of all
+-- If a property holds of the new value of one attempt and of the old values of the others, it holds of all.
 pub put_each : {X : Type 0} (P : Who → X → Type 0) (f : Who → Option X) (a : Who) (x : X) → P a x
     → ((b : Who) → (b ≡ a → ⊥) → (v : X) → f b ≡ Some v → P b v)
     → (b : Who) (v : X) → put_who f a (Some x) b ≡ Some v → P b v
 put_each P f a x h g b v e = grind arith
 
--- ---- a stranger's request, where no bucket may stand yet
+-- ---- a stranger's request, when the bucket may not exist yet
 
 module _ (n : List ℕ) where
-  -- what a request leaves where no bucket of the name stands: none, or a new one
+  -- What a request leaves if there was no bucket with this name: none, or a new one.
   abbrev Blank : Content → Content → Type 0
   Blank c d = ((id : ℕ) → upload_at d n id ≡ None) × (d.minimum ≡ c.minimum)
 
@@ -148,7 +148,7 @@ module _ (g : Setting) (k : Times) (opening : Content) (j : IsLegal g.script) (i
   pub just_idle : (d : Option Operation) (s : Seen) (m : Told) → At g opening d s m → is_just_set d ≡ true → Idle g opening s m
   just_idle d s m h g = grind arith
 
-  -- ---- where the set-up is done the facts begin
+  -- ---- the facts begin where the set-up is done
 
   turned : (x : Stand) → (e : Early g opening x) → (t : Retried Setup) → x.driver ≡ Some (TheSetup t)
       → SetsUp w x.seen.scene.content t.operation → is_done t.operation ≡ true → Late g opening x
@@ -197,12 +197,12 @@ module _ (g : Setting) (k : Times) (opening : Content) (j : IsLegal g.script) (i
     cleans_at = c;
   }
 
-  -- ids below the next one, and the least size of a part
+  -- All ids are below the next one, and the least size of a part is the setting's.
   record Numbers (c : Content) : Type 0 where
     pub fresh : (id : ℕ) (y : Upload) → at_id w c id ≡ Some y → id < c.next
     pub least : c.minimum ≡ g.minimum
 
-  -- whoever sends
+  -- Whoever sends.
   numbers : (s : Scene) (r : Request) (o : Outcome) → Numbers s.content → Numbers (effect s r o).content
   numbers s r Slow n = n
   numbers s r RequestLost n = n
@@ -217,7 +217,7 @@ module _ (g : Setting) (k : Times) (opening : Content) (j : IsLegal g.script) (i
 
   -- ---- attempts
 
-  -- an attempt is at something else, and all others at what they were
+  -- One attempt has a new operation, and all others have the ones that they had.
   put_late : (x : Stand) → (y : Stand) → Late g opening x → (a : Who) (op : Operation) → y.attempts ≡ put_who x.attempts a (Some op)
       → Hold w g.minimum y.seen y.told → (y.told.cleaned ≡ false → Gone w y.seen.scene.content y.told) → Filed w y.seen.scene
       → At g opening y.driver y.seen y.told
@@ -239,7 +239,7 @@ module _ (g : Setting) (k : Times) (opening : Content) (j : IsLegal g.script) (i
     driver = driver;
   }
 
-  -- it sends
+  -- The attempt sends.
   attempt_goes : (x : Stand) → Late g opening x → (a : Who) (op : Operation) → x.attempts a ≡ Some op → (n : ℕ) (r : Request)
       → asks g a (known x.told a) op ≡ Some r → (o : Outcome) → IsHonestOutcome o (answer x.seen.scene r)
       → Late g opening (with_attempt (saw g k x (entry a n r o)) a (tells g a op o))
@@ -260,7 +260,7 @@ module _ (g : Setting) (k : Times) (opening : Content) (j : IsLegal g.script) (i
 
   -- ---- the driver
 
-  -- where it changes no path below the job's directory in the cluster
+  -- The request changes no path below the job's directory in the cluster.
   filed_by : (x : Stand) → Late g opening x → (r : Request) (o : Outcome)
       → ((p : List ℕ) → IsIn p (changed_paths r) → begins (cluster_prefix w.job) p ≡ false)
       → Filed w (effect x.seen.scene r o)
@@ -298,7 +298,7 @@ module _ (g : Setting) (k : Times) (opening : Content) (j : IsLegal g.script) (i
   sparing_filed x l (sparing.SparingOver end) r e o = absurd cc
   sparing_filed x l _ r e o = same_filed x l o e refl
 
-  -- a sparing abort or clean puts no marker
+  -- An abort or clean at a shared destination puts no marker.
   sparing_no_mark : (c : Sparing) (r : Request) → sparing_asks w c ≡ Some r → is_marking w r ≡ false
   sparing_no_mark c r h = grind arith
 
@@ -355,7 +355,7 @@ module _ (g : Setting) (k : Times) (opening : Content) (j : IsLegal g.script) (i
           subst P (some_is (sym y.1 ∙ d)) (λ a b. early_sends e y.0 y.2 a b honest) asked timely
     ]
 
-    -- so all is still as before the commit
+    -- So all is still as before the commit.
     pub checked_idle : Plain w r → is_begun k.clean n ≡ false → Idle g opening x.seen x.told → Idle g opening next told
     checked_idle p unclean i = record {
       none = still_none x.told r o p.ends_none i.none;
@@ -364,7 +364,7 @@ module _ (g : Setting) (k : Times) (opening : Content) (j : IsLegal g.script) (i
       unpicked = λ u. plain_picks w k x.seen n r p.reads o u ∙ i.unpicked u;
     }
 
-    -- attempts are at what they were at
+    -- The attempts have the operations that they had.
     drives : Late g opening x → (op : Operation) (es : List Entry) → Hold w g.minimum next told
         → (told.cleaned ≡ false → Gone w (effect x.seen.scene r o).content told)
         → Filed w (effect x.seen.scene r o) → At g opening (Some op) next told
@@ -412,7 +412,7 @@ module _ (g : Setting) (k : Times) (opening : Content) (j : IsLegal g.script) (i
         (sparing_filed x l t.operation r asked o) (sparing_goes j x.seen.scene x.told l.hold l.filed few t y r asked o honest)
     driver_late l _ y asked timely few honest = absurd y
 
-    -- ---- and what a reader is shown, among no strangers
+    -- ---- what readers see, if no stranger sends
 
     kept_clean : HasBucket x.seen.scene.content w.dest.bucket → HidesAll w r → is_marking w r ≡ false
         → ((t : ℕ) → next.picks t ≡ x.seen.picks t) → Kept w opening x.seen → Kept w opening next
@@ -424,7 +424,7 @@ module _ (g : Setting) (k : Times) (opening : Content) (j : IsLegal g.script) (i
         (λ i t. picks t i) (plain_mark w k x.seen n r mark o) (λ e. driver_begun w k x.seen n r o ∙ ap (λ b. b || is_begun k.commit n) e)
         kept
 
-    -- once the set-up is done
+    -- Once the set-up is done.
     late_shown : Late g opening x → (op : Operation) → At g opening (Some op) x.seen x.told → asks g (who Driver) nothing_learnt op ≡ Some r
         → IsTimely k n op → x.seen.scene.content.next ≤ 2 ^ 64 → IsHonestOutcome o (answer x.seen.scene r)
         → Shows g opening (Some op) x.seen x.told x.commit → Shown (driven g k opening x op n r o)
@@ -453,7 +453,7 @@ module _ (g : Setting) (k : Times) (opening : Content) (j : IsLegal g.script) (i
 
   -- ---- a stranger
 
-  -- of another scene, and what the driver is at then
+  -- The same state with another scene and another operation of the driver.
   early_so : (x : Stand) → Early g opening x → (s : Scene) (d : Option Operation) → Numbers s.content → NoClusterFile w s
       → (d ≡ None) ⊎ ((t : Retried Setup) × (d ≡ Some (TheSetup t)) × SetsUp w s.content t.operation)
       → Early g opening (record {
@@ -520,7 +520,7 @@ module _ (g : Setting) (k : Times) (opening : Content) (j : IsLegal g.script) (i
     setup = inl refl;
   }
 
-  -- a set-up that is done, behind which nothing was begun, leaves all as it was before the facts began
+  -- If a set-up is done and nothing was begun since, all is as it was before the facts began.
   abbrev NotMoved : Stand → Type 0
   NotMoved x = is_just_set x.driver ≡ true → ((a : Who) → x.attempts a ≡ None) → Early g opening x
 
@@ -530,11 +530,11 @@ module _ (g : Setting) (k : Times) (opening : Content) (j : IsLegal g.script) (i
   may_set_up : (x : Stand) → Well x → MaySetUp x → Early g opening x
   may_set_up x h g = grind arith
 
-  -- an attempt is at something
+  -- An attempt has begun an operation.
   moved : (x : Stand) (a : Who) (op : Operation) → NotMoved (with_attempt x a op)
   moved x a op just none = absurd (none_some (none a) (who_here x.attempts a (Some op) a refl))
 
-  -- no request of the driver's ends a set-up once one is done
+  -- No request of the driver ends a set-up once one is done.
   not_just : (x : Stand) (r : Request) (o : Outcome) (op : Operation) → At g opening (Some op) x.seen x.told
       → asks g (who Driver) nothing_learnt op ≡ Some r
       → is_just_set (Some (tells g (who Driver) op o)) ≡ true → ⊥
@@ -548,7 +548,7 @@ module _ (g : Setting) (k : Times) (opening : Content) (j : IsLegal g.script) (i
     moved x a op,
   )
 
-  -- what begins
+  -- An actor begins an operation.
   well_begins : (x : Stand) → Well x → (b : Beginning) → MayBegin g x b → Well (begin g x b)
   well_begins x h BeginSetup may =
       let old = may_set_up x h may in
@@ -631,9 +631,9 @@ module _ (g : Setting) (k : Times) (opening : Content) (j : IsLegal g.script) (i
   pub good : (es : List Entry) (x : Stand) → Runs g k opening es x → Good x
   good es x run = (well es x run).0
 
-  -- ---- what a reader is shown, among no strangers
+  -- ---- what readers see, if no stranger sends
 
-  -- until the set-up is done, and right behind it, all is as it was
+  -- Until the set-up is done, and right after it, all is as it was.
   early_untouched : (x : Stand) → Early g opening x → Shown x → Untouched g opening x.seen.scene.content
   early_untouched x h g = grind arith
 
@@ -691,7 +691,7 @@ module _ (g : Setting) (k : Times) (opening : Content) (j : IsLegal g.script) (i
       (h (own_front es _ own)))
       (λ es x n r o run f h own. absurd (false_true refl (own_last es _ own)))
 
-  -- ---- while a check goes on its commit has sent nothing
+  -- ---- while a check goes on, its commit has sent nothing
 
   pub check_unsent : (es : List Entry) (x : Stand) → Runs g k opening es x → (t : Retried Check) → x.driver ≡ Some (TheCheck t)
       → x.commit ≡ []

@@ -1,4 +1,4 @@
--- Facts of every run, by what each of its steps keeps.
+-- Facts of every run, from what each of its steps keeps.
 use Rattle.job_facts.specs.Foreign.{IsForeign}
 use Rattle.job_facts.specs.Told.{Told, driver_entry, entry, known, nothing_told, strange_entry, tell}
 use Rattle.job_model.specs.Attempts.{Who}
@@ -20,7 +20,7 @@ pub commit_is : {c d : Commit} → Some (TheCommit c) ≡ Some (TheCommit d) →
 commit_is e = cc
 
 module _ (g : Setting) (k : Times) (opening : Content) where
-  -- where an entry of the driver leads, and one of an attempt
+  -- The state after an entry of the driver, and after one of an attempt.
   abbrev pub driven : Stand → Operation → ℕ → Request → Outcome → Stand
   driven x op n r o = with_commit (with_driver (saw g k x (driver_entry n r o)) (tells g (who Driver) op o))
       (commit_with op x.commit (driver_entry n r o))
@@ -28,7 +28,7 @@ module _ (g : Setting) (k : Times) (opening : Content) where
   abbrev pub attempted : Stand → Who → Operation → ℕ → Request → Outcome → Stand
   attempted x a op n r o = with_attempt (saw g k x (entry a n r o)) a (tells g a op o)
 
-  -- what begins keeps P, and so does each entry of the driver, of an attempt, and of a stranger
+  -- P is kept by what begins, and by each entry of the driver, of an attempt, and of a stranger.
   abbrev pub BeginKeeps : (List Entry → Stand → Type 0) → Type 0
   BeginKeeps P = (es : List Entry) (x : Stand) (b : Beginning) → Runs g k opening es x → MayBegin g x b → P es x → P es (begin g x b)
 
@@ -52,7 +52,7 @@ module _ (g : Setting) (k : Times) (opening : Content) where
       → P (es ++ strange_entry n r o ∷ [])
       (saw g k x (strange_entry n r o))
 
-  -- so every run has it
+  -- So P holds of every run.
   pub each_run : (P : List Entry → Stand → Type 0) → P [] (first_stand opening k.clean) → BeginKeeps P → DriverKeeps P → AttemptKeeps P
       → StrangerKeeps P
       → (es : List Entry) (x : Stand) → Runs g k opening es x → P es x
@@ -64,7 +64,7 @@ module _ (g : Setting) (k : Times) (opening : Content) where
       (each_run P first b d a s fs y run)
   each_run P first b d a s es x (strays fs y n r o run f) = s fs y n r o run f (each_run P first b d a s fs y run)
 
-  -- and what each entry keeps, whoever sent it, of what is seen and told
+  -- The same for what each entry keeps of what the journal shows and says, whoever sent it.
   pub each_seen : (P : List Entry → Seen → Told → Type 0) → P [] (nothing_seen opening) (nothing_told k.clean)
       → ((es : List Entry) (x : Stand) (e : Entry) → Runs g k opening es x → P es x.seen x.told
       → P (es ++ e ∷ []) (see g.script k x.seen e) (tell g.script x.told e))

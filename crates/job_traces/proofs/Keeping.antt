@@ -1,4 +1,4 @@
--- What holds of a run's stand is kept by every step of the run.
+-- Every step of a run keeps what holds of its state.
 use Rattle.basics.proofs.Members.{false_true, true_or_false}
 use Rattle.job_facts.proofs.Agreeing.{Agrees, agrees_start}
 use Rattle.job_facts.proofs.Beside.{beside, job_commit_begins}
@@ -53,7 +53,7 @@ use Rattle.job_model.specs.declared.ends.Stage.TheVariants as stages
 
 -- ---- what is quiet
 
--- outside the magic directory nothing changes, and of the commit nothing more is seen
+-- Outside the magic directory nothing changes, and the journal shows nothing more of the commit.
 pub record Quiet (w : Script) (s u : Seen) : Type 0 where
   pub keys : (k : List ℕ) → begins (magic_prefix w.dest.key w.job) k ≡ false → at_key w u.scene.content k ≡ at_key w s.scene.content k
   pub picks : u.picks ≡ s.picks
@@ -102,7 +102,7 @@ module _ (g : Setting) (j : IsLegal g.script) (opening : Content) (s u : Seen) (
   pub idle_still : (m n : Told) → ((id : ℕ) → n.ended id ≡ m.ended id) → n.cleaned ≡ m.cleaned → Idle g opening s m → Idle g opening u n
   idle_still m n h g e = grind arith
 
-  -- what is outside the magic directory
+  -- What is outside the magic directory.
   only_still : (prefix : List ℕ) (keys : List (List ℕ)) → OnlyThose w prefix (is_no_magic w) s.scene.content keys
       → OnlyThose w prefix (is_no_magic w) u.scene.content keys
   only_still prefix keys h k x b go e = h k x b go (sym (q.keys k (no_magic w k go)) ∙ e)
@@ -122,7 +122,7 @@ module _ (g : Setting) (j : IsLegal g.script) (opening : Content) (s u : Seen) (
   }
   empty_still _ h = tt
 
--- what a reader is shown goes on so, where nothing that is shown changes
+-- What readers see stays as promised, if nothing that they see changes.
 pub kept_next : (g : Setting) (opening : Content) (s u : Seen)
     → Same (view g.script.dest u.scene.content) (view g.script.dest s.scene.content)
     → at_key g.script u.scene.content (success_key g.script.dest.key) ≡ at_key g.script s.scene.content (success_key g.script.dest.key)
@@ -151,7 +151,7 @@ kept_next g opening s u shows success picks mark begun kept = record {
       (record { picked = old.picked; apart = old.apart; files = λ q. shows q ∙ old.files q; mark = λ o y. old.mark o (sym success ∙ y) });
 }
 
--- ---- an attempt's entry, in the eyes of the driver
+-- ---- an attempt's entry, and the driver
 
 module _ (g : Setting) (j : IsLegal g.script) (opening : Content) (k : Times) (s : Seen) (m : Told) (h : Hold g.script g.minimum s m)
     (a : Who) (n : ℕ) (op : Operation) (fits : Fits g.script g.minimum a m op) (r : Request) (asked : asks g a (known m a) op ≡ Some r)
@@ -171,7 +171,7 @@ module _ (g : Setting) (j : IsLegal g.script) (opening : Content) (k : Times) (s
   pub at_beside : (d : Option Operation) → At g opening d s m → At g opening d next told
   at_beside d h = grind (arith, idle_still, quiet, commit_beside, sparing_still)
 
-  -- and so is what is shown
+  -- So is what readers see.
   shown_beside : (c : Commit) → CommitShows g opening s m.ended es c → CommitShows g opening next told.ended es c
   shown_beside c v = record {
     marks = subst (λ b. Marks g opening next.scene.content next.picks b c) (sym quiet.mark)
@@ -202,7 +202,7 @@ module _ (g : Setting) (j : IsLegal g.script) (opening : Content) (k : Times) (s
   shows_beside (Some (TheSparing t)) v = kept_beside v
   shows_beside (Some _) v = absurd v
 
-  -- other attempts know what they knew
+  -- Other attempts know what they knew.
   pub other_known : (b : Who) → (b ≡ a → ⊥) → known told b ≡ known m b
   other_known b h = grind (arith, who_other)
 

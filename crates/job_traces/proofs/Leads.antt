@@ -1,4 +1,4 @@
--- Where one sending of a commit leads: what each stage may become, so that a fact of the stages is kept where each of these keeps it.
+-- Where one send of a commit leads: what each stage may become. So a fact of the stages is kept if each of these keeps it.
 use Rattle.job_model.specs.JobScript.{Script}
 use Rattle.job_model.specs.declared.ends.CommitEnd.{CommitEnd}
 use Rattle.job_protocol.proofs.LaneTables.{either_so}
@@ -20,7 +20,7 @@ use Rattle.std.proofs.Common.{◌+◌, ◌∙◌, ◌∷◌, ◌≡◌}
 use Rattle.job_model.specs.declared.ends.CommitEnd.TheVariants as commits
 use Rattle.job_model.specs.declared.ends.Stage.TheVariants as stages
 
--- where it goes on with these sets
+-- The stages that the commit may enter with these sets.
 pub data Enters (w : Script) (sets : Sets) : Commit → Type 0 where
   reads_next : Enters w sets (Fetching sets 0)
   is_shared : (p : List ℕ) (t u : ℕ) → same_path w (picks_of sets) ≡ Some (commits.SamePath p t u)
@@ -32,9 +32,9 @@ pub data Enters (w : Script) (sets : Sets) : Commit → Type 0 where
       → Enters w sets (Completing sets x xs [])
   deals_none : [] ≡ replaced w.committer w.mode w (picks_of sets) → Enters w sets (Marking sets 0)
 
--- where this sending leads
+-- The stages to which this outcome may lead.
 pub data Leads (w : Script) : Commit → Outcome → Commit → Type 0 where
-  -- an answer
+  -- The send was answered.
   fetches : {sets : Sets} {n : ℕ} {x : Reply} {d : Commit} (y : PendingSet) → set_read x ≡ Some y → Enters w (sets ++ y ∷ []) d
       → Leads w (Fetching sets n) (Answered x) d
   reads_none : {sets : Sets} {n : ℕ} {x : Reply} → set_read x ≡ None → Leads w (Fetching sets n) (Answered x) (Fetching sets 0)
@@ -51,13 +51,13 @@ pub data Leads (w : Script) : Commit → Outcome → Commit → Type 0 where
       → y ∷ ys ≡ xs ++ follow w.lanes (length (all_commits sets)) x.number
       → Leads w (Completing sets x xs done) (Answered r) (Completing sets y ys (x.number ∷ done))
   is_marked : {sets : Sets} {n : ℕ} {x : Reply} → Leads w (Marking sets n) (Answered x) (CommitOver commits.Committed)
-  -- the last completion, and the requests of the revert, answered or not
+  -- The last completion, and the requests of the revert, answered or not.
   all_complete : {sets : Sets} {x : Turn} {xs : List Turn} {done : List ℕ} {o : Outcome}
       → Leads w (Completing sets x xs done) o (Marking sets 0)
   reverts_next : {q r : Request} {rs : List Request} {n : ℕ} {o : Outcome} → Leads w (Reverting q (r ∷ rs) n) o (Reverting r rs 0)
   is_reverted : {q : Request} {n : ℕ} {o : Outcome} → Leads w (Reverting q [] n) o (CommitOver (commits.StoreFault stages.Complete))
   stays_over : {end : CommitEnd} {o : Outcome} → Leads w (CommitOver end) o (CommitOver end)
-  -- a sending without an answer is made again
+  -- A send without an answer is made again,
   reads_again : {sets : Sets} {n : ℕ} {o : Outcome} → Leads w (Fetching sets n) o (Fetching sets (n + 1))
   sweeps_again : {sets : Sets} {p : List ℕ} {ps : List (List ℕ)} {s : Sweep} {n : ℕ} {o : Outcome}
       → Leads w (Replacing sets p ps s n) o (Replacing sets p ps s (n + 1))
@@ -65,7 +65,7 @@ pub data Leads (w : Script) : Commit → Outcome → Commit → Type 0 where
       → Leads w (Completing sets x xs done) o (Completing sets y ys done)
   marks_again : {sets : Sets} {n : ℕ} {o : Outcome} → Leads w (Marking sets n) o (Marking sets (n + 1))
   reverts_again : {q : Request} {qs : List Request} {n : ℕ} {o : Outcome} → Leads w (Reverting q qs n) o (Reverting q qs (n + 1))
-  -- or it wears out
+  -- or the request runs out of retries.
   read_worn : {sets : Sets} {n : ℕ} {o : Outcome} → Leads w (Fetching sets n) o (CommitOver (commits.StoreFault stages.Read))
   sweep_worn : {sets : Sets} {p : List ℕ} {ps : List (List ℕ)} {s : Sweep} {n : ℕ} {o : Outcome}
       → Leads w (Replacing sets p ps s n) o (CommitOver (commits.StoreFault stages.Delete))
@@ -75,7 +75,7 @@ pub data Leads (w : Script) : Commit → Outcome → Commit → Type 0 where
   none_reverts : {sets : Sets} {x : Turn} {xs : List Turn} {done : List ℕ} {o : Outcome}
       → Leads w (Completing sets x xs done) o (CommitOver (commits.StoreFault stages.Complete))
 
--- ---- each does
+-- ---- each outcome leads to one of these
 
 turns_so : (P : Commit → Type 0) (sets : Sets) (xs : List Turn) (done : List ℕ) → P (Marking sets 0)
     → ((y : Turn) (ys : List Turn) → y ∷ ys ≡ xs → P (Completing sets y ys done)) → P (completing sets xs done)

@@ -1,4 +1,4 @@
--- What is told of an attempt's knowledge is what its own entries say, and that the driver cleans up is what its entries say.
+-- What a journal says of an attempt is what its own entries say, and so is that the driver cleans up.
 use Rattle.basics.proofs.Members.{nat_true, true_or_false}
 use Rattle.job_facts.proofs.Whose.{attempt, same_or_another, who_here, who_other}
 use Rattle.job_facts.specs.Told.{Told, known, tell, tell_all, tell_by}

@@ -1,4 +1,4 @@
--- Elements of a list that has more behind it.
+-- Elements of a list to which more is appended.
 use Rattle.std.proofs.Common.{List, arith, length, refl, slice_get, suc, zero, ℕ, [], ◌++◌, ◌<◌, ◌∷◌, ◌≡◌}
 
 pub slice_front : {X : Type 0} (xs ys : List X) (n : ℕ) → n < length xs → slice_get (xs ++ ys) n ≡ slice_get xs n

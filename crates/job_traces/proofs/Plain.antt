@@ -1,5 +1,5 @@
--- What is seen of one more entry: its scene, and that one which reads no set leaves the picks and one which puts no marker leaves the
--- marker.
+-- What one more entry changes in what a journal shows. The scene is its effect. An entry that reads no set leaves the picks, and one that
+-- puts no marker leaves the marker.
 use Rattle.basics.proofs.Members.{false_true, some_is}
 use Rattle.job_facts.proofs.Sharing.{Plain}
 use Rattle.job_facts.specs.Filed.{Decides}
@@ -25,7 +25,7 @@ module _ (w : Script) (k : Times) (s : Seen) (n : ℕ) (r : Request) where
   pub plain_picks : ((t : ℕ) → is_reading w t r ≡ false) → (o : Outcome) (t : ℕ) → (see w k s (driver_entry n r o)).picks t ≡ s.picks t
   plain_picks h o t = grind (arith, and-false)
 
-  -- so does one at a time at which nothing is picked
+  -- An entry at a time without picking leaves the picks too.
   pub closed_picks : is_picking k s.begun n ≡ false → (o : Outcome) (t : ℕ) → (see w k s (driver_entry n r o)).picks t ≡ s.picks t
   closed_picks h o t = grind arith
 
@@ -38,12 +38,12 @@ module _ (w : Script) (k : Times) (s : Seen) (n : ℕ) (r : Request) where
   pub driver_begun : (o : Outcome) → (see w k s (driver_entry n r o)).begun ≡ (s.begun || is_begun k.commit n)
   driver_begun o = grind arith
 
--- so does each entry but one of the driver that reads a set
+-- So does each entry but one of the driver that reads a set.
 pub entry_picks : (w : Script) (k : Times) (s : Seen) (e : Entry) → (e.actor ≡ Driver → (t : ℕ) → is_reading w t e.request ≡ false)
     → (t : ℕ) → (see w k s e).picks t ≡ s.picks t
 entry_picks w k s e h t = grind (arith, plain_picks)
 
--- a set-up's and an abort's or clean's are such
+-- The requests of a set-up and of an abort or clean are such.
 pub setup_plain : (w : Script) (op : Setup) (r : Request) → setup_asks w op ≡ Some r → Plain w r
 setup_plain w op r h = grind arith
 
@@ -51,7 +51,7 @@ pub clean_plain : (w : Script) (op : Clean) (r : Request) → clean_asks w op �
     × ((t : ℕ) → is_reading w t r ≡ false)
 clean_plain w op r h = grind arith
 
--- but in the first stage no request of a commit reads a set
+-- A commit reads a set only in its first stage.
 abbrev pub is_read_stage : Commit → Bool
 is_read_stage (Fetching sets x) = true
 is_read_stage _ = false

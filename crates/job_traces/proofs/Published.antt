@@ -49,7 +49,7 @@ use Rattle.std.proofs.lemmas.Option.{slice_get_within}
 use Rattle.job_model.specs.declared.ends.TaskEnd.TheVariants as tasks
 use Rattle.job_facts.proofs.Remaining as remaining
 
--- what was published is so in a longer journal
+-- What is published in a journal is published in a longer one.
 pub longer_published : (w : Script) (opening : Content) (es more : List Entry) (t a n i : ℕ) (h : WasPublished w opening es t a n)
     → h.entry.event ≤ i → WasPublished w opening (es ++ more) t a i
 longer_published w opening es more t a n i h g = grind (arith, slice_get_within, slice_front, take-append-le)
@@ -58,7 +58,7 @@ module _ (g : Setting) (k : Times) (opening : Content) (j : IsLegal g.script) (i
   abbrev w : Script
   w = g.script
 
-  -- its own publishing request is one of these entries, and took effect
+  -- The attempt's own publishing request is one of these entries, and took effect.
   abbrev pub Own : List Entry → Who → Type 0
   Own es a = (n : ℕ) × WasPublished w opening es a.task a.attempt n
 
@@ -233,7 +233,7 @@ module _ (g : Setting) (k : Times) (opening : Content) (j : IsLegal g.script) (i
     stands = λ c a op e. absurd (none_some refl e);
   }) stands_begin driver_stands attempt_stands strays_stand
 
-  -- a commit that is done has published
+  -- A commit that is done has published.
   pub has_published : (es : List Entry) (x : Stand) → Runs g k opening es x → x.told.cleaned ≡ false
       → (a : Who) (spare : ℕ) (repeated : Bool) → x.attempts a ≡ Some (TheTaskCommit
       (record { operation = TaskCommitOver tasks.Done; spare = spare; repeated = repeated })) → Own es a

@@ -1,4 +1,4 @@
--- How far a replace mode has come with what it does not keep, and what becomes of paths that are not wanted.
+-- How a replace mode deletes what it does not keep, and what becomes of paths that are not wanted.
 use Rattle.basics.proofs.Members.{false_true, none_or_some, none_some, true_or_false}
 use Rattle.basics.specs.Members.{IsIn}
 use Rattle.basics.specs.Order.{text_cmp}
@@ -41,7 +41,7 @@ use Rattle.store_frame.proofs.Framed.{frame}
 use Rattle.store_frame.proofs.Reading.{reads_nothing}
 use Rattle.store_frame.specs.Held.{HasBucket}
 
--- a file's path is not below the magic directory
+-- A file's path is not below the magic directory.
 pub path_no_magic : {w : Script} → IsLegal w → (q : List ℕ) → is_file_path q ≡ true → is_no_magic w (below w.dest.key q) ≡ true
 path_no_magic {w = w} j q h =
     let a = and_parts (not (is_folder q) && not (begins (codes "__magic/") q)) (not (bytes_eq q (codes "_SUCCESS"))) h in
@@ -61,12 +61,12 @@ module _ (g : Setting) (j : IsLegal g.script) (opening : Content) where
   abbrev w : Script
   w = g.script
 
-  -- what is kept is told by the sets
+  -- The sets determine what the mode keeps.
   pub keeps_same : (picks : Picks) (sets : Sets) → AgreeBelow w picks sets w.tasks → (q : List ℕ)
       → keeps_of w picks q ≡ keeps_of w (picks_of sets) q
   keeps_same picks sets a q = ap (λ l. keeps w.committer w.mode (partitions (paths_of l)) q) (same_wanted w (picks_of sets) picks a)
 
-  -- once all prefixes are emptied
+  -- Once all prefixes are emptied.
   pub cleared_so : (picks : Picks) (sets : Sets) → AgreeBelow w picks sets w.tasks → (c : Content)
       → ((d : List ℕ) → IsIn d (replaced w.committer w.mode w (picks_of sets)) → OnlyThose w d (is_no_magic w) c [])
       → (q : List ℕ) → is_file_path q ≡ true → Clearing g opening picks q (now_at g opening c q)
@@ -84,7 +84,7 @@ module _ (g : Setting) (j : IsLegal g.script) (opening : Content) where
         ]
   ]
 
-  -- as the reads go on or are over
+  -- When the next set is read, or all are.
   pub others_enter : (picks : Picks) (q : List ℕ) → is_file_path q ≡ true → (c : Content) → now_at g opening c q ≡ first_at g opening q
       → (sets : Sets) {d : Commit}
       → Enters w sets d → Agrees w picks d → OtherStands g opening picks q (now_at g opening c q) d
@@ -95,7 +95,7 @@ module _ (g : Setting) (j : IsLegal g.script) (opening : Content) where
 
   -- ---- prefixes
 
-  -- below the next prefix all is left yet
+  -- Below the next prefix nothing is deleted yet.
   pub empty_next : (c : Content) (sets : Sets) (behind : List (List ℕ)) (p : List ℕ) (ps : List (List ℕ))
       → behind ++ (p ∷ ps) ≡ replaced w.committer w.mode w (picks_of sets)
       → ((d : List ℕ) → IsIn d behind → OnlyThose w d (is_no_magic w) c [])
@@ -108,7 +108,7 @@ module _ (g : Setting) (j : IsLegal g.script) (opening : Content) where
       (under p (subst (IsIn p) e (inl refl)))
   empty_enter c sets under _ = tt
 
-  -- ---- which prefixes are left, by the sets alone
+  -- ---- the sets determine which prefixes are left
 
   enter_replaces : {sets : Sets} {d : Commit} → Enters w sets d → Replaces g opening d
   enter_replaces (empties e) = ([], e)
@@ -134,7 +134,7 @@ module _ (g : Setting) (j : IsLegal g.script) (opening : Content) where
     abbrev r : Request
     r = sweep_asks w.dest.bucket p x
 
-    -- a key stays, or was below the prefix and is gone
+    -- A key stays, or it was below the prefix and is gone.
     taken : (x : Sweep) → SweepsUnder p x → (k : List ℕ)
         → (at_key w (apply s (sweep_asks w.dest.bucket p x)).content k ≡ at_key w s.content k)
         ⊎ ((at_key w (apply s (sweep_asks w.dest.bucket p x)).content k ≡ None) × (begins p k ≡ true))

@@ -1,5 +1,5 @@
--- What holds of a run's stand: before its set-up is done, while its commit goes on, and while it cleans up. How far the job has come no
--- stranger can change; what a reader is shown is told of a run among no strangers.
+-- What holds of the state of a run: before its set-up is done, while its commit goes on, and while it cleans up. No stranger can change the
+-- progress of the job. What readers see is said only of runs in which no stranger sends.
 use Rattle.basics.proofs.Members.{false_true, none_or_some, none_some, true_or_false}
 use Rattle.basics.specs.Members.{IsIn}
 use Rattle.job_facts.proofs.Agreeing.{Agrees, decided_so}
@@ -58,11 +58,11 @@ module _ (g : Setting) (opening : Content) where
   abbrev pub now_at : Content → List ℕ → Option Object
   now_at c q = at_key w c (below w.dest.key q)
 
-  -- where files are shown the opening's objects stand
+  -- At the paths where files are shown, the objects are those of the opening.
   abbrev pub Untouched : Content → Type 0
   Untouched c = (q : List ℕ) → is_file_path q ≡ true → now_at c q ≡ first_at q
 
-  -- where its own marker stands, it says what was wanted
+  -- The job's own marker, if it exists, says what was wanted.
   abbrev pub MarkSays : Content → Picks → Bool → Type 0
   MarkSays c picks put = put ≡ true → (o : Object) → at_key w c (success_key w.dest.key) ≡ Some o → o.bytes ≡ mark_text w picks
 
@@ -72,19 +72,19 @@ module _ (g : Setting) (opening : Content) where
   Marks c picks put (CommitOver (commits.StoreFault stages.Success)) = MarkSays c picks put
   Marks c picks put _ = put ≡ false
 
-  -- one that was not put has no such stage
+  -- If the marker was not put, the commit is in no stage that has put it.
   pub false_marks : (x : Content) (p : Picks) (put : Bool) → put ≡ false → (d : Commit) → Marks x p put d
   false_marks x p put h d = grind arith
 
-  -- what the picks want the commit wants
+  -- What the picks want, the commit wants.
   pub wants_of : (p : Picks) (q b : List ℕ) → wanted_at w p q ≡ Some b → (d : Commit) → Agrees w p d → Wants w q b d
   wants_of p q b h d g = grind (arith, same_wanted)
 
-  -- what is not wanted stands as at the opening where the mode keeps it, and else not
+  -- The object at a path that is not wanted is that of the opening if the mode keeps it, else there is none.
   abbrev pub Cleared : Picks → List ℕ → Option Object → Type 0
   Cleared picks q now = now ≡ cond (keeps_of w picks q) (first_at q) None
 
-  -- until all is deleted that is not kept, it may stand still
+  -- Until all is deleted that the mode does not keep, it may still exist.
   abbrev pub Clearing : Picks → List ℕ → Option Object → Type 0
   Clearing picks q now = (now ≡ first_at q) ⊎ ((now ≡ None) × (keeps_of w picks q ≡ false))
 
@@ -98,13 +98,13 @@ module _ (g : Setting) (opening : Content) where
   OtherStands picks q now (CommitOver _) = now ≡ first_at q
   OtherStands picks q now _ = Cleared picks q now
 
-  -- what is wanted stands as the commit says, and so does what is not
+  -- The object at a wanted path is as the commit says, and so is the one at any other path.
   pub record Files (c : Content) (picks : Picks) (ended : ℕ → Bool) (es : List Entry) (op : Commit) : Type 0 where
     pub wanted : (q : List ℕ) → is_file_path q ≡ true → (b : List ℕ) → wanted_at w picks q ≡ Some b
         → FileStands w q b (first_at q) es (now_at c q) ended op
     pub others : (q : List ℕ) → is_file_path q ≡ true → wanted_at w picks q ≡ None → OtherStands picks q (now_at c q) op
 
-  -- how far a replace mode has come: below the prefixes behind it nothing is left that is to go
+  -- The progress of a replace mode: below the prefixes that it has emptied, nothing is left that is to go.
   pub record Emptying (c : Content) (sets : Sets) (p : List ℕ) (ps : List (List ℕ)) (t : Sweep) : Type 0 where
     pub behind : List (List ℕ)
     pub parts : behind ++ (p ∷ ps) ≡ replaced w.committer w.mode w (picks_of sets)
@@ -116,14 +116,14 @@ module _ (g : Setting) (opening : Content) where
   Empty c (Replacing sets p ps t n) = Emptying c sets p ps t
   Empty c _ = Unit {0}
 
-  -- ---- how far a run has come, among strangers
+  -- ---- the progress of a run, among strangers
 
-  -- where it replaces, the prefixes that are left are the last of those that its sets tell
+  -- In a replace mode the prefixes that are left are the last ones of those that the sets name.
   abbrev pub Replaces : Commit → Type 0
   Replaces (Replacing sets p ps t n) = (behind : List (List ℕ)) × (behind ++ (p ∷ ps) ≡ replaced w.committer w.mode w (picks_of sets))
   Replaces _ = Unit {0}
 
-  -- while the commit goes on, and where it is over
+  -- While the commit goes on, and when it is over.
   pub record InCommit (picks : Picks) (m : Told) (op : Commit) : Type 0 where
     pub fits : FitsJobCommit w g.minimum m.publish_sent m.drawn op
     pub tabled : Tabled w op
@@ -133,7 +133,7 @@ module _ (g : Setting) (opening : Content) where
     pub agrees : Agrees w picks op
     pub replaces : Replaces op
 
-  -- before it begins
+  -- Before the commit begins.
   pub record Idle (s : Seen) (m : Told) : Type 0 where
     pub none : NoneEnded m
     pub uncleaned : m.cleaned ≡ false
@@ -148,7 +148,7 @@ module _ (g : Setting) (opening : Content) where
   At (Some (TheSparing t)) s m = FitsSparing w m.drawn t.operation
   At _ s m = ⊥
 
-  -- while nobody of the job but the driver's set-up has sent anything
+  -- While nobody of the job has sent anything but the driver's set-up.
   pub record Early (x : Stand) : Type 0 where
     pub told : x.told ≡ nothing_told x.told.cleans_at
     pub last : (t : ℕ) → x.seen.last t ≡ None
@@ -161,10 +161,10 @@ module _ (g : Setting) (opening : Content) where
     pub files : NoClusterFile w x.seen.scene
     pub setup : (x.driver ≡ None) ⊎ ((t : Retried Setup) × (x.driver ≡ Some (TheSetup t)) × SetsUp w x.seen.scene.content t.operation)
 
-  -- once the set-up is done
+  -- Once the set-up is done.
   pub record Late (x : Stand) : Type 0 where
     pub hold : Hold w g.minimum x.seen x.told
-    -- until the driver cleans up
+    -- Until the driver cleans up.
     pub gone : x.told.cleaned ≡ false → Gone w x.seen.scene.content x.told
     pub fine : (a : Who) (op : Operation) → x.attempts a ≡ Some op → IsAttempt w a × Fits w g.minimum a x.told op
     pub new : (a : Who) → x.attempts a ≡ None → (known x.told a ≡ record { drawn = []; put_sent = false; publish_sent = false })
@@ -172,7 +172,7 @@ module _ (g : Setting) (opening : Content) where
     pub filed : Filed w x.seen.scene
     pub driver : At x.driver x.seen x.told
 
-  -- ---- what is shown, among none
+  -- ---- what readers see, if no stranger sends
 
   pub record CommitShows (s : Seen) (ended : ℕ → Bool) (es : List Entry) (op : Commit) : Type 0 where
     pub marks : Marks s.scene.content s.picks s.put_mark op
@@ -189,7 +189,7 @@ module _ (g : Setting) (opening : Content) where
   Shows (Some (TheSparing t)) s m es = Kept w opening s
   Shows (Some _) s m es = ⊥
 
-  -- ---- what a reader is shown
+  -- ---- what readers see
 
   shown_is : (c : Content) (q : List ℕ) → is_file_path q ≡ true → view w.dest c q ≡ option_map (λ (o : Object). o.bytes) (now_at c q)
   shown_is c q h = ap (λ b. cond b (option_map (λ (o : Object). o.bytes) (now_at c q)) None) h
@@ -236,7 +236,7 @@ module _ (g : Setting) (opening : Content) where
     mixed_left : (q b : List ℕ) (end : CommitEnd) → FileLeft w q b (first_at q) es (now_at c q) end → Mixed q b
     mixed_left q b end h = grind arith
 
-    -- each wanted path shows what it showed, nothing, or the whole file
+    -- At each wanted path there is the old object, none, or the whole file.
     pub mixed : (q b : List ℕ) → wanted_at w picks q ≡ Some b → (d : Commit) → FitsJobCommit w g.minimum m.publish_sent m.drawn d
         → Agrees w picks d → FileStands w q b (first_at q) es (now_at c q) m.ended d → Mixed q b
     mixed q b e (Fetching sets n) fits a f = inl (inl f)
@@ -255,14 +255,14 @@ module _ (g : Setting) (opening : Content) where
         → now_at c q ≡ first_at q
     first_by q wanted other = elim (none_or_some (wanted_at w picks q)) [ inl none ↦ other none | inr b ↦ wanted b.0 b.1 ]
 
-    -- a commit that ended so before its first completion has changed nothing
+    -- A commit that ended so before its first completion has changed nothing.
     pub left_still : (end : CommitEnd) → CommitShows s m.ended es (CommitOver end) → is_untouched end ≡ true → Untouched c
     left_still (commits.Missing t) v before q p = first_by q (v.files.wanted q p) (v.files.others q p)
     left_still (commits.SamePath x t u) v before q p = first_by q (v.files.wanted q p) (v.files.others q p)
     left_still (commits.StoreFault stages.Read) v before q p = first_by q (v.files.wanted q p) (v.files.others q p)
     left_still _ v before q p = absurd (false_true refl before)
 
-    -- before the first completion nothing has changed
+    -- Before the first completion nothing has changed.
     still : is_decided w picks ≡ false → (d : Commit) → InCommit picks m d → CommitShows s m.ended es d → Untouched c
     still e (Fetching sets n) i v q p = first_by q (v.files.wanted q p) (v.files.others q p)
     still e (Replacing sets o os x n) i v q p = absurd (false_true e (decided_so w picks sets i.decides i.agrees))
@@ -277,7 +277,7 @@ module _ (g : Setting) (opening : Content) where
     shown_path : (q b : List ℕ) → wanted_at w picks q ≡ Some b → is_file_path q ≡ true
     shown_path q b e = let x = wanted_of w picks q b e in ap is_file_path x.path ∙ file_path j _ x.file x.from.mine
 
-    -- what is not wanted is as before, or not kept and gone
+    -- A path that is not wanted is as before, or it is not kept and empty.
     cleared_clearing : (q : List ℕ) → Cleared picks q (now_at c q) → Clearing picks q (now_at c q)
     cleared_clearing q f = elim (true_or_false (keeps_of w picks q)) [
       | inl keep ↦ inl (f ∙ ap (λ t. cond t (first_at q) None) keep)
@@ -308,7 +308,7 @@ module _ (g : Setting) (opening : Content) where
             ]
       ]
 
-    -- where all wanted files stand
+    -- All wanted files exist.
     abbrev AllWhole : Type 0
     AllWhole = (q b : List ℕ) → wanted_at w picks q ≡ Some b → now_at c q ≡ Some (whole_of b)
 
@@ -355,7 +355,7 @@ module _ (g : Setting) (opening : Content) where
       whole = whole_by op i v;
     }
 
-    -- a revert that is over, of which no deletion wore out
+    -- A revert is over, and no deletion of it ran out of retries.
     pub reverted_shows : let end = CommitOver (commits.StoreFault stages.Complete) in InCommit picks m end → CommitShows s m.ended es end
         → NoDeletionWorn w.retries es
         → OnlyOpening w opening c

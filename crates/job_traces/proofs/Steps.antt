@@ -1,4 +1,4 @@
--- Each step of a run keeps what holds of its stand.
+-- Each step of a run keeps what holds of its state.
 use Rattle.basics.proofs.Members.{false_true, in_append, in_back, none_or_some, none_some, some_is}
 use Rattle.basics.specs.Members.{IsIn}
 use Rattle.job_facts.proofs.Agreeing.{AgreeBelow, Agrees, IsRead, agrees_tells, prefix_unkept, upload_wanted}
@@ -62,12 +62,12 @@ use Rattle.std.proofs.Math.Bool.{or-true}
 use Rattle.store_frame.specs.Frame.{changed_keys}
 use Rattle.store_frame.specs.Held.{HasBucket}
 
--- a key outside the magic directory, where a request hides all it changes
+-- A key outside the magic directory stays, if a request changes only keys in it.
 pub hidden_same : (w : Script) (s : Scene) → HasBucket s.content w.dest.bucket → (r : Request) → HidesAll w r → (o : Outcome) → (k : List ℕ)
     → begins (magic_prefix w.dest.key w.job) k ≡ false → at_key w (effect s r o).content k ≡ at_key w s.content k
 hidden_same w s there r h o k free = stranger_same w s there r o k (λ b i. false_true free (h b k i))
 
--- in its time a commit picks
+-- During its time a commit picks.
 pub commit_picks : (k : Times) (begun : Bool) (n : ℕ) → is_begun k.commit n ≡ true → is_begun k.clean n ≡ false
     → is_picking k begun n ≡ true
 commit_picks k begun n e f = ap (λ b. b && not (is_begun k.clean n)) (ap (λ b. begun || b) e ∙ or-true begun) ∙ ap not f
@@ -90,7 +90,7 @@ module _ (g : Setting) (j : IsLegal g.script) (opening : Content) (k : Times) (s
   abbrev no_keys : (y : Request) → changed_keys y ≡ [] → (q : List ℕ) → IsIn q (changed_keys y) → ⊥
   no_keys y e q x = subst (λ l. IsIn q l) e x
 
-  -- but in the marker's stage it is no put of the marker
+  -- A commit puts the marker only in its last stage.
   abbrev is_mark_stage : Commit → Bool
   is_mark_stage (Marking sets x) = true
   is_mark_stage _ = false
@@ -105,12 +105,12 @@ module _ (g : Setting) (j : IsLegal g.script) (opening : Content) (k : Times) (s
       [ inl y ↦ ap (is_marking w) y | inr y ↦ ap (is_marking w) y ]
   no_mark_by (CommitOver end) z a d e = absurd cc
 
-  -- keys of one path
+  -- Two paths with the same key are one path.
   same_path_so : (q v b : List ℕ) → below w.dest.key q ≡ below w.dest.key v → wanted_at w s.picks v ≡ Some b → wanted_at w s.picks q ≡ None
       → ⊥
   same_path_so q v b e wants none = none_some (ap (wanted_at w s.picks) (sym (one_key j (q, []) (v, []) e)) ∙ none) wants
 
-  -- but where it replaces, a path that is not wanted is none that it changes
+  -- Except in a replace mode, the commit changes no path that is not wanted.
   abbrev is_replace_stage : Commit → Bool
   is_replace_stage (Replacing sets p ps x y) = true
   is_replace_stage _ = false
@@ -135,7 +135,7 @@ module _ (g : Setting) (j : IsLegal g.script) (opening : Content) (k : Times) (s
       (subst (λ o. IsIn (below w.dest.key q) (changed_keys o)) (sym (some_is e)) y) in same_path_so q u.0 u.1 u.2 u.3 none
   unwanted_by (CommitOver end) keeps fits v a d e q p none y = absurd cc
 
-  -- ---- what is seen after it
+  -- ---- what the journal shows after it
 
   abbrev u : Outcome → Seen
   u o = see w k s (driver_entry n r o)
@@ -167,7 +167,7 @@ module _ (g : Setting) (j : IsLegal g.script) (opening : Content) (k : Times) (s
   agrees_at d v o honest = let z : is_read_stage c ≡ false = ap is_read_stage (sym v) in subst
       (λ d. Agrees w (u o).picks (commit_tells w d o)) (sym v) (unanswered o (never_read c z o) (picks_same z o))
 
-  -- ---- all of it, as far as no stranger can change it
+  -- ---- all together, as far as no stranger can change it
 
   pub commit_next : (o : Outcome) → IsHonestOutcome o (answer s.scene r)
       → InCommit g opening (u o).picks (at_event n (tell_driver m r o)) (commit_tells w c o)
@@ -185,7 +185,7 @@ module _ (g : Setting) (j : IsLegal g.script) (opening : Content) (k : Times) (s
     abbrev all : Commits w g.minimum s m c
     all = record { hold = h; gone = gone; fits = i.fits; tabled = i.tabled; turns = i.turns; decides = i.decides }
 
-    -- ---- what is shown: the marker
+    -- ---- what readers see: the marker
 
     marking_marks : {sets : Sets} {v : ℕ} {o : Outcome} {d : Commit} (x : Content) (p : Picks) (put : Bool) → Leads w (Marking sets v) o d
         → MarkSays g opening x p put
@@ -222,7 +222,7 @@ module _ (g : Setting) (j : IsLegal g.script) (opening : Content) (k : Times) (s
 
     -- ---- files
 
-    -- before the first completion all is as it was
+    -- Before the first completion all is as it was.
     first_same : (sets : Sets) (x : ℕ) → Fetching sets x ≡ c → (q : List ℕ) → is_file_path q ≡ true
         → now_at g opening s.scene.content q ≡ first_at g opening q
     first_same sets x v q p = elim (none_or_some (wanted_at w s.picks q)) [
@@ -231,7 +231,7 @@ module _ (g : Setting) (j : IsLegal g.script) (opening : Content) (k : Times) (s
           (shown.files.wanted q p b.0 b.1)
     ]
 
-    -- so what stands is told of the picks afterwards too
+    -- So the same holds with the picks after the entry.
     old_files : (d : Commit) → d ≡ c → (o : Outcome) → (q b : List ℕ) → is_file_path q ≡ true → wanted_at w (u o).picks q ≡ Some b
         → FileStands w q b (first_at g opening q) es (now_at g opening s.scene.content q) m.ended d × Wants w q b d
     old_files (Fetching sets x) v o q b p e = (first_same sets x v q p, tt)
@@ -242,7 +242,7 @@ module _ (g : Setting) (j : IsLegal g.script) (opening : Content) (k : Times) (s
           wants_of g opening s.picks q b want d (subst (Agrees w s.picks) (sym v) i.agrees),
         )
 
-    -- a path that is not wanted
+    -- A path that is not wanted.
     abbrev after : Outcome → List ℕ → Option Object
     after o q = at_key w (effect s.scene r o).content (below w.dest.key q)
 
@@ -295,7 +295,7 @@ module _ (g : Setting) (j : IsLegal g.script) (opening : Content) (k : Times) (s
           subst (λ k. OnlyThose w d (is_no_magic w) (effect s.scene k o).content []) (sym is_sweep)
           (still_clear g j opening s.scene h.there p x state.under o d (state.clear d z))
 
-      -- in hand still
+      -- The same prefix is still being emptied.
       emptying_again : (o : Outcome) → Emptying g opening (content_after o) sets p ps x
       emptying_again o = record {
         behind = state.behind;
@@ -306,7 +306,7 @@ module _ (g : Setting) (j : IsLegal g.script) (opening : Content) (k : Times) (s
             (still_by w s.scene h.there p (is_no_magic w) x state.under state.sweeps o);
       }
 
-      -- after an answer
+      -- After an answer.
       emptied_now : (a : Reply) → a ≡ answer s.scene r → (t : Option Sweep) → sweep_hears (is_no_magic w) x a ≡ t
           → EmptiedBy w p (is_no_magic w) (apply s.scene r).content t
       emptied_now a due t is =
@@ -326,7 +326,7 @@ module _ (g : Setting) (j : IsLegal g.script) (opening : Content) (k : Times) (s
         ]
       ]
 
-      -- behind the last prefix all is cleared
+      -- After the last prefix all is emptied.
       all_cleared : (a : Reply) → a ≡ answer s.scene r → sweep_hears (is_no_magic w) x a ≡ None → [] ≡ ps → (q : List ℕ)
           → is_file_path q ≡ true
           → Clearing g opening (u (Answered a)).picks q (after (Answered a) q)
@@ -385,7 +385,7 @@ module _ (g : Setting) (j : IsLegal g.script) (opening : Content) (k : Times) (s
     empty_leads {o = o} (sweeps_again {sets = sets} {p = p} {ps = ps} {s = x} {n = n}) v honest = emptying_again sets p ps x n v o
     empty_leads _ v honest = tt
 
-    -- ---- all of it
+    -- ---- all together
 
     pub commit_shown : (o : Outcome) → IsHonestOutcome o (answer s.scene r)
         → CommitShows g opening (u o) (tell_driver m r o).ended (es ++ driver_entry n r o ∷ []) (commit_tells w c o)

@@ -1,4 +1,4 @@
--- The laws of whole runs: what a reader of the destination may rely on, at each of their moments.
+-- The laws of whole runs: what the job does, and what readers of the destination may rely on at each moment.
 use Rattle.job_facts.specs.Facts.{Hold}
 use Rattle.job_facts.specs.Told.{known, nothing_told, tell_all}
 use Rattle.job_model.specs.Attempts.{Who, actor_of}
@@ -26,38 +26,39 @@ use Rattle.job_model.specs.declared.ends.CommitEnd.TheVariants as commits
 use Rattle.job_model.specs.declared.ends.Stage.TheVariants as stages
 use Rattle.job_model.specs.declared.ends.TaskEnd.TheVariants as tasks
 
--- what is told of an attempt is what the attempt knows by its own entries, and of a clean that its event has begun
+-- A journal says of an attempt what the attempt knows from its own entries. It says that the driver cleans up once it has an entry of the
+-- first abort or clean.
 pub record ToldIsSaid : Type 0 where
   pub known : (w : Script) (c : Option ℕ) (a : Who) (es : List Entry)
       → known (tell_all w (nothing_told c) es) a ≡ knows w a (by_actor (actor_of a) es)
   pub cleaned : (w : Script) (c : Option ℕ) (es : List Entry) → (tell_all w (nothing_told c) es).cleaned ≡ has_cleaned c es
 
--- a run of a job, of every committer and mode, whose operations send what they ask and hear what is answered, in any order of its actors,
--- among strangers that leave its own alone; what a reader is shown is told where none of them sends
+-- What holds of a run of a job, of every committer and mode. Its operations send what they ask and receive what S3 answers, in any order of
+-- its actors, among strangers that leave its own alone. What readers see is said only of runs in which no stranger sends.
 pub record RunsKeep (g : Setting) (k : Times) (opening : Content) (es : List Entry) (x : Stand) : Type 0 where
-  -- what it says of its stand is what its entries say
+  -- The run's state is what its entries say.
   pub seen : x.seen ≡ see_all g.script k (nothing_seen opening) es
   pub told : x.told ≡ tell_all g.script (nothing_told x.told.cleans_at) es
-  -- from the end of the set-up on the facts hold
+  -- From the end of the set-up on, the facts hold.
   pub hold : is_set x.driver ≡ true → Hold g.script g.minimum x.seen x.told
-  -- at each moment a reader of the destination is shown what the headline says
+  -- At each moment readers of the destination see what the headline says.
   pub always : AreOwn es → Always g.script k opening es
-  -- no entry of its own copies a file or changes anything outside the destination, the driver sends no data, and only its completions and
-  -- deletions change what is shown
+  -- No entry of the job copies a file or changes anything outside the destination. The driver sends no data, and only its completions and
+  -- deletions change what readers see.
   pub entries : ZeroRename g.script opening es
   pub outside : AreOwn es → (m : ℕ) → m ≤ length es → SameOutside g.script opening (moment opening es m).content
-  -- until the driver cleans up, an attempt's commit that is done has published its own set
+  -- Until the driver cleans up, an attempt's commit that is done has published its own set.
   pub published : x.told.cleaned ≡ false → (a : Who) (spare : ℕ) (repeated : Bool)
       → x.attempts a ≡ Some (TheTaskCommit (record { operation = TaskCommitOver tasks.Done; spare = spare; repeated = repeated }))
       → (n : ℕ) × WasPublished g.script opening es a.task a.attempt n
-  -- where the commit ended before its first completion the opening files are shown
+  -- If the commit ended before its first completion, readers see the opening files.
   pub untouched : AreOwn es → (end : CommitEnd) → x.driver ≡ Some (TheCommit (CommitOver end)) → is_untouched end ≡ true
       → Same (view g.script.dest x.seen.scene.content) (view g.script.dest opening)
-  -- and a revert of which no deletion wore out leaves no file of the job
+  -- A revert of which no deletion ran out of retries leaves no file of the job.
   pub reverted : AreOwn es → x.driver ≡ Some (TheCommit (CommitOver (commits.StoreFault stages.Complete)))
       → NoDeletionWorn g.script.retries x.commit → OnlyOpening g.script opening x.seen.scene.content
 
--- every run of a job keeps what is owed of runs
+-- Every run of a legal script keeps all of this.
 abbrev pub AllRunsKeep : Type 0
 AllRunsKeep = (g : Setting) → IsLegal g.script → (k : Times) (opening : Content) → IsOpening g opening → (es : List Entry) (x : Stand)
     → Runs g k opening es x → RunsKeep g k opening es x

@@ -1,5 +1,5 @@
--- Runs of a job among strangers that leave its own alone, request by request, in any order of its actors. An operation may also stop at any
--- time.
+-- Runs of a job, request by request, in any order of its actors and among strangers that leave its own alone. An operation may also stop at
+-- any time.
 use Rattle.job_facts.specs.Facts.{IsAttempt}
 use Rattle.job_facts.specs.Foreign.{IsForeign}
 use Rattle.job_facts.specs.Stores.{at_id}
@@ -25,8 +25,8 @@ use Rattle.std.specs.Prelude.{Bool, List, None, Option, Some, false, true, ℕ, 
 use Rattle.job_model.specs.declared.ends.SetupEnd.TheVariants as setups
 use Rattle.job_model.specs.declared.ends.TaskEnd.TheVariants as tasks
 
--- where a run stands: what is seen and told, what each attempt and the driver began last and how far that has come, and what the driver's
--- commit has sent
+-- The state of a run: what its journal shows and says of the job, the operation that each attempt and the driver began last with its
+-- progress, and what the driver's commit has sent.
 pub record Stand : Type 0 where
   pub seen : Seen
   pub told : Told
@@ -34,11 +34,11 @@ pub record Stand : Type 0 where
   pub driver : Option Operation
   pub commit : List Entry
 
--- its first abort or clean is event c if it is any
+-- The state before the first entry. The first abort or clean, if there is one, is event c.
 abbrev pub first_stand : Content → Option ℕ → Stand
 first_stand opening c = record { seen = nothing_seen opening; told = nothing_told c; attempts = λ a. None; driver = None; commit = [] }
 
--- an attempt is at this now
+-- The state with this operation for an attempt.
 abbrev pub with_attempt : Stand → Who → Operation → Stand
 with_attempt x a op = record {
   seen = x.seen;
@@ -48,11 +48,11 @@ with_attempt x a op = record {
   commit = x.commit;
 }
 
--- the driver is
+-- The state with this operation for the driver.
 abbrev pub with_driver : Stand → Operation → Stand
 with_driver x op = record { seen = x.seen; told = x.told; attempts = x.attempts; driver = Some op; commit = x.commit }
 
--- one more entry
+-- The state after one more entry, before the outcome reaches the operation that sent it.
 abbrev pub saw : Setting → Times → Stand → Entry → Stand
 saw g k x e = record {
   seen = see g.script k x.seen e;
@@ -63,21 +63,21 @@ saw g k x e = record {
       x.commit;
 }
 
--- what its commit has sent, with this entry where it is of the commit
+-- What the job's commit has sent: this entry too, if the commit is what the driver is running.
 abbrev pub commit_with : Operation → List Entry → Entry → List Entry
 commit_with (TheCommit c) es e = es ++ e ∷ []
 commit_with _ es e = es
 
--- how far a run has come, with these as the entries of the job's commit
+-- The state with these entries as those of the job's commit.
 abbrev pub with_commit : Stand → List Entry → Stand
 with_commit x es = record { seen = x.seen; told = x.told; attempts = x.attempts; driver = x.driver; commit = es }
 
--- a set-up ended Done
+-- The set-up ended Done.
 abbrev pub is_done : Setup → Bool
 is_done (SetupOver setups.Done) = true
 is_done _ = false
 
--- the driver's set-up has ended Done
+-- A set-up of the driver has ended Done: it is the last operation, or the last one is of a kind that comes after it.
 abbrev pub is_set : Option Operation → Bool
 is_set None = false
 is_set (Some (TheSetup t)) = is_done t.operation
@@ -87,17 +87,18 @@ is_set (Some (TheCheck t)) = true
 is_set (Some (TheSparing t)) = true
 is_set (Some _) = false
 
--- it is what the driver did last
+-- The operation that the driver began last is a set-up that ended Done.
 abbrev pub is_just_set : Option Operation → Bool
 is_just_set (Some (TheSetup t)) = is_done t.operation
 is_just_set _ = false
 
--- no set-up has ended Done, or nothing was begun since
+-- No set-up has ended Done, or the last operation of the driver did, and no attempt has begun anything.
 abbrev pub MaySetUp : Stand → Type 0
 MaySetUp x = (is_set x.driver ≡ false) ⊎ ((is_just_set x.driver ≡ true) × ((a : Who) → x.attempts a ≡ None))
 
--- the entries of a set-up are of events before that of the commit and that of the first abort or clean, those of the commit and its check
--- of it or of later ones before that, and those of an abort or clean of that or later ones
+-- The event that an entry of the driver may have. A set-up sends before the event of the commit and before that of the first abort or
+-- clean. A commit and its check send in the event of the commit or later, and before that of the first abort or clean. An abort or clean
+-- sends in its event or later.
 abbrev pub IsTimely : Times → ℕ → Operation → Type 0
 IsTimely k n (TheSetup t) = (is_begun k.commit n ≡ false) × (is_begun k.clean n ≡ false)
 IsTimely k n (TheCommit v) = (is_begun k.commit n ≡ true) × (is_begun k.clean n ≡ false)
@@ -106,36 +107,36 @@ IsTimely k n (TheClean t) = is_begun k.clean n ≡ true
 IsTimely k n (TheSparing t) = is_begun k.clean n ≡ true
 IsTimely k n _ = Unit {0}
 
--- what an attempt knows before it has sent anything
+-- What an attempt knows before it has sent anything.
 abbrev pub nothing_learnt : Known
 nothing_learnt = record { drawn = []; put_sent = false; publish_sent = false }
 
 -- ---- what an actor may begin
 
--- what it begins
+-- An operation that an actor begins.
 pub data Beginning : Type 0 where
-  -- the driver a set-up; its commit, with these reports; an abort or clean of the job
+  -- The driver begins a set-up, its commit with these reports, or an abort or clean of the job.
   BeginSetup : Beginning
   BeginCommit : (reports : Reports) → Beginning
   BeginClean : Beginning
-  -- an attempt its write, its commit, and an abort
+  -- An attempt begins its write, its commit, or an abort.
   BeginWrite : (attempt : Who) → Beginning
   BeginPublish : (attempt : Who) → Beginning
   BeginAbort : (attempt : Who) → Beginning
 
--- what the driver is at then
+-- The driver's operation after a beginning.
 abbrev pub begun_driver : Setting → Stand → Beginning → Option Operation
 begun_driver g x BeginSetup = Some (TheSetup (fresh g.script.retries setup_start))
 begun_driver g x (BeginCommit reports) = Some (commit_of g reports)
 begun_driver g x BeginClean = Some (clean_of g)
 begun_driver g x _ = x.driver
 
--- what its commit has sent
+-- What the job's commit has sent, after a beginning.
 abbrev pub begun_commit : Stand → Beginning → List Entry
 begun_commit x (BeginCommit reports) = []
 begun_commit x _ = x.commit
 
--- what each attempt is at
+-- The operation of each attempt after a beginning.
 abbrev pub begun_attempts : Setting → Stand → Beginning → Who → Option Operation
 begun_attempts g x (BeginWrite a) = put_who x.attempts a (Some (TheWrite (fresh g.script.retries (write_start g.script a))))
 begun_attempts g x (BeginPublish a) = put_who x.attempts a (Some (TheTaskCommit (fresh g.script.retries (task_commit_start g.script a))))
@@ -143,7 +144,7 @@ begun_attempts g x (BeginAbort a) = put_who x.attempts a (Some
     (TheTaskAbort (fresh g.script.retries (task_abort_start g.script (known x.told a)))))
 begun_attempts g x _ = x.attempts
 
--- a run once an actor begins an operation
+-- The state after an actor begins an operation.
 abbrev pub begin : Setting → Stand → Beginning → Stand
 begin g x b = record {
   seen = x.seen;
@@ -153,14 +154,14 @@ begin g x b = record {
   commit = begun_commit x b;
 }
 
--- an attempt's write is done
+-- An attempt's write has ended Done.
 abbrev pub WriteIsDone : Option Operation → Type 0
 WriteIsDone o = (spare : ℕ) × (repeated : Bool) × (o ≡ Some (TheWrite
     (record { operation = WriteOver tasks.Done; spare = spare; repeated = repeated })))
 
--- a set-up where none has ended Done, or where nothing was begun behind one that its driver was not told of; the commit right after its
--- set-up, and an abort or clean at any time after that;
--- an attempt's write where it has begun nothing, its commit where its write has ended Done, and its abort at any time
+-- What may begin in a state. A set-up: if none has ended Done, or if nothing was begun since one did, as its driver may have died before it
+-- learned of that. A commit: right after the set-up. An abort or clean of the job: at any time after the set-up. An attempt's write: if the
+-- attempt has begun nothing. Its commit: if its write has ended Done. Its abort: at any time after the set-up.
 abbrev pub MayBegin : Setting → Stand → Beginning → Type 0
 MayBegin g x BeginSetup = MaySetUp x
 MayBegin g x (BeginCommit reports) = is_just_set x.driver ≡ true
@@ -169,8 +170,8 @@ MayBegin g x (BeginWrite a) = (is_set x.driver ≡ true) × IsAttempt g.script a
 MayBegin g x (BeginPublish a) = (is_set x.driver ≡ true) × WriteIsDone (x.attempts a)
 MayBegin g x (BeginAbort a) = (is_set x.driver ≡ true) × IsAttempt g.script a
 
--- A run over this content, with these times: its entries so far, and where it stands. An actor that stops sends
--- no more; what it was at is then as far as it had come.
+-- A run over this content, with these times: its entries so far and its state. An actor that stops sends no more, and its operation keeps
+-- the progress that it had.
 pub data Runs (g : Setting) (k : Times) (opening : Content) : List Entry → Stand → Type 0 where
   run_begins : Runs g k opening [] (first_stand opening k.clean)
   actor_begins : (es : List Entry) (x : Stand) (b : Beginning) → Runs g k opening es x → MayBegin g x b → Runs g k opening es (begin g x b)
@@ -183,11 +184,11 @@ pub data Runs (g : Setting) (k : Times) (opening : Content) : List Entry → Sta
       → is_set x.driver ≡ true → x.attempts a ≡ Some op → asks g a (known x.told a) op ≡ Some r
       → IsHonestOutcome o (answer x.seen.scene r) → Runs g k opening (es ++ entry a n r o ∷ [])
       (with_attempt (saw g k x (entry a n r o)) a (tells g a op o))
-  -- a stranger sends what is foreign to the job, whatever becomes of it
+  -- A stranger sends a request that is foreign to the job, with any outcome.
   strays : (es : List Entry) (x : Stand) (n : ℕ) (r : Request) (o : Outcome) → Runs g k opening es x → IsForeign g.script x.told.drawn r
       → Runs g k opening (es ++ strange_entry n r o ∷ []) (saw g k x (strange_entry n r o))
 
--- a content that a run may begin with
+-- A content that a run may begin with: the least size of a part is that of the setting, and each upload has a lower id than the next one.
 pub record IsOpening (g : Setting) (c : Content) : Type 0 where
   pub least : c.minimum ≡ g.minimum
   pub fresh : (id : ℕ) (x : Upload) → at_id g.script c id ≡ Some x → id < c.next

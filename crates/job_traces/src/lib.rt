@@ -1,22 +1,25 @@
-//! Whole runs of a job: its operations' requests in any order, among strangers that leave its own alone, in `specs/`.
+//! Whole runs of a job, request by request: its actors send in any order, and strangers send what
+//! leaves the job's own keys, uploads and cluster files alone. The definitions are in `specs/`.
 //!
 //! # What is proved
 //!
-//! Every run, of every committer and mode, keeps the facts of `job_facts` from the end of the set-up on; it copies no
-//! file, and changes nothing outside the destination; an attempt's commit that is done has published. Where no stranger
-//! sends, a reader is shown at each moment what the headline says (`whole_runs`). What is told of an attempt is
-//! what it knows by its own entries (`journals`).
+//! - `whole_runs`: every run, of every committer and mode, keeps the facts of `job_facts` from the
+//!   end of the set-up on. The job copies no file and changes nothing outside the destination. An
+//!   attempt's commit that is done has published. If no stranger sends, readers see at each moment
+//!   what the headline says.
+//! - `journals`: what the fold over a journal says of an attempt is what the attempt knows from its
+//!   own entries.
 #![tactic(auto)]
 
 ghost use Rattle.job_traces.specs.RunLaws.{AllRunsKeep, ToldIsSaid};
 
-/// What is told of a journal.
+/// What a journal says of an attempt is what the attempt knows from its own entries.
 pub fn journals()
     ensures told { ToldIsSaid }
 {}
 
-/// A whole run, in any order of its actors, among strangers that leave its own alone: what it does, and what a reader
-/// of the destination is shown where none of them sends.
+/// What every whole run does, in any order of its actors and among strangers that leave its own
+/// alone, and what readers of the destination see if no stranger sends.
 pub fn whole_runs()
     ensures keep { AllRunsKeep }
 {}

@@ -1,4 +1,4 @@
--- That a world keeps what is promised of its job, between its events.
+-- A world keeps, between its events, what is promised of its job.
 use Rattle.job_model.specs.JobScript.{Script}
 use Rattle.job_model.specs.Known.{Known}
 use Rattle.job_model.specs.declared.ends.EventEnd.{EventEnd}
@@ -59,7 +59,7 @@ module _ {W : Type 0} (wants : W → Option Request) (is_of : Setting → Actor 
   played : IsPlayed (setting_of b) b.shared.opening play
   played = happenings_play (setting_of b) b.shared.opening play q.holds.legal q.holds.happened idle
 
-  -- the journal is the job's own, as it stands
+  -- The journal as the job reads it is the journal itself.
   journal_is : b.shared.journal.entries ≡ q.holds.play.journal
   journal_is = sym (ap (λ os. in_eyes (is_mine os) b.shared.journal.entries) r.alone.others ∙ alone b.shared.journal.entries) ∙
       q.holds.journal
@@ -67,7 +67,7 @@ module _ {W : Type 0} (wants : W → Option Request) (is_of : Setting → Actor 
   pub scene_is : b.shared.store.scene ≡ moment b.shared.opening b.shared.journal.entries (length b.shared.journal.entries)
   scene_is = q.holds.scene ∙ ap (λ es. moment b.shared.opening es (length es)) (sym journal_is)
 
-  -- as many events were played as have their ends
+  -- As many events were played as have their ends.
   pub counts_is : b.shared.events ≡ length b.side.ends.items
   counts_is = sym (ap (λ os. number_in (is_mine os) b.shared.events) r.alone.others ∙ number_alone b.shared.events) ∙ q.holds.counts
 
@@ -78,7 +78,7 @@ module _ {W : Type 0} (wants : W → Option Request) (is_of : Setting → Actor 
       let same = counts_is in
       record { mine = ap (λ os. is_mine os (b.shared.events + 1)) r.alone.others; few = omega arith }
 
-  -- what is past is what stands
+  -- The states in the play are those that follow from the ends.
   past_is : play.live ≡ past b.side.script b.side.ends.items
   past_is = played.live ∙ played.past ∙ ap (past b.side.script) (sym q.holds.ends)
 

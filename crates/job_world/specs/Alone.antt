@@ -1,4 +1,4 @@
--- A side that nobody else stands beside.
+-- A job that shares its store with no other job.
 use Rattle.job_model.specs.Known.{Known}
 use Rattle.job_model.specs.declared.ends.Pick.{Pick}
 use Rattle.job_protocol.specs.Operations.{Running, Setting}
@@ -10,14 +10,15 @@ use Rattle.s3_types.specs.declared.request.Actor.{Actor}
 use Rattle.s3_types.specs.declared.request.Request.{Request}
 use Rattle.std.specs.Prelude.{List, Option, false, ℕ, [], ◌≡◌}
 
--- all events and all entries are the job's own, no other job shares the destination, and the sendings have the fates that its script names
+-- All events and all entries are the job's own, no other job shares the destination, and each send has the fate that the script names for
+-- it.
 pub record IsAlone {W : Type 0} (b : Body W) : Type 0 where
   pub others : b.side.others.items ≡ []
   pub shares : b.side.shares ≡ false
   pub own : AreOwn b.shared.journal.entries
   pub fates : (n : ℕ) → fate_at b.shared.store.fates n ≡ fate_at b.side.script.fates n
 
--- what a world keeps between events
+-- What a world keeps between events.
 pub record Rests {W : Type 0} (wants : W → Option Request) (is_of : Setting → Actor → W → Type 0) (running : Known → W → Running)
     (picks_of : W → Option (List Pick)) (b : Body W) : Type 0 where
   pub quiet : Quiet wants is_of running picks_of b

@@ -14,8 +14,8 @@ use Rattle.s3_types.specs.declared.journal.Entry.{Entry}
 use Rattle.std.specs.List.{AllByRecursion}
 use Rattle.std.specs.Prelude.{Bool, List, Option, false, length, slice_get, true, [], ◌++◌, ◌+◌, ◌^◌, ◌∷◌, ◌≡◌, ◌≤◌}
 
--- the script, the store's content as the run began, all entries, the picks of the job's commit, the ends of the events so far, and whether
--- an event found no memory
+-- What callers see of a world: the script, the store's content as the run began, all entries, the picks of the job's commit, the ends of
+-- the events so far, and whether an event ran out of memory.
 pub record Run : Type 0 where
   pub script : Script
   pub opening : Content
@@ -24,7 +24,7 @@ pub record Run : Type 0 where
   pub ends : List EventEnd
   pub stuck : Bool
 
--- what callers see of a world
+-- What callers see of a world that is made of this body and this flag.
 abbrev pub run_of : {W : Type 0} → (W → Option (List Pick)) → Body W → Bool → Run
 run_of picks_of b stuck = record {
   script = b.side.script;
@@ -36,27 +36,27 @@ run_of picks_of b stuck = record {
   stuck = stuck;
 }
 
--- a store over which a run may begin: ids of uploads are left
+-- A run may begin over this store: its next upload id is at most 2^62.
 pub record MayBegin (c : Content) : Type 0 where
   pub few : c.next ≤ 2 ^ 62
 
--- nothing has happened
+-- The run in which nothing has happened yet.
 abbrev pub begun : Script → Content → Run
 begun w opening = record { script = w; opening = opening; journal = []; picks = []; ends = []; stuck = false }
 
--- the run keeps what is promised of its job, its entries are of the job's actors, each send has the outcome that was due and foretold,
--- its picks are all those that the commit has made, and the facts of the job hold
+-- All that holds of a run after each call: what is promised of its job, that only the job's actors sent, that each send had the outcome
+-- that was due and named for it, and the facts of the job.
 pub record Keeps (r : Run) : Type 0 where
   pub promised : Promised r.script r.opening r.journal r.picks r.ends
-  -- unless the commit ran out of memory
+  -- The picks are all that the commit has made, unless it ran out of memory.
   pub whole : lacked_memory (past r.script r.ends).commit ≡ false → r.picks ≡ all_picks r.script r.opening r.journal r.ends
   pub own : AreOwn r.journal
   pub sent : Sent r.script r.opening r.journal
   pub facts : FactsHold r.script r.opening r.journal r.ends
-  -- one attempt per task explains all that readers saw
+  -- One attempt per task explains all that readers saw.
   pub readers_safe : ReadersSafe r.script r.opening r.journal r.ends
 
--- the script's next event has its end, and what was sent in it has its number
+-- The script's next event has its end, and each entry that was added has the event's number.
 pub record WentOn (r s : Run) : Type 0 where
   pub script : s.script ≡ r.script
   pub opening : s.opening ≡ r.opening
@@ -65,7 +65,7 @@ pub record WentOn (r s : Run) : Type 0 where
   pub more : (part : List Entry) × (s.journal ≡ r.journal ++ part) × AllByRecursion (λ e. e.event ≡ length r.ends + 1) part
   pub stuck : s.stuck ≡ r.stuck
 
--- no event happened, for want of memory, and none will
+-- No event happened because memory ran out, and no later one will.
 pub record FoundNone (r s : Run) : Type 0 where
   pub script : s.script ≡ r.script
   pub opening : s.opening ≡ r.opening

@@ -1,17 +1,23 @@
-//! The world of a job: its driver and its attempts over one store that loses sendings as it was said
-//! beforehand, and the events of a script that move them.
+//! One job, run alone: its driver and its attempts over one store, moved by the events of a script.
+//! The script says in advance which requests and replies get lost.
 //!
 //! # What is proved
 //!
-//! `World`: A job's driver and attempts over one store whose sendings have the script's fates, for
-//! every `Works`. `event` plays the script's next event, and after each call, whatever was lost and
-//! wherever memory ran out, `Promised` and `Sent` hold of the script, the opening content, the journal,
-//! the picks and the ends so far; the picks are all that the commit has made, unless that ran out of
-//! memory; after each send behind the event in which the set-up ended done the facts of `job_facts`
-//! hold; and one attempt per task explains all that readers saw (`Keeps`). Its end is added (`WentOn`), or
-//! no event happened for want of memory, and none will (`FoundNone`). `finish` gives `Finished` where every event has its end. `state`, `verdict` and
-//! `job_attempt` are those of the ends; `service` is the last moment. Left open: stores whose next
-//! upload id is over 2^62.
+//! `World` is generic over the operations of the actors (`Works`). `event` plays the script's next
+//! event. Either its end is added (`WentOn`), or memory ran out before it, nothing happened, and no
+//! later event will (`FoundNone`).
+//!
+//! After each call, whatever was lost and wherever memory ran out, `Keeps` holds:
+//!
+//! - `Promised` and `Sent` hold of the script, the opening content, the journal, the picks and the
+//!   ends so far.
+//! - The picks are all that the job's commit has made, unless the commit ran out of memory.
+//! - From the end of a set-up that is done, the facts of `job_facts` hold after each send.
+//! - One attempt per task explains all that readers saw.
+//!
+//! `finish` gives `Finished` if every event has its end. `state`, `verdict` and `job_attempt`
+//! follow from the ends so far. `service` is the store after the last send. Left open: stores whose
+//! next upload id is over 2^62.
 #![tactic(auto)]
 
 mod played;

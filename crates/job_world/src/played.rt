@@ -8,8 +8,8 @@ use s3_service::Service;
 use s3_types::{Journal, Sequence};
 use std::mem;
 
-/// What a run leaves: its script, the store, all that was sent, the picks of the job's commit, and the ends of
-/// the events.
+/// What a run leaves: its script, the store, the journal of all that was sent, the picks of the
+/// job's commit, and the ends of the events.
 #[derive(Drop)]
 pub struct Played {
     pub script: Script,
@@ -19,7 +19,7 @@ pub struct Played {
     pub ends: EndList,
 }
 
-/// Hands out what a run leaves. Takes no memory.
+/// Takes a world apart into what its run leaves. Takes no memory.
 pub fn left_by<W: Works>(body: Body<W>) -> Played
     requires hands { 0 < length body.side.hands.items }
     ensures script { result.script ≡ body.side.script }

@@ -14,9 +14,10 @@ use s3_types::{Actor, Journal};
 use std::alloc::{AllocError, Global};
 use std::marker::Model;
 
-/// A job's driver and attempts over one store, moved by the events of a script: the script, the store's
-/// content as the run began, all that was sent, the picks of the job's commit, the ends of the events so far,
-/// and whether an event found no memory. At each call's end it keeps what is promised of the job.
+/// The driver and the attempts of one job over one store, moved by the events of a script. Callers
+/// see the script, the store's content as the run began, the journal, the picks of the job's
+/// commit, the ends of the events so far, and whether an event ran out of memory. After each call
+/// all that is promised of the job holds (`Keeps`).
 #[derive(Drop)]
 pub struct World<W: Works> {
     body: Body<W>,
@@ -40,8 +41,8 @@ impl<W: Works> Model for World<W> {
 }
 
 impl<W: Works> World<W> {
-    /// No event has happened yet. The store's content is copied, so that the run's opening stays known; bytes
-    /// are shared. AllocError comes where memory ran out alone.
+    /// A world in which no event has happened yet. It copies the store's content, so that the
+    /// opening stays known; the copies share bytes. Fails with AllocError only if memory runs out.
     pub fn new(alloc: Global, script: Script, service: Service) -> Result<World<W>, AllocError>
         requires store { MayBegin service }
         ensures { IfOk result (λ world. world ≡ begun script service) }
@@ -50,9 +51,10 @@ impl<W: Works> World<W> {
         Ok(World { body, stuck: false })
     }
 
-    /// Plays the script's next event, whose end stands behind the others then. What it takes of memory for
-    /// itself it takes before anything happens; where it finds none nothing happens, then and at each later call.
-    /// An actor that finds none has ended so, and is dead.
+    /// Plays the script's next event and adds its end. It takes its own memory before anything
+    /// happens. If there is none, it fails with AllocError, nothing has happened, and each later
+    /// call fails too. An actor that runs out of memory during the event dies; its operation ends
+    /// with that, and the call succeeds.
     pub fn event(&mut self, event: &Event) -> Result<(), AllocError>
         requires next { slice_get self.old.script.events (length self.old.ends) ≡ Some event.now }
         ensures keeps { Keeps self.new }
@@ -80,7 +82,7 @@ impl<W: Works> World<W> {
         &self.body.side.script
     }
 
-    /// The script's next event, or None where all have their ends. Takes no memory.
+    /// The script's next event, or None if each event has its end. Takes no memory.
     pub fn next(&self) -> Option<Event>
         ensures { result ≡ slice_get self.now.script.events (length self.now.ends) }
     {
@@ -93,7 +95,7 @@ impl<W: Works> World<W> {
             .copied()
     }
 
-    /// What holds of every world.
+    /// Proves that every world keeps what is promised of its job. Does nothing.
     pub fn keeps(&self)
         ensures { Keeps self.now }
     {
@@ -101,7 +103,7 @@ impl<W: Works> World<W> {
         let _ = &self.body;
     }
 
-    /// How an actor of the script stands, in O(1). Takes no memory.
+    /// The state of an actor of the script, in O(1). Takes no memory.
     pub fn state(&self, actor: Actor) -> ActorState
         requires { is_known self.now.script.attempts actor ≡ true }
         ensures { result ≡ (past self.now.script self.now.ends).state actor }
@@ -109,7 +111,7 @@ impl<W: Works> World<W> {
         self.body.side.states.state(&self.body.side.script, actor)
     }
 
-    /// The status that is due by the ends so far: 0, 1, 8 or 9. Takes no memory.
+    /// The status of the run by the ends so far: 0, 1, 8 or 9. Takes no memory.
     pub fn verdict(&self) -> u8
         ensures { result ≡ verdict self.now.script self.now.ends }
     {
@@ -123,7 +125,7 @@ impl<W: Works> World<W> {
         self.body.side.states.attempt()
     }
 
-    /// Every sending so far, in order. Takes no memory.
+    /// The journal: every send so far, in order. Takes no memory.
     pub fn journal(&self) -> &Journal
         ensures { result.now.entries ≡ self.now.journal }
     {
@@ -144,14 +146,14 @@ impl<W: Works> World<W> {
         self.body.side.ends.as_slice()
     }
 
-    /// The store as the sendings so far have left it. Takes no memory.
+    /// The store as the requests so far have left it. Takes no memory.
     pub fn service(&self) -> &Service
         ensures { result.now ≡ (moment self.now.opening self.now.journal (length self.now.journal)).content }
     {
         self.body.shared.store.service()
     }
 
-    /// Hands out what the run leaves. Takes no memory.
+    /// Takes the world apart into what its run leaves. Takes no memory.
     pub fn finish(self) -> Played
         ensures script { result.script ≡ self.script }
         ensures service { result.service ≡ (moment self.opening self.journal (length self.journal)).content }

@@ -1,4 +1,4 @@
--- What requests leave of a content that an image can have.
+-- What requests leave of a content that can be written as an image.
 use Rattle.basics.proofs.Members.{none_or_some, none_some, some_is, text_exact, text_is, true_or_false}
 use Rattle.basics.proofs.Tree.{entries_empty, tied}
 use Rattle.basics.specs.Order.{text_eq, text_total}
@@ -68,7 +68,7 @@ module _ {K X : Type 0} {R : K → K → Ordering} (o : IsTotalOrder R) (exact :
       | inl t ↦ record { key = ap test (exact k e.0 (tied (R k e.0) t)) ∙ a.0.key; value = subst IsValue (some_is (rw t at g)) a.0.value }
     ]
 
-    -- told key by key
+    -- the same, stated for each key
     are_at : (m : fin.FinMap R X) → ((k : K) (v : X) → fin.get m k ≡ Some v → IsOne (k, v)) → AreEntries test IsValue m
     are_at m h = are_found (fin.entries m) (entries_sorted m) (λ k v g. h k v (fin.get-entries m k ∙ g))
 
@@ -144,7 +144,7 @@ object_copied : (m : Objects) (source target : List ℕ) (x : Option Object) →
 object_copied m source target None e a k = a
 object_copied m source target (Some x) e a k = object_in m target x a k (at text_total text_exact is_key IsObject m source x a e).value
 
--- a live upload
+-- A live upload.
 record IsLive (next : ℕ) (k : List ℕ) (id : ℕ) (u : Upload) : Type 0 where
   number : is_id next id ≡ true
   upload : IsUpload u
@@ -288,7 +288,7 @@ one c r h m few = one_at c r (fin.get c.buckets (bucket_of r)) refl h m few
 
 -- ---- requests in order, and journals
 
--- from one store to another the counter does not fall, and the least size of a part stays
+-- From one store to another the counter does not fall, and the least size of a part stays.
 pub record GoesOn (c d : Content) : Type 0 where
   pub later : c.next ≤ d.next
   pub least : d.minimum ≡ c.minimum

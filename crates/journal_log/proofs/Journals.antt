@@ -1,4 +1,4 @@
--- The changes of journals, and what they make of a content.
+-- The changes of journals, and the contents that they make.
 use Rattle.journal_log.specs.Changes.{Begins, changes, content_after}
 use Rattle.log_format.specs.Change.{is_changing}
 use Rattle.s3_types.specs.Answer.{apply, apply_store}
@@ -29,7 +29,7 @@ pub changes_none : changes [] ≡ []
 unfolding changes
 changes_none = refl
 
--- those of one entry
+-- The changes of one entry.
 pub changes_one : (e : Entry) → changes (e ∷ []) ≡ cond (is_effective e.outcome) (cond (is_changing e.request) (e.request ∷ []) []) []
 unfolding changes
 changes_one e = elim (is_effective e.outcome) as
@@ -50,7 +50,7 @@ not_changing e may = rw (changes_one e, may) (elim (is_effective e.outcome) as (
 none_or_one : (e : Entry) → (changes (e ∷ []) ≡ []) ⊎ (changes (e ∷ []) ≡ e.request ∷ [])
 none_or_one e = grind (arith, not_effective, taken, not_changing)
 
--- the first ones of a journal's are those of its first entries
+-- The first changes of a journal are those of its first entries.
 pub cut : (es : List Entry) (rs : List Request) → Begins rs (changes es) → (m : ℕ) × (m ≤ length es) × (rs ≡ changes (take m es))
 cut es [] h = (0, omega arith, sym changes_none)
 cut [] (r ∷ rs) h = let e : (r ∷ rs) ++ h.0 ≡ [] = h.1 ∙ changes_none in absurd (cc)
@@ -75,7 +75,7 @@ cut (e ∷ es) (r ∷ rs) h = elim (none_or_one e) [
       )
 ]
 
--- ---- what they make of a content
+-- ---- the contents that they make
 
 pub content_append : (c : Content) (rs qs : List Request) → content_after c (rs ++ qs) ≡ content_after (content_after c rs) qs
 content_append c [] qs = refl

@@ -1,4 +1,4 @@
--- How what crashes leave goes on from one call to the next.
+-- How the states that crashes leave go on from one call to the next.
 use Rattle.journal_log.proofs.Standing.{begins_all, begins_longer, begins_more, between, grown_none, grown_one, grown_then, holds_one}
 use Rattle.journal_log.proofs.Standing.{longer, some}
 use Rattle.journal_log.specs.Changes.{Begins, changes}
@@ -19,26 +19,26 @@ told_all o P h = grind arith
 pub told_more : (o : Option Stored) (P Q : Type 0) → (P → Q) → WhereTold o P → WhereTold o Q
 told_more o P Q h g = grind arith
 
--- what grew is told where it was
+-- What grew is known if it was known before.
 pub told_still : (o p : Option Stored) (rs : List Request) (P : Type 0) → HoldsGrownBy o p rs → WhereTold o P → WhereTold p P
 told_still o p rs P h g = grind arith
 
--- nothing was changed yet
+-- Nothing was changed yet.
 pub at_first : (o : Option Stored) (leaves : Holding → Type 0) (h : Holding) → IsDurable o leaves → leaves h → IsBetween o [] h
 at_first None leaves h only left = tt
 at_first (Some s) leaves h only left = ([], begins_all [], only h left ∙ sym (grown_none s.holding))
 
--- the first changes of more
+-- The first changes, as first ones of more.
 pub so_far : (o : Option Stored) (rs qs : List Request) (h : Holding) → IsBetween o rs h → IsBetween o (rs ++ qs) h
 so_far None rs qs h is = tt
 so_far (Some s) rs qs h is = (is.0, begins_longer is.0 rs qs is.1, is.2)
 
--- further changes
+-- Further changes.
 pub further_on : (o p : Option Stored) (rs qs : List Request) → HoldsGrownBy o p rs → (h : Holding) → IsBetween p qs h
     → IsBetween o (rs ++ qs) h
 further_on o p rs qs g h e = grind (arith, begins_more, grown_then)
 
--- before or after one
+-- Before or after one change.
 pub around : (o : Option Stored) (r : Request) (h : Holding) → IsBeforeOrAfter o r h → IsBetween o (r ∷ []) h
 around o r h g = grind (arith, grown_none, begins_all, grown_one)
 
@@ -52,11 +52,11 @@ module _ {S : Type 0} (F : Sight S) where
       → ((c : Holding) → P c → R c) → ((c : Holding) → Q c → R c) → CrashesLeave F old new R
   then_on old mid new P Q R h g e f = grind arith
 
-  -- what is known of less is known of more
+  -- a weaker property holds too
   pub widened : (old new : S) (P R : Holding → Type 0) → CrashesLeave F old new P → ((c : Holding) → P c → R c) → CrashesLeave F old new R
   widened old new P R h g = grind arith
 
--- ---- appends, one after the other
+-- ---- appends, one after another
 
 module _ {S : Type 0} (F : Sight S) where
   -- changes that follow others
@@ -96,7 +96,7 @@ module _ {S : Type 0} (F : Sight S) where
       → CrashesLeave F first new (λ h. WhereTold (F.held new) (IsMoment c (es ++ part) h))
   on_and_on c es part first mid new h g e f = grind (arith, told_still, then_on, told_more, longer, between)
 
--- a load, a replace by the opening's image, and then changes of the journal
+-- A load, a replacement by the opening image, and then changes of the journal.
 pub survives : {S : Type 0} (F : Sight S) → IsTimed F
     → (c : Content) (es : List Entry) (o : Option Stored) (first loaded replaced last : S) → CrashesLeave F first loaded (F.may_leave first)
     → CrashesLeave F loaded replaced (λ h. F.may_leave loaded h ⊎ (h ≡ fresh (image c)))

@@ -11,7 +11,7 @@ use Rattle.shelf.specs.declared.kept.ShelfStop.TheVariants.{Failed}
 use Rattle.std.proofs.Common.{IsErrOf, List, Option, Result, arith, inl, refl, subst, ℕ, [], ◌-◌, ◌<◌, ◌^◌, ◌≡◌, ◌⊎◌}
 use Rattle.store_image.specs.Image.{image}
 
--- the new base is held with no changes
+-- The new base is held with no changes.
 holds_fresh : (o p : Option Stored) (c : Content) (bytes : List ℕ) → HoldsFresh o p bytes → bytes ≡ image c → Holds p c []
 holds_fresh o p c bytes h g = grind arith
 
@@ -30,7 +30,7 @@ module _ {S : Type 0} (F : Sight S) (old new : S) (c : Content) where
     answered = answered;
   }
 
--- nothing was called
+-- The shelf was not called.
 pub not_called : {S : Type 0} (F : Sight S) (s : S) (c : Content) → IsTimed F → NotReplaced F c s s
 not_called F s c timed = record {
   same = refl;
@@ -39,7 +39,7 @@ not_called F s c timed = record {
       (λ h left. inl (timed.only_now s h left));
 }
 
--- the count of faults, where no call failed before the last
+-- The count of faults, if no call before the last failed.
 pub counts : {A : Type 0} (r : Result A ShelfStop) (before mid after : ℕ) → mid ≡ before → before < 2 ^ 64 - 1
     → (IsErrOf r Failed → Rose mid after) → ((IsErrOf r Failed → ⊥) → after ≡ mid) → Counts r before after
 counts r before mid after h g e f = grind arith

@@ -57,7 +57,7 @@ pub holds_more : (c : Content) (o p : Option Stored) (rs more : List Request) �
     → Holds p c (rs ++ more)
 holds_more c o p rs more h g = grind arith
 
--- ---- moments
+-- ---- points of a run
 
 pub moments : (c : Content) (es : List Entry) (m : ℕ) → StandsFor (kept c (changes (take m es))) (moment c es m).content
 moments c es m = record { first = c; is_image = refl; folded = sym (folded c es m) }
@@ -105,7 +105,7 @@ one held c d a b fits is are =
 
 -- ---- earlier events
 
--- an entry of both stands in the first or in the second
+-- An entry of two lists in a row is in the first or in the second.
 split : (xs ys front : List Entry) (e : Entry) (back : List Entry) → xs ++ ys ≡ front ++ e ∷ back
     → ((rest : List Entry) × (xs ≡ front ++ e ∷ rest)) ⊎ ((more : List Entry) × (ys ≡ more ++ e ∷ back))
 split [] ys front e back h = inr (front, h)

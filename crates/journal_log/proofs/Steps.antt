@@ -1,4 +1,4 @@
--- How a run of appends goes on by one entry.
+-- A run of appends goes on by one entry.
 use Rattle.journal_log.proofs.Journals.{changes_append, changes_none}
 use Rattle.journal_log.proofs.Leaving.{at_first, goes_on, so_far, started, widened}
 use Rattle.journal_log.proofs.Standing.{holds_none, holds_one, holds_then}
@@ -18,7 +18,7 @@ use Rattle.std.proofs.lemmas.List.{take-append-drop, take_all, take_more}
 
 -- ---- changes of the first entries
 
--- of one entry more
+-- The changes of one entry more.
 pub changes_more : (es : List Entry) (i : ℕ) (e : Entry) → i < length es → e ≡ get_or es i e
     → changes (take (i + 1) es) ≡ changes (take i es) ++ changes (e ∷ [])
 changes_more es i e less is =
@@ -26,11 +26,11 @@ changes_more es i e less is =
     ∙ changes_append (take i es) (get_or es i e ∷ [])
     ∙ ap (λ (x : Entry). changes (take i es) ++ changes (x ∷ [])) (sym is)
 
--- and of all entries
+-- The changes of all entries.
 pub changes_rest : (es : List Entry) (i : ℕ) → changes (take i es) ++ changes (drop i es) ≡ changes es
 changes_rest es i = sym (changes_append (take i es) (drop i es)) ∙ ap changes (take-append-drop i es)
 
--- the entries from a place on, as a range to the end has them
+-- The entries from a place on, as the code's range to the end has them.
 abbrev pub rest_of : List Entry → ℕ → List Entry
 rest_of all from = take (length all - from) (drop from all)
 
@@ -51,7 +51,7 @@ module _ {S : Type 0} (F : Sight S) where
   pub nothing : (s : S) → IsDurable (F.held s) (F.may_leave s) → Appended F [] s s
   nothing s durable = record { grown = holds_none (F.held s); durable = durable; answered = refl }
 
-  -- one change
+  -- one change was appended
   pub once : (old new : S) (r : Request) → HoldsGrown (F.held old) (F.held new) r → IsDurable (F.held new) (F.may_leave new)
       → F.answers Append old new → Appended F (r ∷ []) old new
   once old new r grown durable answered = record {
@@ -64,7 +64,7 @@ module _ {S : Type 0} (F : Sight S) where
   pub both : (old mid new : S) (rs qs : List Request) → Appended F rs old mid → Appended F qs mid new → Appended F (rs ++ qs) old new
   both old mid new rs qs h g = grind (arith, holds_then, answered_then)
 
-  -- one change was not
+  -- one change was not appended
   pub stopped_once : (old new : S) (r : Request) (fault : ShelfStop) → LeftOut F fault r old new → Stopped F fault (r ∷ []) old new
   stopped_once old new r fault left = record {
     front = [];
@@ -97,7 +97,7 @@ module _ {S : Type 0} (F : Sight S) where
       regrouped : rs ++ (then.front ++ then.next ∷ then.rest) ++ more ≡ (rs ++ then.front) ++ then.next ∷ (then.rest ++ more)
       regrouped = simp append_assoc
 
-  -- what one call of `append` says
+  -- the contract of one call of `append`
   pub appended_by : {A : Type 0} (result : Result A ShelfStop) (old new : S) (r : Request)
       → OnOk result (HoldsGrown (F.held old) (F.held new) r) → OnOk result (IsDurable (F.held new) (F.may_leave new))
       → OnOk result (F.answers Append old new)
@@ -112,7 +112,7 @@ module _ {S : Type 0} (F : Sight S) where
 
   -- ---- a loop over entries
 
-  -- it begins
+  -- the loop begins
   pub loop_first : (es : List Entry) (s : S) → IsDurable (F.held s) (F.may_leave s) → Appended F (changes (take 0 es)) s s
   loop_first es s durable = rw changes_none (nothing s durable)
 
@@ -121,7 +121,7 @@ module _ {S : Type 0} (F : Sight S) where
   left_first es s timed durable = rw changes_none (started F s (IsBetween (F.held s) [])
       (λ h left. at_first (F.held s) (F.may_leave s) h durable (timed.only_now s h left)))
 
-  -- one entry more
+  -- the loop goes on by one entry
   pub loop_more : (es : List Entry) (i : ℕ) (e : Entry) (old mid new : S) → i < length es → e ≡ get_or es i e
       → Appended F (changes (take i es)) old mid → Appended F (changes (e ∷ [])) mid new
       → Appended F (changes (take (i + 1) es)) old new
@@ -135,7 +135,7 @@ module _ {S : Type 0} (F : Sight S) where
   left_more es i e old mid new less is grown first second = rw (changes_more es i e less is)
       (goes_on F old mid new (changes (take i es)) (changes (e ∷ [])) grown first second)
 
-  -- it ends early
+  -- the loop ends early
   stopped_more : (es : List Entry) (i : ℕ) (e : Entry) (fault : ShelfStop) (old mid new : S) → i < length es → e ≡ get_or es i e
       → Appended F (changes (take i es)) old mid → Stopped F fault (changes (e ∷ [])) mid new
       → Stopped F fault (changes es) old new
@@ -168,7 +168,7 @@ module _ {S : Type 0} (F : Sight S) where
       subst (λ (l : List Entry). CrashesLeave F old new (IsBetween (F.held old) (changes l))) (rest_is all es from same)
       (left_short (rest_of all from) (i + 1) old new (left_more (rest_of all from) i e old mid new less is grown first second))
 
--- what was not appended whole grew by first changes
+-- If not all changes were appended, the holding grew by the first of them.
 pub some_grown : {S : Type 0} (F : Sight S) (fault : ShelfStop) (rs : List Request) (old new : S) → Stopped F fault rs old new
     → HoldsSome (F.held old) (F.held new) rs
 some_grown {S} F fault rs old new s = elim fault as (λ f. LeftOut F f s.next s.at new → HoldsSome (F.held old) (F.held new) rs) [

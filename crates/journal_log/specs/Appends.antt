@@ -1,4 +1,4 @@
--- How a run of appends goes, of which each call but the last was answered.
+-- A run of appends, of which each call but the last was answered.
 use Rattle.journal_log.specs.Changes.{Begins}
 use Rattle.journal_log.specs.Kept.{HoldsGrownBy}
 use Rattle.s3_types.specs.declared.request.Request.{Request}
@@ -8,23 +8,23 @@ use Rattle.shelf.specs.declared.kept.ShelfStop.{ShelfStop}
 use Rattle.shelf.specs.declared.kept.ShelfStop.TheVariants.{Failed, NoMemory}
 use Rattle.std.specs.Prelude.{List, [], ◌++◌, ◌∷◌, ◌≡◌, ◌⊎◌}
 
--- one append was answered for each of these changes
+-- Holds if one append was answered for each of these changes.
 abbrev pub AreAnswered : {S : Type 0} → Sight S → List Request → S → S → Type 0
 AreAnswered F [] old new = old ≡ new
 AreAnswered {S} F (r ∷ rs) old new = (mid : S) × F.answers Append old mid × AreAnswered F rs mid new
 
--- all these changes were appended
+-- All these changes were appended.
 pub record Appended {S : Type 0} (F : Sight S) (rs : List Request) (old new : S) : Type 0 where
   pub grown : HoldsGrownBy (F.held old) (F.held new) rs
   pub durable : IsDurable (F.held new) (F.may_leave new)
   pub answered : AreAnswered F rs old new
 
--- what a change leaves that was not appended, by the fault
+-- What the failed append of a change leaves, according to the fault: after Failed the change may be there, after NoMemory it is not.
 abbrev pub LeftOut : {S : Type 0} → Sight S → ShelfStop → Request → S → S → Type 0
 LeftOut F Failed r old new = HoldsOneOf (F.held old) (F.held new) r × F.fails Append old new
 LeftOut F NoMemory r old new = (F.held new ≡ F.held old) × F.answers AppendOutOfMemory old new
 
--- the first of these changes were appended, and the next one was not
+-- The first of these changes were appended, and the next one was not.
 pub record Stopped {S : Type 0} (F : Sight S) (fault : ShelfStop) (rs : List Request) (old new : S) : Type 0 where
   pub front : List Request
   pub next : Request
@@ -37,7 +37,7 @@ pub record Stopped {S : Type 0} (F : Sight S) (fault : ShelfStop) (rs : List Req
 
 -- ---- calls
 
--- the appends of the first of these changes were answered, and behind them came at most one that was out of memory or failed
+-- The appends of the first of these changes were answered, and after them came at most one that ran out of memory or failed.
 pub record Stops {S : Type 0} (F : Sight S) (rs : List Request) (old new : S) : Type 0 where
   pub front : List Request
   pub begins : Begins front rs
@@ -45,14 +45,15 @@ pub record Stops {S : Type 0} (F : Sight S) (rs : List Request) (old new : S) : 
   pub answered : AreAnswered F front old at
   pub last : (at ≡ new) ⊎ (F.answers AppendOutOfMemory at new ⊎ F.fails Append at new)
 
--- of a shelf that was replaced, and then took these changes
+-- Holds if the shelf was called to replace what it held, and then once for each of these changes.
 abbrev pub AreCalled : {S : Type 0} → Sight S → List Request → S → S → Type 0
 AreCalled {S} F rs old new = (mid : S) × F.answers Replace old mid × AreAnswered F rs mid new
 
--- or the first of them
+-- Holds if the shelf was called to replace what it held, and then for the first of these changes.
 abbrev pub AreStopped : {S : Type 0} → Sight S → List Request → S → S → Type 0
 AreStopped {S} F rs old new = (mid : S) × F.answers Replace old mid × Stops F rs mid new
 
--- or was not replaced, by one call at most, which failed
+-- Holds if the shelf was called up to some call that failed: not at all, once to replace what it held, or for that and the first of these
+-- changes.
 abbrev pub AreCut : {S : Type 0} → Sight S → List Request → S → S → Type 0
 AreCut F rs old new = (old ≡ new) ⊎ (F.fails Replace old new ⊎ AreStopped F rs old new)

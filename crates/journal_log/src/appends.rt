@@ -10,7 +10,7 @@ use crate::changing::change_of;
 use s3_types::{Entry, Journal};
 use shelf::kept::{Shelf, ShelfStop};
 
-/// Appends what an entry adds to the changes, if it adds anything.
+/// Appends the change of an entry, if it has one.
 fn append_entry<F: Shelf>(shelf: &mut F, entry: &Entry) -> Result<(), ShelfStop>
     requires appends { F.takes_appends shelf.old }
     requires durable { IsDurable (F.sight.held shelf.old) (F.sight.may_leave shelf.old) }
@@ -29,11 +29,13 @@ fn append_entry<F: Shelf>(shelf: &mut F, entry: &Entry) -> Result<(), ShelfStop>
     }
 }
 
-/// Appends the changes of the journal's entries from this place on, counted from 0, in order and each by one
-/// call. A crash within the call leaves what was held before it, or that with the first of these changes. At Ok
-/// all of them were appended, and a crash leaves them. Failed comes only where the shelf's count of faults rose,
-/// and NoMemory where its append found none. Then those before the change whose append failed were appended, and
-/// after Failed maybe that one too.
+/// Appends the changes of the journal's entries from the place `from` (counted from 0) on, in
+/// order, with one call each. After `Ok` all of them were appended, and a crash leaves them. A
+/// crash within the call leaves what was held before it, or that with the first of these changes.
+///
+/// Fails with `Failed` only if the shelf's count of faults rose, and with `NoMemory` if memory runs
+/// out for an append. Then the changes before the one whose append failed were appended. After
+/// `Failed` that change may have been appended too.
 pub fn append_all<F: Shelf>(shelf: &mut F, journal: &Journal, from: usize) -> Result<(), ShelfStop>
     requires within { from ≤ length journal.now.entries }
     requires appends { F.takes_appends shelf.old }

@@ -17,7 +17,8 @@ fn is_effective(outcome: &Outcome) -> bool
     }
 }
 
-/// What an entry adds to a journal's changes: its request, where it took effect and may change the store.
+/// The request of an entry, if it took effect and may change the store: what the entry adds to the
+/// journal's changes.
 pub fn change_of(entry: &Entry) -> Option<&Request>
     ensures { MatchOption result (changes (entry.now ∷ []) ≡ []) (λ r. (changes (entry.now ∷ []) ≡ r.now ∷ [])
         × (known.is_changing r.now ≡ true)) }

@@ -8,14 +8,14 @@ ghost use Rattle.journal_log.specs.Made.{IsMade, KeepsImages};
 use crate::changing::change_of;
 use s3_types::{Entry, Journal, Key, Request};
 
-/// Lends that a key is one.
+/// Proves that a `Key` is a key.
 fn key(key: &Key)
     ensures { is_key key.now ≡ true }
 {
     let _ = key.as_text().as_str();
 }
 
-/// Lends what a request's types keep of what it puts, and of the key at which it puts that.
+/// Proves of a request what its types keep: that it puts at a key, and a header that fits.
 pub fn made(request: &Request)
     ensures { IsMade request.now }
 {
@@ -44,8 +44,9 @@ fn entry_made(entry: &Entry)
     }
 }
 
-/// Lends what the types of a journal's requests keep: a run from a store that can have an image leads through such stores,
-/// up to the most of its counter. In O(n), and nothing is done.
+/// Proves what the types of a journal's requests keep: a run from a store that can be written as an
+/// image leads only through such stores, until its counter reaches its limit. In O(n); nothing is
+/// done.
 pub fn keeps_images(journal: &Journal)
     ensures { (opening : Content) → KeepsImages opening journal.now.entries }
 {

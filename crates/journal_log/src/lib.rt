@@ -1,19 +1,24 @@
-//! What a shelf keeps of a run's journal: the changes of its entries, appended one by one, what a base with changes
-//! after it stands for, and that a crash leaves a moment of the run.
+//! What a shelf stores of a run's journal: the changes of its entries, appended one by one to a
+//! base. The crate proves what a base with changes stands for, and that a crash leaves some point
+//! of the run.
 //!
 //! # What is proved
 //!
-//! `changes`, `contents`, `moments`, `crashes`: A journal's changes, done on the opening content, give the content of
-//! each moment, and its first changes are those of its first entries. Requests whose keys are keys keep a store one that
-//! an image can have, up to the most of its counter (`contents`). The opening image with them stands for that moment, and
-//! for that content alone where the base is the image of a content that can have one. Over every shelf that keeps its
-//! trait, a crash of a run that is kept so leaves moments of it.
-//! `append_all`, `made`, `keeps_images`: The changes of a journal's entries from a place on are appended in order, each
-//! by one call. At Ok the shelf has all of them, and a crash leaves that (`grown`, `durable`, `answered`). Else it has
-//! the first ones, and the next one was not appended, by the fault (`partly`, `stopped`). A crash within the call leaves
-//! what was held before it, or that with the first of these (`any_moment`). `made`, `keeps_images` lend what the types of
-//! requests keep: a journal leads from a store that can have an image through such stores alone, up to the most of its
-//! counter.
+//! - `changes`: a journal's changes, applied to the opening content, give the content at each point
+//!   of the run. Its first changes are those of its first entries.
+//! - `contents`: requests at keys keep a store one that can be written as an image, until its
+//!   counter reaches its limit.
+//! - `moments`: the opening image with the first changes stands for that point of the run. If the
+//!   base is the image of a content that can have one, it stands for that content only.
+//! - `crashes`: on every shelf that keeps its trait, a crash of a run that is stored so leaves some
+//!   point of the run.
+//! - `append_all` appends the changes of a journal's entries from a place on, in order, with one
+//!   call each. After `Ok` the shelf has all of them, and a crash leaves them (`grown`, `durable`,
+//!   `answered`). Otherwise it has the first ones, and the next one was not appended, as the fault
+//!   says (`partly`, `stopped`). A crash within the call leaves what was held before it, or that
+//!   with the first of these changes (`any_moment`).
+//! - `made`, `keeps_images` prove what the types of requests keep: from a store that can be written
+//!   as an image a journal leads only through such stores, until its counter reaches its limit.
 #![tactic(auto)]
 
 ghost use Rattle.journal_log.specs.Laws.{ChangesFollow, ContentStays, KeptStands, CrashesLeaveMoments, RunsSurvive};
@@ -28,22 +33,22 @@ pub use images::{keeps_images, made};
 pub use replacing::put_image;
 use shelf::kept::Shelf;
 
-/// The changes of a journal.
+/// Proves the laws of a journal's changes.
 pub fn changes()
     ensures follow { ChangesFollow }
 {}
 
-/// What changes keep of a store that an image can have.
+/// Proves that changes keep a store one that can be written as an image.
 pub fn contents()
     ensures stay { ContentStays }
 {}
 
-/// What a shelf holds that takes the changes of a journal.
+/// Proves what a shelf holds that takes the changes of a journal.
 pub fn moments()
     ensures stand { KeptStands }
 {}
 
-/// What a crash leaves of a shelf that takes the changes of a journal one by one.
+/// Proves what a crash leaves of a shelf that takes the changes of a journal one by one.
 pub fn crashes<F: Shelf>()
     ensures leave { CrashesLeaveMoments F.sight }
     ensures survive { RunsSurvive F.sight }

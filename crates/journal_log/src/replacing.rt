@@ -16,9 +16,11 @@ fn image_of(alloc: Global, store: &Service) -> Result<Vec<u8>, AllocError>
     Ok(bytes)
 }
 
-/// Puts a store's image in place of what the shelf holds. After an error the shelf holds what it held. A crash within
-/// the call leaves what one before it may leave, or the image, and at Ok the image. Failed comes only where the shelf's
-/// count of faults rose, and NoMemory where the image found none.
+/// Replaces what the shelf holds by a store's image. After `Ok` a crash leaves the image. A crash
+/// within the call leaves what a crash before it may leave, or the image.
+///
+/// Fails with `Failed` only if the shelf's count of faults rose, and with `NoMemory` if memory runs
+/// out for the image. After an error the shelf holds what it held.
 pub fn put_image<F: Shelf>(alloc: Global, shelf: &mut F, store: &Service) -> Result<(), ShelfStop>
     requires { F.faults shelf.old < 2 ^ 64 - 1 }
     ensures ok { OnOk result (Replaced F.sight store.now shelf.old shelf.new) }

@@ -8,7 +8,7 @@ use Rattle.judging.specs.Judging.{EachTask, StillExplains}
 use Rattle.judging.specs.Laws.{ByTask}
 use Rattle.judging.proofs.Owned.{Right, RightChoice, each_right, either, none_chosen, some_choice}
 
--- at each of the moments f may be written at the path
+-- At each of the moments, readers may see what they see at the path if the chosen attempts write `f` there.
 abbrev Stands : {I : Type 0} → Claim I → Shown I → List (Moment I) → List ℕ → Option I → Type 0
 Stands w opening moments p f = All (λ m. MayShow w opening m p f) moments
 

@@ -1,4 +1,4 @@
--- Of a moment that differs from the one before at some paths alone, these paths tell.
+-- If a moment differs from the one before only at some paths, only these need to be looked at.
 use Rattle.std.proofs.Common.{Bool, List, None, Option, Some, [], false, get_or, inl, inr, refl, subst, sym, true, ℕ, ◌++◌, ◌∙◌}
 use Rattle.std.proofs.Common.{◌∷◌, ◌≡◌, ◌≢◌, ◌⊎◌}
 use Rattle.std.proofs.lemmas.Bool.{false≢true, true≢false}
@@ -25,7 +25,7 @@ among changed q = (
   λ c. list_any_at (bytes_eq q) changed c.0 q c.1 ((bytes_eq-Decides q (get_or changed c.0 q)).1 (sym c.2)),
 )
 
--- what holds at some paths and at all others holds at each
+-- A fact that holds at some paths and at all others holds at each.
 pub at_each : (changed : List (List ℕ)) (P : List ℕ → Type 0) → All P changed → ((q : List ℕ) → (Contains changed q → ⊥) → P q)
     → (q : List ℕ) → P q
 at_each changed P here elsewhere q = elim (either (list_any (bytes_eq q) changed)) [
@@ -45,7 +45,7 @@ whole_fits {I} is_kept is_replaced o f v h = record {
     by None n x e = inl (h.only n x e)
     by (Some y) n x e = inr (n ∙ sym (h.written y n) ∙ e)
 
--- where there is no file at all, this is what the whole job leaves
+-- If there is no file at all, this is what the whole job leaves.
 pub whole_none : {I : Type 0} (is_kept is_replaced : Bool) → Whole {I = I} is_kept is_replaced None None None
 whole_none is_kept is_replaced = record {
   written = λ x e. e;
@@ -87,7 +87,7 @@ module _ {I : Type 0} (w : Claim I) (opening : Shown I) (changed : List (List �
   others before new here = at_each changed (λ p. is_claimed w.tasks p ≡ false → MayShow w opening n p None) here
       (λ q out o. elsewhere new q None out (before q o))
 
-  -- before the commit begins readers see the opening files, also where they have not just changed
+  -- Before the commit begins, readers see the opening files, also at the paths that have not just changed.
   opened : (P : List ℕ → Type 0) (f : List ℕ → Option I) → ((p : List ℕ) → P p → MayShow w opening m p (f p)) → n.begun ≡ false
       → All (λ p. P p → n.shown p ≡ opening p) changed → (p : List ℕ) → P p → n.shown p ≡ opening p
   opened P f before b here = at_each changed (λ p. P p → n.shown p ≡ opening p) here
@@ -106,7 +106,7 @@ unchanged opening changed m n d calm unmarked here = record {
   unmarked = unmarked;
 }
 
--- ---- where the commit begins
+-- ---- the commit begins
 
 begun_at : {I : Type 0} (w : Claim I) (opening : Shown I) (m n : Moment I) → Begins opening m n → (q : List ℕ) (f : Option I)
     → MayShow w opening m q f → MayShow w opening n q f

@@ -1,4 +1,4 @@
--- What a claim says of its tasks and paths, by the attempts that are listed.
+-- The tasks and paths of a claim, by the attempts that are listed.
 use Rattle.std.proofs.Common.{Bool, List, None, Some, [], ap, arith, cond, false, get_or, inl, inr, length, refl, subst, suc, sym}
 use Rattle.std.proofs.Common.{true, zero, ℕ, ◌+◌, ◌<◌, ◌||◌, ◌∙◌, ◌∷◌, ◌≡◌, ◌≢◌}
 use Rattle.std.proofs.lemmas.Bool.{eq-eqb, eqb-true, true≢false}
@@ -72,7 +72,7 @@ module _ {I : Type 0} (listed : Listed I) where
 
 -- ---- the listed tasks
 
--- a task that is not found is none of those
+-- A task that is not found is none of the listed ones.
 not_there : {I : Type 0} (t : ℕ) (listed : Listed I) → lookup (nat_eq t) listed ≡ None
     → (i : ℕ) (d : ℕ × Numbered I) → i < length listed
     → nat_eq t (get_or listed i d).0 ≡ true → ⊥
@@ -94,7 +94,7 @@ at (x ∷ xs) once (suc i) d l = elim (either (nat_eq (get_or xs i d).0 x.0)) [
 ]
 
 module _ {I : Type 0} (P : Attempts I → Bool) (nothing : P [] ≡ false) where
-  -- what passes of a task passes of one that is listed
+  -- A test that a task passes is passed by a listed task.
   found : (t : ℕ) (listed : Listed I) → P (of_task t listed) ≡ true → list_any (λ x. P (files_of x.1)) listed ≡ true
   found t [] h = absurd (true≢false (sym h ∙ nothing))
   found t (x ∷ xs) h = elim (either (nat_eq t x.0)) [
@@ -123,7 +123,7 @@ module _ {I : Type 0} (P : Attempts I → Bool) (nothing : P [] ≡ false) where
 
 -- ---- who writes a path
 
--- a task writes it exactly if some attempt among its numbered ones does
+-- A task writes the path exactly if one of its numbered attempts does.
 among : {I : Type 0} (p : List ℕ) (attempts : Numbered I) → writes (files_of attempts) p ≡ writes_among p attempts
 among p [] = refl
 among p (a ∷ attempts) = ap (λ b. is_some (file_at a.1 p) || b) (among p attempts)

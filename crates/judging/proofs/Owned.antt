@@ -1,4 +1,4 @@
--- Where no two tasks write one path, what a choice writes at a path is what its task's attempt writes there.
+-- If no two tasks write the same path, a choice writes at a path what its task's attempt writes there.
 use Rattle.std.proofs.Common.{Bool, List, None, Option, Some, [], ap, false, inl, inr, refl, subst, sym, true, ℕ, ◌∙◌, ◌∷◌, ◌≡◌}
 use Rattle.std.proofs.Common.{◌⊎◌, ◌||◌}
 use Rattle.std.proofs.lemmas.Bool.{true≢false}
@@ -53,13 +53,13 @@ or_none : {I : Type 0} (o : Option I) → or_else o None ≡ o
 or_none None = refl
 or_none (Some x) = refl
 
--- what the first task's attempt writes at its own paths
+-- At the first task's paths, the choice writes what that task's attempt writes.
 pub first_chosen : {I : Type 0} (task : Attempts I) (tasks : List (Attempts I)) (files : Files I) (choice : List (Files I))
     (p : List ℕ) → Apart (task ∷ tasks) → Chooses tasks choice → writes task p ≡ true → chosen_at (files ∷ choice) p ≡ file_at files p
 first_chosen task tasks files choice p apart h w = ap (or_else (file_at files p)) (none_chosen tasks choice p h (apart.0 p w))
     ∙ or_none (file_at files p)
 
--- elsewhere what the others write
+-- Elsewhere, it writes what the other attempts write.
 pub rest_chosen : {I : Type 0} (task : Attempts I) (files : Files I) (choice : List (Files I)) (p : List ℕ) → Contains task files
     → writes task p ≡ false → chosen_at (files ∷ choice) p ≡ chosen_at choice p
 rest_chosen task files choice p i w = ap (λ o. or_else o (chosen_at choice p)) (not_written task files p i w)
@@ -71,11 +71,11 @@ others task tasks p apart o = elim (either (writes task p)) [ inl w ↦ absurd (
 
 -- ---- one choice, and an attempt of each task
 
--- what an attempt writes at the paths of its task is right
+-- At the paths of its task, the attempt writes what `D` demands.
 abbrev pub Right : {I : Type 0} → (List ℕ → Option I → Type 0) → Attempts I → Files I → Type 0
 Right D task files = (p : List ℕ) → writes task p ≡ true → D p (file_at files p)
 
--- what a choice writes at the paths of these tasks is right
+-- At the paths of these tasks, the choice writes what `D` demands.
 abbrev pub RightChoice : {I : Type 0} → (List ℕ → Option I → Type 0) → List (Attempts I) → List (Files I) → Type 0
 RightChoice D tasks choice = (p : List ℕ) → is_claimed tasks p ≡ true → D p (chosen_at choice p)
 

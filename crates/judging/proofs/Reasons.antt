@@ -1,4 +1,4 @@
--- Each reason tells that a run is not sound with one more moment.
+-- Each reason shows that a run is not sound with one more moment.
 use Rattle.std.proofs.Common.{List, None, Option, Some, [], ap, arith, false, get_or, inl, inr, length, refl, subst, sym, true, ℕ}
 use Rattle.std.proofs.Common.{◌<◌, ◌∙◌, ◌∷◌, ◌≡◌, ◌≢◌}
 use Rattle.std.proofs.lemmas.Bool.{false≢true}
@@ -21,7 +21,7 @@ some_of None e = absurd (false≢true e)
 some_of (Some x) e = (x, refl)
 
 module _ {I : Type 0} (w : Claim I) (opening : Shown I) where
-  -- where readers see the opening files, every file may be written
+  -- If readers see the opening files, every file may be written.
   calm_may : (m : Moment I) → Unchanged opening m → (p : List ℕ) (f : Option I) → MayShow w opening m p f
   calm_may m calm p f = record {
     before = λ b. calm.shows p;
@@ -62,7 +62,7 @@ module _ {I : Type 0} (w : Claim I) (opening : Shown I) where
             let q = subst (λ t. All (λ files. Q (file_at files p)) t) e (some k task l) in
             (file_at a.1 p, subst (λ files. Q (file_at files p)) a.3 (q a.0 a.1 a.2), a.4.1 p o)
 
-    -- where no attempt writes the path, they may with none
+    -- If no attempt writes the path, they may see it with none.
     may_none : JudgedNext w opening moments m → (p : List ℕ) → is_claimed w.tasks p ≡ false → MayShow w opening m p None
     may_none (inl calm) p o = calm_may m calm.1 p None
     may_none (inr c) p o = c.others p o

@@ -9,7 +9,7 @@ use Rattle.soundness.specs.declared.marker.Marker.TheVariants as markers
 abbrev pub AttemptExplains : {I : Type 0} → Claim I → Shown I → Attempts I → Moment I → Files I → Type 0
 AttemptExplains w opening task m files = (p : List ℕ) → writes task p ≡ true → MayShow w opening m p (file_at files p)
 
--- It explains that at each of these moments.
+-- The attempt explains that at each of these moments.
 abbrev pub StillExplains : {I : Type 0} → Claim I → Shown I → List (Moment I) → Attempts I → Files I → Type 0
 StillExplains w opening moments task files = All (λ m. AttemptExplains w opening task m files) moments
 
@@ -22,7 +22,7 @@ pub record EachTask {I : Type 0} (w : Claim I) (opening : Shown I) (moments : Li
   pub each : All (λ task. Any (StillExplains w opening moments task) task) w.tasks
   pub others : All (OthersFit w opening) moments
 
--- As a judge sees these moments: none needs a choice, or each task has an attempt that explains them all.
+-- No moment needs a choice, or each task has an attempt that explains them all.
 abbrev pub Judged : {I : Type 0} → Claim I → Shown I → List (Moment I) → Type 0
 Judged w opening moments = All (Unchanged opening) moments ⊎ EachTask w opening moments
 
@@ -32,7 +32,7 @@ pub record EachTaskNext {I : Type 0} (w : Claim I) (opening : Shown I) (moments 
   pub others_before : All (OthersFit w opening) moments
   pub others : OthersFit w opening m
 
--- As a judge sees one more moment: neither it nor one before needs a choice, or each task has an attempt that explains it too.
+-- Neither the next moment nor one before it needs a choice, or each task has an attempt that explains it too.
 abbrev pub JudgedNext : {I : Type 0} → Claim I → Shown I → List (Moment I) → Moment I → Type 0
 JudgedNext w opening moments m = (All (Unchanged opening) moments × Unchanged opening m) ⊎ EachTaskNext w opening moments m
 

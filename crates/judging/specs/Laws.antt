@@ -11,23 +11,24 @@ use Rattle.judging.specs.Judging.{AttemptExplains, Begins, OthersFit, Judged, Ju
 use Rattle.judging.specs.Reasons.{Early, Missing, Foreign, Lost, Torn, Stale, Half, Left}
 use Rattle.judging.specs.Listed.{Listed, ListedBelow, ListedOnce, Numbered, by_task, files_of, numbered, of_task, owner}
 
--- The opening file fits every choice, and a moment that needs no choice shows what it may with each.
+-- The opening file fits every choice, and what readers see at a moment that needs no choice is allowed with each.
 pub record OpeningFits (I : Type 0) : Type 0 where
   pub fits : (is_kept : Bool) (o f : Option I) → Fits is_kept o f o
   pub unchanged : (w : Claim I) (opening : Shown I) (m : Moment I) → Unchanged opening m → (p : List ℕ) (f : Option I)
       → MayShow w opening m p f
 
--- Where no path is written by attempts of two tasks, a run is sound exactly where each task by itself has an attempt that explains it.
+-- If no path is written by attempts of two tasks, a run is sound exactly if each task by itself has an attempt that explains it.
 abbrev pub ByTask : Type 0 → Type 0
 ByTask I = (w : Claim I) → Apart w.tasks → (opening : Shown I) (moments : List (Moment I))
     → Sound w opening moments ↔ Judged w opening moments
 
--- There one more moment leaves a run sound exactly where each task has an attempt that explained all before and explains it.
+-- If no path is written by attempts of two tasks, a run stays sound with one more moment exactly if each task has an attempt that
+-- explained all moments before and explains this one.
 abbrev pub InTurn : Type 0 → Type 0
 InTurn I = (w : Claim I) → Apart w.tasks → (opening : Shown I) (moments : List (Moment I)) (m : Moment I)
     → Sound w opening (moments ++ m ∷ []) ↔ JudgedNext w opening moments m
 
--- From one moment to the next only the changed paths need to be looked at, and all paths where a new marker has just been put.
+-- From one moment to the next only the changed paths need to be looked at, but all paths if a new marker has just been put.
 pub record WhereChanged (I : Type 0) : Type 0 where
   -- A path is among the changed ones exactly if its bytes are those of one of them.
   pub is_changed : (changed : List (List ℕ)) (q : List ℕ) → (list_any (bytes_eq q) changed ≡ true) ↔ Contains changed q
@@ -42,32 +43,33 @@ pub record WhereChanged (I : Type 0) : Type 0 where
   pub others : (w : Claim I) (opening : Shown I) (changed : List (List ℕ)) (m n : Moment I) → DifferAt changed m n
       → OthersFit w opening m → (n.marker ≡ markers.New → m.marker ≡ markers.New)
       → All (λ p. is_claimed w.tasks p ≡ false → MayShow w opening n p None) changed → OthersFit w opening n
-  -- With a new marker an attempt explains it if readers see its whole, and before the commit the opening files at the changed paths.
+  -- With a new marker, an attempt explains the next moment on two conditions. Readers see the attempt's whole, and before the commit they
+  -- see the opening files at the changed paths.
   pub marked_attempts : (w : Claim I) (opening : Shown I) (task : Attempts I) (files : Files I) (changed : List (List ℕ))
       (m n : Moment I) → DifferAt changed m n → AttemptExplains w opening task m files → n.marker ≡ markers.New
       → (n.begun ≡ false → All (λ p. writes task p ≡ true → n.shown p ≡ opening p) changed)
       → ((p : List ℕ) → writes task p ≡ true → Whole (is_kept w p) (is_replaced w p) (opening p) (file_at files p) (n.shown p))
       → AttemptExplains w opening task n files
-  -- With a new marker the paths that no attempt writes fit on the same conditions.
+  -- With a new marker, the paths that no attempt writes fit on the same conditions.
   pub marked_others : (w : Claim I) (opening : Shown I) (changed : List (List ℕ)) (m n : Moment I) → DifferAt changed m n
       → OthersFit w opening m → n.marker ≡ markers.New
       → (n.begun ≡ false → All (λ p. is_claimed w.tasks p ≡ false → n.shown p ≡ opening p) changed)
       → ((p : List ℕ) → is_claimed w.tasks p ≡ false → Whole (is_kept w p) (is_replaced w p) (opening p) None (n.shown p))
       → OthersFit w opening n
-  -- Where the commit begins and nothing else changes, no choice is needed if none was before.
+  -- If the commit begins and nothing else changes, no choice is needed if none was before.
   pub begins_unchanged : (opening : Shown I) (m n : Moment I) → Begins opening m n → Unchanged opening m → Unchanged opening n
-  -- There an attempt explains the next moment if it explains the one before.
+  -- If the commit begins and nothing else changes, an attempt explains the next moment if it explains the one before.
   pub begins_attempts : (w : Claim I) (opening : Shown I) (task : Attempts I) (files : Files I) (m n : Moment I)
       → Begins opening m n → AttemptExplains w opening task m files → AttemptExplains w opening task n files
-  -- There the paths that no attempt writes fit if they did before.
+  -- If the commit begins and nothing else changes, the paths that no attempt writes fit if they did before.
   pub begins_others : (w : Claim I) (opening : Shown I) (m n : Moment I) → Begins opening m n → OthersFit w opening m
       → OthersFit w opening n
-  -- An attempt explains one more moment too exactly if it explained all before and explains that one.
+  -- An attempt explains all moments with one more exactly if it explained all before and explains that one.
   pub one_more : (w : Claim I) (opening : Shown I) (moments : List (Moment I)) (task : Attempts I) (files : Files I) (m : Moment I)
       → StillExplains w opening (moments ++ m ∷ []) task files
       ↔ (StillExplains w opening moments task files × AttemptExplains w opening task m files)
 
--- A reason tells that a run is not sound with one more moment.
+-- Each reason shows that a run is not sound with one more moment.
 pub record ReasonsTell (I : Type 0) : Type 0 where
   pub early : (w : Claim I) (opening : Shown I) (moments : List (Moment I)) (m : Moment I) (p : List ℕ)
       → Early opening m p → JudgedNext w opening moments m → ⊥
@@ -86,9 +88,9 @@ pub record ReasonsTell (I : Type 0) : Type 0 where
   pub left : (w : Claim I) (opening : Shown I) (moments : List (Moment I)) (m : Moment I) (p : List ℕ)
       → Left w opening m p → JudgedNext w opening moments m → ⊥
 
--- What a claim says of its tasks and paths, by the attempts that are listed. Each listed task is one of the claim's, and listed once.
+-- The tasks and paths of a claim, by the attempts that are listed. Each listed task is one of the claim's, and listed once.
 pub record ListedClaims (I : Type 0) : Type 0 where
-  -- There are as many tasks as are said.
+  -- The claim has as many tasks as its number of tasks says.
   pub count : (tasks : ℕ) (listed : Listed I) → length (by_task 0 tasks listed) ≡ tasks
   -- The t-th task has the attempts that are listed of that number.
   pub task : (tasks : ℕ) (listed : Listed I) (t : ℕ) → t < tasks → slice_get (by_task 0 tasks listed) t ≡ Some (of_task t listed)
@@ -101,18 +103,18 @@ pub record ListedClaims (I : Type 0) : Type 0 where
   -- The owner of a path is a listed task that writes it.
   pub owned : (listed : Listed I) → ListedOnce listed → (p : List ℕ) (t : ℕ) → owner p listed ≡ Some t
       → writes (of_task t listed) p ≡ true
-  -- Where a path has no owner, no task writes it.
+  -- If a path has no owner, no task writes it.
   pub free : (listed : Listed I) (p : List ℕ) → owner p listed ≡ None → (t : ℕ) → writes (of_task t listed) p ≡ false
   -- No path is written by attempts of two tasks if each task that writes one is its owner.
   pub apart : (tasks : ℕ) (listed : Listed I)
       → ((t : ℕ) (p : List ℕ) → writes (of_task t listed) p ≡ true → owner p listed ≡ Some t)
       → Apart (by_task 0 tasks listed)
-  -- A path is below a directory that some attempt writes into exactly if it is for a listed one.
+  -- A path is below a directory that some attempt writes into exactly if it is below such a directory of a listed attempt.
   pub reached : (tasks : ℕ) (listed : Listed I) → ListedBelow tasks listed → ListedOnce listed → (p : List ℕ)
       → list_any (list_any (reaches p)) (by_task 0 tasks listed) ≡ list_any (λ x. list_any (reaches p) (files_of x.1)) listed
-  -- A path is below a directory that every attempt of some task writes into exactly if it is for a listed task.
+  -- A path is below a directory that every attempt of some task writes into exactly if it is below such a directory of a listed task.
   pub replaced : (tasks : ℕ) (listed : Listed I) → ListedBelow tasks listed → ListedOnce listed → (p : List ℕ)
       → list_any (always_reaches p) (by_task 0 tasks listed) ≡ list_any (λ x. always_reaches p (files_of x.1)) listed
-  -- It is for a task exactly if the task has an attempt, and some directory that each of them writes into has the path below it.
+  -- A path is below a directory that every attempt of a task writes into exactly if the task has an attempt and such a directory exists.
   pub shared : (task : Attempts I) (p : List ℕ) → (always_reaches p task ≡ true)
       ↔ ((d : List ℕ) × task ≢ [] × (list_all (writes_into d) task ≡ true) × (is_below d p ≡ true))

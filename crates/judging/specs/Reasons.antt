@@ -1,4 +1,4 @@
--- Why a run that was sound for readers is not with one more moment.
+-- Why a run that was sound for readers is not sound with one more moment.
 use Rattle.std.specs.Prelude.{ℕ, List, [], true, false, Some, None, is_some, ◌≡◌, ◌⊎◌, ◌≢◌, slice_get}
 use Rattle.std.specs.List.{All, Contains}
 use Rattle.soundness.specs.Claims.{Claim, Files, Attempts, file_at, writes, is_claimed, is_kept, is_replaced}
@@ -53,7 +53,7 @@ pub record Stale {I : Type 0} (opening : Shown I) (m : Moment I) (p : List ℕ) 
   pub old : m.marker ≡ markers.Old
   pub differs : m.shown p ≢ opening p
 
--- A new marker exists, and what readers see is the whole of none of this task's attempts that explained all moments before.
+-- A new marker exists, and none of this task's attempts that explained all moments before explains this one: readers do not see its whole.
 pub record Half {I : Type 0} (w : Claim I) (opening : Shown I) (moments : List (Moment I)) (m : Moment I) (t : ℕ) : Type 0 where
   pub new : m.marker ≡ markers.New
   pub task : Attempts I

@@ -1,16 +1,17 @@
 ghost use Rattle.judging.specs.Laws.{ByTask, InTurn, ListedClaims, OpeningFits, ReasonsTell, WhereChanged};
 
-/// Where readers see the opening files, every choice explains that.
+/// If readers see the opening files, every choice explains that.
 pub fn opening_fits<I>()
     ensures { OpeningFits I }
 {}
 
-/// A run is sound exactly where each task has an attempt that explains it, looked at task by task.
+/// A run is sound exactly if each task by itself has an attempt that explains it.
 pub fn judged_by_task<I>()
     ensures { ByTask I }
 {}
 
-/// A sound run stays sound with one more moment exactly where attempts that explained all before explain that one.
+/// A sound run stays sound with one more moment exactly if attempts that explained all before
+/// explain that one too.
 pub fn judged_in_turn<I>()
     ensures { InTurn I }
 {}
@@ -20,12 +21,12 @@ pub fn judged_where_changed<I>()
     ensures { WhereChanged I }
 {}
 
-/// Each reason of `Reasons` tells that a run is not sound with one more moment.
+/// Each reason of `Reasons` shows that a run is not sound with one more moment.
 pub fn reasons_tell<I>()
     ensures { ReasonsTell I }
 {}
 
-/// What a claim says of its tasks and paths can be read off the list of its attempts.
+/// The tasks and paths of a claim can be read off the list of its attempts.
 pub fn listed_claims<I>()
     ensures { ListedClaims I }
 {}

@@ -1,10 +1,13 @@
-//! How a judge may look at the moments of a run, and why a run is not sound: laws of `soundness`, without code.
+//! Laws of `soundness`, without code: how a judge may look at the moments of a run, and why a run
+//! is not sound.
 //!
 //! # What is proved
 //!
-//! A judge may look at each task by itself, at one moment after another, and at the changed paths alone. Each reason of `Reasons`
-//! tells that the run is not sound with that moment. Where the attempts of a claim are listed by task, the list tells the tasks,
-//! the claimed paths and the reached directories.
+//! - A judge may look at each task by itself, at one moment after another, and at the changed paths
+//!   alone.
+//! - Each reason of `Reasons` shows that the run is not sound with that moment.
+//! - If the attempts of a claim are listed by task, the list gives the tasks, the claimed paths and
+//!   the reached directories.
 #![tactic(auto)]
 
 mod laws;

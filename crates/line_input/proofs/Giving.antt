@@ -1,4 +1,4 @@
--- What is given of the bytes that are unread.
+-- What a call gives of the unread bytes.
 use Rattle.basics.proofs.Bools.{not_so}
 use Rattle.basics.specs.Parts.{is_other}
 use Rattle.line_input.specs.Buffers.{IsEnd, IsLineEnd, line_at, rest_at}
@@ -41,7 +41,7 @@ behind_none : behind_line [] ≡ []
 unfolding behind_line
 behind_none = refl
 
--- a line feed among the bytes that are held
+-- A line that ends at a line feed among the held bytes.
 whole_line : (held left : List ℕ) (n : ℕ) → IsLineEnd held n → IsWhole (held ++ left) (take n held) (Some (drop (suc n) held ++ left))
 whole_line held left n h =
     let cut : drop n held ≡ 10 ∷ drop (suc n) held = drop-cons held n 0 h.within ∙ ap (λ (x : ℕ). x ∷ drop (suc n) held) h.at in
@@ -55,7 +55,7 @@ whole_line held left n h =
           (drop (suc n) held ++ left)));
     }
 
--- the last line, without a line feed
+-- The last line, which has no line feed.
 last_line : (held left : List ℕ) → list_all (is_other 10) held ≡ true → left ≡ [] → IsWhole (held ++ left) held (Some left)
 last_line held left free over =
     record {
@@ -64,7 +64,7 @@ last_line held left free over =
       behind = ap (λ (l : List ℕ). Some l) (over ∙ sym (behind_inside held left free ∙ ap behind_line over ∙ behind_none));
     }
 
--- a line that is too long
+-- A line that is too long.
 cut_line : (most : ℕ) (held left : List ℕ) → list_all (is_other 10) held ≡ true → most < length held → IsCut most (held ++ left) held
 cut_line most held left free long =
     record {

@@ -1,4 +1,4 @@
--- What is held after more was read, and where the first line feed of it is.
+-- The held bytes after more was read, and the first line feed among them.
 use Rattle.basics.proofs.Pieces.{others_from_bytes}
 use Rattle.basics.specs.Parts.{is_other}
 use Rattle.line_input.specs.Buffers.{IsLineEnd}
@@ -15,7 +15,7 @@ use Rattle.std.proofs.lemmas.List.Folds.{list_all-append}
 use Rattle.std.proofs.lemmas.Slice.{between_is}
 use Rattle.std.specs.List.{list_all}
 
--- ---- what is held
+-- ---- the held bytes
 
 range_more : (ys : List ℕ) (g f n : ℕ) → g ≤ f → slice_range ys g (f + n) ≡ slice_range ys g f ++ take n (drop f ys)
 range_more ys g f n h =
@@ -40,14 +40,14 @@ more_unread held (Some left) (Some rest) n buffer t =
     take-append-drop n left in
     ap (λ (l : List ℕ). Some l) (append_assoc held (take n buffer) rest ∙ ap (λ (l : List ℕ). held ++ l) parts)
 
--- what was unread stays so where some of it is read
+-- The unread bytes stay the same when some of them are read.
 pub still_unread : (xs ys zs held : List ℕ) (g f n : ℕ) (before after : Option (List ℕ)) → zs ≡ ys → g ≤ f → take f ys ≡ take f xs
     → slice_range xs g f ≡ held → Takes before after n (drop f ys) → unread (slice_range zs g (f + n)) after ≡ unread held before
 still_unread xs ys zs held g f n before after z h e same t =
     ap (λ (l : List ℕ). unread (slice_range l g (f + n)) after) z ∙ ap (λ (l : List ℕ). unread l after) (more_held xs ys g f n h e)
     ∙ more_unread (slice_range xs g f) before after n (drop f ys) t ∙ ap (λ (l : List ℕ). unread l before) same
 
--- what was held is the front of what is held
+-- The bytes that were held come first in those that are held now.
 pub front_held : (xs ys zs held : List ℕ) (g f n : ℕ) → zs ≡ ys → g ≤ f → take f ys ≡ take f xs → slice_range xs g f ≡ held
     → take (length held) (slice_range zs g (f + n)) ≡ held
 front_held xs ys zs held g f n z h e same =
@@ -55,7 +55,7 @@ front_held xs ys zs held g f n z h e same =
     ∙ ap (take (length held)) (more_held xs ys g f n h e ∙ ap (λ (l : List ℕ). l ++ take n (drop f ys)) same) ∙ take_at held
     (take n (drop f ys)) (length held) refl
 
--- where nothing was read the same bytes are held
+-- If nothing was read, the same bytes are held.
 pub same_held : (xs ys zs held : List ℕ) (g f : ℕ) → zs ≡ ys → take f ys ≡ take f xs → slice_range xs g f ≡ held → slice_range zs g f ≡ held
 same_held xs ys zs held g f z e same = ap (λ (l : List ℕ). slice_range l g f) z ∙ same_range xs ys g f e ∙ same
 
@@ -65,7 +65,7 @@ over None after n buffer t none some = subst IsOver (sym t) tt
 over (Some left) None n buffer t none some = absurd t
 over (Some left) (Some rest) n buffer t none some = t.others ∙ ap (drop n) (t.ends none some) ∙ drop_all n [] (omega arith)
 
--- whether any byte is held
+-- True if a byte is held.
 pub some_held : (xs : List ℕ) (g f : ℕ) → f ≤ length xs → nat_lt 0 (length (slice_range xs g f)) ≡ nat_lt g f
 some_held xs g f fits =
     let len : length (slice_range xs g f) ≡ f - g = omega (arith, length-take (f - g) (drop g xs), length-drop g xs) in
@@ -92,7 +92,7 @@ both_other : (xs ys : List ℕ) → list_all (is_other 10) xs ≡ true → list_
     → list_all (is_other 10) (xs ++ ys) ≡ true
 both_other xs ys h g = list_all-append (is_other 10) xs ys ∙ rw (h, g) refl
 
--- found behind the bytes that were searched before
+-- The line feed that is found after the searched bytes is the first.
 pub found_behind : (xs hay : List ℕ) (s n : ℕ) → hay ≡ drop s xs → s ≤ length xs → list_all (is_other 10) (take s xs) ≡ true
     → IsFirstByte (is_byte 10) hay (Some n) → IsLineEnd xs (s + n)
 found_behind xs hay s n e fits clean found =
@@ -105,7 +105,7 @@ found_behind xs hay s n e fits clean found =
       at = sym (get_or-drop s xs n 0) ∙ eqb-true (get_or (drop s xs) n 0) 10 f.1;
     }
 
--- not found
+-- If none is found there, there is none.
 pub none_behind : (xs hay : List ℕ) (s : ℕ) → hay ≡ drop s xs → list_all (is_other 10) (take s xs) ≡ true
     → IsFirstByte (is_byte 10) hay None → list_all (is_other 10) xs ≡ true
 none_behind xs hay s e clean none =

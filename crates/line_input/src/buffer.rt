@@ -9,7 +9,7 @@ use memchr::memchr;
 use shelf::{Failed, Source};
 use std::alloc::{AllocError, Global};
 
-/// How many bytes are asked of the source at once, at least.
+/// The least number of bytes that is asked of the source at once.
 pub const CHUNK_BYTES: usize = 65536;
 
 /// Why no line was read.
@@ -21,8 +21,8 @@ pub enum InputFault {
     NoMemory,
 }
 
-/// Bytes that were read. Those before `given` were given to the caller, those from there to `filled` are
-/// held, and the others are room for more.
+/// Bytes that were read. Those before `given` were given to the caller. Those from there to
+/// `filled` are held. The rest is room for more.
 #[derive(Drop)]
 pub struct Buffer {
     pub bytes: Vec<u8>,
@@ -31,7 +31,7 @@ pub struct Buffer {
 }
 
 impl Buffer {
-    /// Takes no memory.
+    /// An empty buffer. Takes no memory.
     pub fn new(alloc: Global) -> Buffer
         ensures sound { IsSound result }
         ensures empty { length result.bytes.items ≡ 0 }
@@ -44,7 +44,7 @@ impl Buffer {
     }
 }
 
-/// Moves the bytes that are held to the front.
+/// Moves the held bytes to the front.
 fn to_front(buffer: &mut Buffer)
     requires { IsSound buffer.old }
     ensures sound { IsSound buffer.new }
@@ -59,7 +59,7 @@ fn to_front(buffer: &mut Buffer)
     }
 }
 
-/// Makes the vector at least that long, with zeros at its end.
+/// Makes the vector at least this long, with zeros at its end.
 fn grow(bytes: &mut Vec<u8>, wanted: usize) -> Result<(), AllocError>
     ensures front { take (length bytes.old.items) bytes.new.items ≡ bytes.old.items }
     ensures room { OnOk result (wanted ≤ length bytes.new.items) }
@@ -71,7 +71,7 @@ fn grow(bytes: &mut Vec<u8>, wanted: usize) -> Result<(), AllocError>
     Ok(())
 }
 
-/// Makes room for a chunk behind the bytes that are held.
+/// Makes room for a chunk after the held bytes.
 fn make_room(buffer: &mut Buffer) -> Result<(), AllocError>
     requires { IsSound buffer.old }
     ensures sound { IsSound buffer.new }
@@ -84,7 +84,7 @@ fn make_room(buffer: &mut Buffer) -> Result<(), AllocError>
     grow(&mut buffer.bytes, buffer.filled + CHUNK_BYTES)
 }
 
-/// Reads behind the bytes that are filled and answers how many bytes came.
+/// Reads into the bytes after `filled`, and returns how many bytes came.
 fn read_behind<Q: Source>(bytes: &mut [u8], filled: usize, input: &mut Q) -> Result<usize, Failed>
     requires { filled < length bytes.old }
     ensures calm { OnOk result (Q.faults input.new ≡ Q.faults input.old) }
@@ -97,7 +97,7 @@ fn read_behind<Q: Source>(bytes: &mut [u8], filled: usize, input: &mut Q) -> Res
     input.read(&mut bytes[filled..])
 }
 
-/// Reads a chunk behind the bytes that are held and answers how many bytes came: 0 at the input's end.
+/// Reads a chunk after the held bytes, and returns how many bytes came: 0 at the end of the input.
 fn fill<Q: Source>(buffer: &mut Buffer, input: &mut Q) -> Result<usize, InputFault>
     requires { IsSound buffer.old }
     ensures sound { IsSound buffer.new }
@@ -124,7 +124,8 @@ fn fill<Q: Source>(buffer: &mut Buffer, input: &mut Q) -> Result<usize, InputFau
     }
 }
 
-/// Finds the first line feed. The first `searched` bytes have none, and are not searched again.
+/// Returns the place of the first line feed. The first `searched` bytes have none, and are not
+/// searched again.
 fn line_end(bytes: &[u8], searched: usize) -> Option<usize>
     requires within { searched ≤ length bytes.now }
     requires before { list_all (is_other 10) (take searched bytes.now) ≡ true }
@@ -136,8 +137,8 @@ fn line_end(bytes: &[u8], searched: usize) -> Option<usize>
     }
 }
 
-/// Reads until a line feed is among the bytes that are held, more than `most` bytes are held, or the input
-/// has ended. Answers where the first line feed is among them, or None where they have none.
+/// Reads until a line feed is among the held bytes, more than `most` bytes are held, or the input
+/// has ended. Returns the place of the first line feed among them, or None if they have none.
 pub fn find_end<Q: Source>(
     buffer: &mut Buffer,
     input: &mut Q,
@@ -171,8 +172,8 @@ pub fn find_end<Q: Source>(
     }
 }
 
-/// Gives the line that ends there, with its line feed, or all bytes that are held. Answers where the line
-/// ends in the buffer.
+/// Gives the line that ends there, with its line feed, or all held bytes. Returns the place in the
+/// buffer where the line ends.
 pub fn pass_line(buffer: &mut Buffer, end: Option<usize>) -> usize
     requires sound { IsSound buffer.old }
     requires within { IfSome end (λ n. n < length (held_in buffer.old)) }

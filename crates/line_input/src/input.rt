@@ -6,7 +6,8 @@ use shelf::Source;
 use std::alloc::Global;
 use std::marker::Model;
 
-/// The lines of a source: the bytes that were read and not given yet, and the line that was given last.
+/// The lines of a source: the bytes that were read and not given yet, and the line that was given
+/// last.
 #[derive(Drop)]
 pub struct LineInput {
     buffer: Buffer,
@@ -27,7 +28,7 @@ impl Model for LineInput {
 }
 
 impl LineInput {
-    /// Holds nothing and takes no memory.
+    /// An input of which nothing was read. Takes no memory.
     pub fn new(alloc: Global) -> LineInput
         ensures { result ≡ record { line = []; held = []; kept = 0 } }
     {
@@ -38,18 +39,19 @@ impl LineInput {
         }
     }
 
-    /// The line that the last call of `next` gave, without its line feed. A CR at its end is part of it.
+    /// Returns the line that the last call of `next` gave, without its line feed. A CR at its end
+    /// is part of it.
     pub fn line(&self) -> &[u8]
         ensures { result.now ≡ self.now.line }
     {
         &self.buffer.bytes[self.from..self.to]
     }
 
-    /// Reads the next line. `Ok(true)`: there is one, and `line` lends it. `Ok(false)`: the input has
-    /// ended, and each of its lines was given. A last line may lack its line feed. Of a line with more
-    /// than `most` bytes `line` may lend the front alone, which has more than `most` bytes too: refuse it
-    /// and read no further. After an `Err` nothing is lost: the same bytes are unread as before. The
-    /// source is asked for 64 KiB at a time, at least.
+    /// Reads the next line. `Ok(true)`: there is one, and `line` lends it. `Ok(false)`: the input
+    /// has ended, and each of its lines was given. The last line may lack its line feed. For a
+    /// line with more than `most` bytes, `line` may lend only the front of it, which has more than
+    /// `most` bytes too: refuse it and read no further. After an `Err` nothing is lost: the same
+    /// bytes are unread as before. Each call of the source asks for at least 64 KiB.
     pub fn next<Q: Source>(&mut self, input: &mut Q, most: usize) -> Result<bool, InputFault>
         ensures calm { OnOk result (Q.faults input.new ≡ Q.faults input.old) }
         ensures failed { IsErrOf result InputFault.Failed → Q.faults input.old < 2 ^ 64 - 1 → Q.faults input.old

@@ -7,7 +7,7 @@ use shelf::{CallList, Failed, MemSource, Source};
 use std::alloc::{AllocError, Global};
 use std::test::Fail;
 
-/// A source that gives three bytes at a time, and tells nothing of them.
+/// A source that gives three bytes at a time, and shows nothing of them.
 #[derive(Drop)]
 struct Slow {
     source: MemSource,
@@ -28,7 +28,7 @@ impl Source for Slow {
     }
 }
 
-/// The text as a source of which one call fails.
+/// The text as a source. One call of it fails.
 fn source_of(alloc: Global, text: &[u8], fail: u64) -> Result<Slow, AllocError> {
     let mut calls = Vec::new(alloc);
     calls.push(fail)?;
@@ -37,7 +37,7 @@ fn source_of(alloc: Global, text: &[u8], fail: u64) -> Result<Slow, AllocError> 
     })
 }
 
-/// Each line with a bar behind it, a mark of exclamation for each failed call, and a dot for the end.
+/// Each line with a bar after it, an exclamation mark for each failed call, and a dot for the end.
 fn read_all(alloc: Global, text: &[u8], most: usize, fail: u64) -> Result<Vec<u8>, AllocError> {
     let mut source = source_of(alloc, text, fail)?;
     let mut input = LineInput::new(alloc);

@@ -1,4 +1,4 @@
--- Batch after batch.
+-- One batch after another.
 use Rattle.list_walk.specs.Kept.{deleting_from, from_if, next_from, sweep_at}
 use Rattle.list_walk.specs.Walks.{deleting, sweep_hears}
 use Rattle.s3_types.specs.declared.reply.Reply.{Reply}
@@ -29,7 +29,7 @@ last_is : (a b : Bool) (from len : ℕ) → nat_lt from len ≡ a → nat_lt 100
     → len ≤ from + 1000
 last_is a b from len h g e = grind arith
 
--- a batch is gone, and the next one is due
+-- A batch is deleted, and the next one follows.
 pub batch_next : (goes : List ℕ → Bool) (r : Reply) (listing : Bool) (found keys : List (List ℕ)) (from n : ℕ) → listing ≡ false
     → next_from from (length keys) ≡ Some n → sweep_hears goes (sweep_at listing found keys from) r ≡ Some (sweep_at listing found keys n)
 batch_next goes r true found keys from n h e = absurd (cc)
@@ -38,7 +38,7 @@ batch_next goes r false found keys from n h e =
     hears_at goes r keys from w.1 ∙ ap (λ n. deleting (drop n keys)) (sym w.0)
     ∙ some_left (drop n keys) (omega (arith, length-drop n keys, w.0, w.1, w.2))
 
--- the last batch is gone
+-- The last batch is deleted.
 pub batch_last : (goes : List ℕ → Bool) (r : Reply) (listing : Bool) (found keys : List (List ℕ)) (from : ℕ) → listing ≡ false
     → from < length keys → next_from from (length keys) ≡ None → sweep_hears goes (sweep_at listing found keys from) r ≡ None
 batch_last goes r true found keys from h l e = absurd (cc)

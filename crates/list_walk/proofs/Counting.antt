@@ -1,4 +1,4 @@
--- How many entries of a finite map pass a test, before and after one is put in or taken out.
+-- How many entries of a finite map pass a test, before and after one is put in or removed.
 use Rattle.basics.proofs.Members.{none_some}
 use Rattle.basics.proofs.Tree.{entries_empty}
 use Rattle.list_walk.specs.Left.{one_if as one}
@@ -24,7 +24,7 @@ pub one_most : (b : Bool) → one b ≤ 1
 one_most true = omega arith
 one_most false = omega arith
 
--- those that pass another test too are no more
+-- No more entries pass two tests than pass one.
 pub count_where : {E : Type 0} (t q : E → Bool) (es : List E) → count t (filter q es) ≤ count t es
 count_where t q [] = omega arith
 count_where t q (e ∷ es) = elim (q e) as (λ b. count t (cond b (e ∷ filter q es) (filter q es)) ≤ count t (e ∷ es)) [
@@ -42,7 +42,7 @@ module _ {K X : Type 0} (R : K → K → Ordering) (t : K × X → Bool) where
         | Greater ↦ omega (arith, count_put k v es, count_more t e (put R k v es), count_more t e es)
       ]
 
-  -- a key that is new
+  -- Putting a new key adds one, if its entry passes the test.
   pub count_new : (k : K) (v : X) (es : List (K × X)) → find R k es ≡ None → count t (put R k v es) ≡ one (t (k, v)) + count t es
   count_new k v [] h = count_more t (k, v) []
   count_new k v (e ∷ es) h = elim (R k e.0) as (λ r. R k e.0 ≡ r
@@ -53,7 +53,7 @@ module _ {K X : Type 0} (R : K → K → Ordering) (t : K × X → Bool) where
       ] refl
 
 module _ {K X : Type 0} {R : K → K → Ordering} (o : IsTotalOrder R) where
-  -- what a map has without a key
+  -- The entries of a map without a key.
   pub entries_removed : CmpEqualImpliesEq R → (m : FinMap R X) (k : K)
       → entries (remove m k) ≡ where_key R (λ x. not (eq_by_cmp R k x)) (entries m)
   entries_removed exact m k =
@@ -80,12 +80,12 @@ module _ {K X : Type 0} {R : K → K → Ordering} (o : IsTotalOrder R) where
   count_remove exact t m k = subst (λ l. count t l ≤ count t (entries m)) (sym (entries_removed exact m k))
       (count_where t (λ e. not (eq_by_cmp R k e.0)) (entries m))
 
-  -- each key is new in the entries behind it
+  -- Each key does not occur in the entries after it.
   abbrev pub AreNew : List (K × X) → Type 0
   AreNew [] = Unit {0}
   AreNew (e ∷ es) = (find R e.0 es ≡ None) × AreNew es
 
-  -- the map that such entries make has as many
+  -- The map of such entries has as many that pass the test.
   pub count_made : (t : K × X → Bool) (es : List (K × X)) → AreNew es → count t (entries (from_entries {R = R} es)) ≡ count t es
   count_made t [] h = ap (count t) (entries_empty R)
   count_made t (e ∷ es) h =

@@ -43,7 +43,7 @@ length_chosen t (k ∷ ks) = elim (t k) as (λ b. length (cond b (k ∷ filter t
 -- ---- keys
 
 module _ (b p : List ℕ) (keys : List (List ℕ)) (s : Scene) where
-  -- what is left once a page of so many is added
+  -- The number of keys that are left after a page of at most 1,000.
   left_behind : (c : BucketContent) → fin.get s.content.buckets b ≡ Some c → (l : List PageEntry)
       → listed p false (last_of keys) c.objects ≡ l → keys_left b p (last_of (keys ++ keys_on (take 1000 l))) s ≡ length l - 1000
   left_behind c e l h =
@@ -56,7 +56,7 @@ module _ (b p : List ℕ) (keys : List (List ℕ)) (s : Scene) where
       → keys_left b p (last_of keys) s ≡ length l
   left_now c e l h = ap (count_in (λ c. length (listed p false (last_of keys) c.objects))) e ∙ ap length h
 
-  -- a page that is full
+  -- A full page adds 1,000 keys.
   full : (l : List PageEntry) → 1000 < length l → length (keys ++ keys_on (take 1000 l)) ≡ length keys + 1000
   full l h = let t = length-take 1000 l in omega (arith, length-append keys (keys_on (take 1000 l)), length-map (take 1000 l) text_in, t)
 

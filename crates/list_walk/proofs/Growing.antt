@@ -1,4 +1,4 @@
--- What one request adds to what is there.
+-- How much one request adds to what is there.
 use Rattle.basics.proofs.Members.{true_or_false}
 use Rattle.basics.proofs.Tree.{entries_empty, tied}
 use Rattle.basics.specs.Order.{text_cmp, text_total}

@@ -21,7 +21,7 @@ are_keys (e ∷ es) fs h g = (h.0, are_keys es fs h.1 g)
 pub keys_joined : (es fs : List PageEntry) → keys_on (es ++ fs) ≡ keys_on es ++ keys_on fs
 keys_joined = map-append text_in
 
--- ---- a page that is not folded has keys alone
+-- ---- a page without a delimiter has only keys
 
 keys_mapped : (p : List ℕ) (es : List (List ℕ × Object)) → AreKeys (map (entry_of p false) es)
 keys_mapped p [] = tt
@@ -52,12 +52,12 @@ page_keys n p a m = keys_taken n _ (keys_folded None _ (keys_filtered (λ x. is_
 
 -- ---- walks
 
--- the keys of what was walked
+-- The keys of a walk's entries.
 abbrev pub on_keys : Walked PageEntry → Walked (List ℕ)
 on_keys (More es) = More (keys_on es)
 on_keys (Whole es) = Whole (keys_on es)
 
--- a walk over entries is one over their keys
+-- A walk over entries is a walk over their keys.
 pub walked_keys : (found : List PageEntry) (r : Reply) → walked (keys_on found) r ≡ on_keys (walked_entries found r)
 walked_keys found r = grind (arith, keys_joined)
 

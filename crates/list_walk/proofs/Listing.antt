@@ -33,11 +33,11 @@ use Rattle.s3_types.specs.Multipart as uploads
 
 -- ---- keys
 
--- a key below p behind a text
+-- True if the key begins with p and is greater than a.
 abbrev pub is_left : List ℕ → List ℕ → List ℕ × Object → Bool
 is_left p a e = begins p e.0 && lt text_cmp a e.0
 
--- all of these keys are behind a
+-- All of these keys are greater than a.
 abbrev Behind : List ℕ → List (List ℕ) → Type 0
 Behind a ks = AllByRecursion (λ k. text_cmp a k ≡ Less) ks
 
@@ -72,11 +72,11 @@ walked_count p a (e ∷ es) s =
       | inr n ↦ rw n (omega (arith, walked_count p a es rest))
     ])
 
--- as many are listed as there are left
+-- As many keys are listed as are left.
 pub listed_count : (p a : List ℕ) (m : Objects) → length (listed p false a m) ≡ count (is_left p a) (fin.entries m)
 listed_count p a m = ap length (sym (walked_listed p false a m)) ∙ walked_count p a (fin.entries m) (map_sorted text_cmp m)
 
--- the last of these, or the text before them
+-- The last of the keys, or a if there are none.
 abbrev pub last_from : List ℕ → List (List ℕ) → List ℕ
 last_from a [] = a
 last_from a (k ∷ ks) = last_from k ks
@@ -88,7 +88,7 @@ last_append (q ∷ []) [] = refl
 last_append (q ∷ []) (k ∷ ks) = last_append (k ∷ []) ks
 last_append (q ∷ r ∷ keys) ks = last_append (r ∷ keys) ks
 
--- what is listed behind a page are the others
+-- After a page, the others are listed.
 pub behind_page : (p a : List ℕ) (m : Objects) (n : ℕ) (l : List PageEntry) → listed p false a m ≡ l
     → listed p false (last_from a (keys_on (take n l))) m ≡ drop n l
 behind_page p a m zero l h = h
@@ -129,7 +129,7 @@ count_both p q (x ∷ xs) = rw (count_more (λ x. p x && q x) x xs) (elim (true_
   | inr n ↦ rw (n, and-false (p x), count_both p q xs) (omega arith)
 ])
 
--- as many are listed as there are left
+-- As many uploads are listed as are left.
 pub refs_count : (p : List ℕ) (a : Option UploadRef) (m : Uploads)
     → length (uploads.listed p a m) ≡ count (λ e. is_left_ref p a (ref_of e).0) (fin.entries m)
 refs_count p a m =

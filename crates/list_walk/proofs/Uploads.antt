@@ -1,4 +1,4 @@
--- What is left of the live uploads behind a page of them.
+-- The live uploads that are left after a page of them.
 use Rattle.basics.proofs.Less.{irrefl, lt, lt_not, lt_trans}
 use Rattle.basics.proofs.Members.{true_or_false}
 use Rattle.basics.proofs.Tree.{map_sorted}
@@ -17,12 +17,12 @@ use Rattle.std.specs.Ordering.{is_lt}
 use Rattle.std.specs.declared.cmp.Ordering.TheVariants.{Less}
 use Rattle.std.specs.FinMap as fin
 
--- what comes behind those that come behind m does too
+-- If y comes after m and z after y, z comes after m.
 up : (m : Option UploadRef) → (y z : UploadRef) → is_behind m y ≡ true → lt ref_cmp y z ≡ true → is_behind m z ≡ true
 up None y z h l = refl
 up (Some a) y z h l = lt_trans refs_total a y z h l
 
--- all of them come behind y
+-- All of these come after y.
 abbrev Later : UploadRef → List UploadRef → Type 0
 Later y zs = AllByRecursion (λ z. ref_cmp y z ≡ Less) zs
 
@@ -64,7 +64,7 @@ refs_behind q m (y ∷ ys) x xs s h = elim (true_or_false (is_behind m y)) [
     later : Later y ys
     later = sorted_head ref_cmp y ys s
 
-    -- y is passed over
+    -- The upload y is skipped.
     over : filter q (filter (is_behind m) ys) ≡ x ∷ xs → lt ref_cmp x y ≡ false
     over g = lt_not refs_total y x (later_first q (is_behind m) y ys x xs later g)
 
@@ -72,7 +72,7 @@ pub refs_append : (a : Option UploadRef) (found rs : List UploadRef) → last_re
 refs_append a [] rs = refl
 refs_append a (r ∷ found) rs = refs_append (Some r) found rs
 
--- what is listed behind a page are the others
+-- After a page, the others are listed.
 pub behind_uploads : (p : List ℕ) (us : Uploads) (n : ℕ) (m : Option UploadRef) (l : List UploadRef) → listed p m us ≡ l
     → listed p (last_ref m (take n l)) us ≡ drop n l
 behind_uploads p us zero m l h = h

@@ -1,4 +1,4 @@
--- The replies that walks and sweeps are given where their bucket is there.
+-- The replies that walks and sweeps get if their bucket exists.
 use Rattle.list_walk.specs.Walks.{Deleting, Listing, Sweep}
 use Rattle.s3_types.specs.declared.reply.PageEntry.{PageEntry}
 use Rattle.s3_types.specs.declared.reply.PageEntry.TheVariants.{Object as Single, Prefix}
@@ -8,32 +8,32 @@ use Rattle.s3_types.specs.declared.reply.Reply.TheVariants.{Page, Refused}
 use Rattle.std.specs.List.{AllByRecursion}
 use Rattle.std.specs.Prelude.{Bool, List, false, true}
 
--- an entry of a page that is not folded
+-- The entry is a key and no common prefix.
 abbrev pub IsKey : PageEntry → Type 0
 IsKey (Single k n) = Unit {0}
 IsKey (Prefix t) = ⊥
 
--- an entry of a page is a key, and no common prefix
+-- True if the entry is a key and no common prefix.
 abbrev pub is_key : PageEntry → Bool
 is_key (Single k n) = true
 is_key (Prefix t) = false
 
--- the entries of a page are keys alone
+-- The entries of a page are all keys.
 abbrev pub AreKeys : List PageEntry → Type 0
 AreKeys entries = AllByRecursion IsKey entries
 
--- a reply to the request for a page that is not folded: keys alone, and there is a bucket
+-- The reply fits the request for a page without a delimiter: a page has only keys, and the bucket is not missing.
 abbrev pub FitsPage : Reply → Type 0
 FitsPage (Page entries more) = AreKeys entries
 FitsPage (Refused NoSuchBucket) = ⊥
 FitsPage _ = Unit {0}
 
--- a reply that a sweep may be told
+-- The reply may come to the sweep.
 abbrev pub FitsSweep : Sweep → Reply → Type 0
 FitsSweep (Listing keys) r = FitsPage r
 FitsSweep (Deleting k ks) r = Unit {0}
 
--- a reply to the request for a page of live uploads, where there is a bucket
+-- The reply fits the request for a page of live uploads: the bucket is not missing.
 abbrev pub FitsUploads : Reply → Type 0
 FitsUploads (Refused NoSuchBucket) = ⊥
 FitsUploads _ = Unit {0}

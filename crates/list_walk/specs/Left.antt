@@ -1,4 +1,4 @@
--- What walks and sweeps have left in a scene.
+-- How much walks and sweeps have left in a scene.
 use Rattle.list_walk.specs.Walks.{Deleting, Listing, Sweep, last_of, last_ref}
 use Rattle.s3_types.specs.Pages.{begins, listed}
 use Rattle.s3_types.specs.Store.{BucketContent, Scene}
@@ -10,63 +10,63 @@ use Rattle.std.specs.Prelude.{Bool, List, None, Option, Some, false, length, tru
 use Rattle.std.specs.FinMap as fin
 use Rattle.s3_types.specs.Multipart as uploads
 
--- how many of something a bucket has: none where it is not there
+-- How many of something a bucket has; 0 if it does not exist.
 abbrev pub count_in : (BucketContent → ℕ) → Option BucketContent → ℕ
 count_in f (Some c) = f c
 count_in f None = 0
 
--- how many of something a bucket of the scene has; none where it is not there
+-- How many of something the bucket with this name has; 0 if it does not exist.
 abbrev pub in_bucket : Scene → List ℕ → (BucketContent → ℕ) → ℕ
 in_bucket s b f = count_in f (fin.get s.content.buckets b)
 
--- the keys below a prefix behind a text
+-- The number of keys below a prefix after a text.
 abbrev pub keys_left : List ℕ → List ℕ → List ℕ → Scene → ℕ
 keys_left b p after s = in_bucket s b (λ c. length (listed p false after c.objects))
 
--- the live uploads below a prefix behind one of them
+-- The number of live uploads below a prefix after the given one.
 abbrev pub refs_left : List ℕ → List ℕ → Option UploadRef → Scene → ℕ
 refs_left b p after s = in_bucket s b (λ c. length (uploads.listed p after c.uploads))
 
--- the cluster's files below a prefix
+-- The number of files in the cluster below a prefix.
 abbrev pub files_left : List ℕ → Scene → ℕ
 files_left p s = length (filter (begins p) (fin.keys s.files))
 
--- so many thousands, the last one perhaps begun alone
+-- n / 1000, rounded up.
 abbrev pub thousands : ℕ → ℕ
 thousands n = (n + 999) / 1000
 
--- a walk over keys: at most so many pages are to come
+-- At most this many pages of a walk over keys are to come.
 abbrev pub walk_left : List ℕ → List ℕ → List (List ℕ) → Scene → ℕ
 walk_left b p keys s = 1 + thousands (keys_left b p (last_of keys) s)
 
--- a sweep: at most so many pages and batches, where a key that is to be listed counts for its page and for its batch
+-- At most this many pages and batches of a sweep are to come. A key that is still to be listed counts for its page and its batch.
 abbrev pub sweep_left : List ℕ → List ℕ → Sweep → Scene → ℕ
 sweep_left b p (Listing keys) s = 1 + thousands (length keys + 2 * keys_left b p (last_of keys) s)
 sweep_left b p (Deleting k ks) s = thousands (length (k ∷ ks))
 
--- how much a sweep has left, if it goes on
+-- How much the sweep has left, if it goes on.
 abbrev pub left_of : List ℕ → List ℕ → Option Sweep → Scene → ℕ
 left_of b p (Some w) s = sweep_left b p w s
 left_of b p None s = 0
 
--- a walk over live uploads with a request for each of them: at most so many pages and requests
+-- A walk over live uploads with one request for each upload: at most this many pages and requests are to come.
 abbrev pub uploads_left : List ℕ → List ℕ → List UploadRef → Scene → ℕ
 uploads_left b p found s = 1 + (length found + 2 * refs_left b p (last_ref None found) s)
 
--- a request that may add a key
+-- True if the request may add a key.
 abbrev pub adds_key : Request → Bool
 adds_key (PutObject n k bytes header) = true
 adds_key (CopyObject n source target) = true
 adds_key (CompleteUpload n k id parts) = true
 adds_key _ = false
 
--- a request that sets an upload
+-- True if the request may add or change a live upload.
 abbrev pub sets_upload : Request → Bool
 sets_upload (CreateUpload n k) = true
 sets_upload (UploadPart n k id number bytes) = true
 sets_upload _ = false
 
--- 1 where it is so, and else 0
+-- 1 if true, else 0.
 abbrev pub one_if : Bool → ℕ
 one_if true = 1
 one_if false = 0

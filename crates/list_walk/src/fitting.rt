@@ -21,7 +21,8 @@ fn are_keys(entries: &[PageEntry]) -> bool
     entries.iter().all(|entry| is_key(entry))
 }
 
-/// Whether a walk over keys may be told a reply: a page has keys alone, and there is a bucket. Takes no memory.
+/// Whether a walk over keys may receive this reply: a page has only keys, and the bucket is not
+/// missing. Takes no memory.
 pub fn fits_page(reply: &Reply) -> bool
     ensures { Decides result (FitsPage reply.now) }
 {

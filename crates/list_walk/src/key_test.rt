@@ -6,7 +6,7 @@ use s3_types::Text;
 
 /// A test on keys.
 pub trait KeyTest {
-    /// What the test says of a key.
+    /// Whether a key passes the test.
     ghost goes: { Self → List ℕ → Bool };
 
     /// Whether a key passes. Takes no memory.

@@ -7,7 +7,7 @@ use s3_types::{Bucket, EntryList, Key, KeyList, PageEntry, PageLimit, Reply, Req
 use std::alloc::{AllocError, Global};
 use std::marker::Model;
 
-/// The key of an entry, or its common prefix. Takes no memory.
+/// Returns the key of an entry, or its common prefix. Takes no memory.
 pub fn text_of(entry: &PageEntry) -> &Text
     ensures { result.now ≡ text_in entry.now }
 {
@@ -17,7 +17,7 @@ pub fn text_of(entry: &PageEntry) -> &Text
     }
 }
 
-/// The key of an entry that is one. Takes no memory.
+/// Returns the key of an entry that has one. Takes no memory.
 pub(crate) fn key_of(entry: &PageEntry) -> &Key
     requires { AreKeys (entry.now ∷ []) }
     ensures { result.now ≡ text_in entry.now }
@@ -28,7 +28,7 @@ pub(crate) fn key_of(entry: &PageEntry) -> &Key
     }
 }
 
-/// The text of the last of these entries, or the empty text where there is none.
+/// Returns the text of the last of these entries, or the empty text if there is none.
 fn last_text(alloc: Global, entries: &[PageEntry]) -> Result<Text, AllocError>
     ensures { IfOk result (λ last. last ≡ last_of (keys_on entries.now)) }
 {
@@ -38,7 +38,7 @@ fn last_text(alloc: Global, entries: &[PageEntry]) -> Result<Text, AllocError>
     }
 }
 
-/// The same entry, whose text is shared.
+/// Returns a copy of the entry that shares its text.
 fn shared(entry: &PageEntry) -> Result<PageEntry, AllocError>
     ensures { IfOk result (λ copy. copy ≡ entry.now) }
 {
@@ -64,7 +64,7 @@ fn add_entries(found: &mut EntryList, entries: &[PageEntry]) -> Result<(), Alloc
     Ok(())
 }
 
-/// Adds the entries of the page that a reply is, and says whether more remain.
+/// Adds the entries of the page in a reply, and returns whether more remain.
 fn add_page(found: &mut EntryList, reply: &Reply) -> Result<bool, AllocError>
     requires before { AreKeys found.old }
     requires fits { FitsPage reply.now }
@@ -80,8 +80,8 @@ fn add_page(found: &mut EntryList, reply: &Reply) -> Result<bool, AllocError>
     }
 }
 
-/// A walk over the keys below a prefix, page by page, seen as their entries so far: each key with the length of its
-/// bytes. Keys are shared and not copied.
+/// A walk over the keys below a prefix, page by page. Contracts see it as the entries found so
+/// far: each key with the length of its object in bytes. Keys are shared and not copied.
 #[derive(Drop)]
 pub struct KeyWalk {
     entries: EntryList,
@@ -101,7 +101,7 @@ impl Model for KeyWalk {
 }
 
 impl KeyWalk {
-    /// No page was listed yet. Takes no memory.
+    /// A walk before its first page. Takes no memory.
     pub fn new(alloc: Global) -> KeyWalk
         ensures { result ≡ [] }
     {
@@ -111,7 +111,7 @@ impl KeyWalk {
         }
     }
 
-    /// The entries so far, all of them keys. Takes no memory.
+    /// Returns the entries found so far, which are all keys. Takes no memory.
     pub fn entries(&self) -> &EntryList
         ensures entries { result.now ≡ self.now }
         ensures keys { AreKeys result.now }
@@ -119,14 +119,14 @@ impl KeyWalk {
         &self.entries
     }
 
-    /// The keys so far.
+    /// Returns the keys found so far.
     pub fn keys(&self, alloc: Global) -> Result<KeyList, AllocError>
         ensures { IfOk result (λ keys. keys ≡ keys_on self.now) }
     {
         keys_in(alloc, self.entries.as_slice())
     }
 
-    /// The request for the next page, of at most 1,000 keys.
+    /// Returns the request for the next page, of at most 1,000 keys.
     pub fn request(&self, bucket: &Bucket, prefix: &Text) -> Result<Request, AllocError>
         ensures { IfOk result (λ request. request ≡ page_after bucket.now prefix.now (keys_on self.now)) }
     {
@@ -140,7 +140,8 @@ impl KeyWalk {
         )
     }
 
-    /// Takes a reply, and says whether more pages remain. After want of memory the walk is of no more use.
+    /// Takes a reply, and returns whether more pages remain. If memory runs out, the walk cannot
+    /// be used any more.
     pub fn hear(&mut self, reply: &Reply) -> Result<bool, AllocError>
         requires { FitsPage reply.now }
         ensures entries { IfOk result (λ more. walked_entries self.old reply.now ≡ walked_by more self.new) }
@@ -150,7 +151,7 @@ impl KeyWalk {
     }
 }
 
-/// The keys of these entries.
+/// Returns the keys of these entries.
 fn keys_in(alloc: Global, entries: &[PageEntry]) -> Result<KeyList, AllocError>
     requires { AreKeys entries.now }
     ensures { IfOk result (λ keys. keys ≡ keys_on entries.now) }

@@ -1,12 +1,14 @@
-//! Walks over listings page by page, and sweeps, which list all keys below a prefix and then delete those
-//! that are to go: plain data that operations hold, and what they have left among others that send.
+//! Walks over listings page by page, and sweeps. A sweep lists all keys below a prefix, and then
+//! deletes those that pass a test. Walks and sweeps are plain data that operations hold. The laws
+//! say how much they have left while others send too.
 //!
 //! # What is proved
 //!
-//! `KeyWalk`, `UploadWalk`, `Sweep` and laws: They ask what a walk or a sweep asks, and go where it goes, for any
-//! test on keys; a walk over keys keeps their lengths too. What they have left among others that send falls by
-//! the answer that is due (`walks_end`, `sweeps_end`, `upload_walks_end`). `fits_page` is true exactly
-//! where a reply fits a walk over keys.
+//! - `KeyWalk`, `UploadWalk`, `Sweep`: their requests and steps are those of the definitions, for
+//!   any test on keys. A walk over keys keeps the lengths of their objects too.
+//! - `walks_end`, `sweeps_end`, `upload_walks_end`: what they have left while others send falls
+//!   with each answer that the store gives.
+//! - `fits_page`: is true exactly if a reply fits a walk over keys.
 #![tactic(auto)]
 
 mod fitting;

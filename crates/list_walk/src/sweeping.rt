@@ -11,10 +11,10 @@ use s3_types::{Bucket, Key, KeyList, PageEntry, Reply, Request, Sequence, Text, 
 use std::alloc::{AllocError, Global};
 use std::marker::Model;
 
-/// How many keys a batch has at most. (Amazon S3 API: DeleteObjects.)
+/// The most keys of a batch. (Amazon S3 API: DeleteObjects.)
 const BATCH: usize = 1000;
 
-/// At most so many of the first keys.
+/// Returns the first keys, at most `most` of them.
 fn first_keys(keys: &[Key], most: usize) -> &[Key]
     ensures { result.now ≡ take most keys.now }
 {
@@ -25,7 +25,7 @@ fn first_keys(keys: &[Key], most: usize) -> &[Key]
     }
 }
 
-/// The keys behind so many. Takes no memory.
+/// Returns the keys after the first `from`. Takes no memory.
 pub fn keys_behind(keys: &[Key], from: usize) -> &[Key]
     ensures { result.now ≡ drop from keys.now }
 {
@@ -36,7 +36,7 @@ pub fn keys_behind(keys: &[Key], from: usize) -> &[Key]
     }
 }
 
-/// The same keys, whose texts are shared.
+/// Returns a copy of the keys that shares their texts.
 fn shared(alloc: Global, keys: &[Key]) -> Result<KeyList, AllocError>
     ensures { IfOk result (λ copy. copy ≡ keys.now) }
 {
@@ -47,7 +47,7 @@ fn shared(alloc: Global, keys: &[Key]) -> Result<KeyList, AllocError>
     Ok(Sequence::from_vec(copy))
 }
 
-/// The request that deletes the first of these keys, at most a batch of them.
+/// Returns the request that deletes the first of these keys, at most one batch.
 pub fn batch_request(alloc: Global, bucket: &Bucket, keys: &[Key]) -> Result<Request, AllocError>
     ensures { IfOk result (λ request. request ≡ DeleteObjects bucket.now (take 1000 keys.now)) }
 {
@@ -58,7 +58,7 @@ pub fn batch_request(alloc: Global, bucket: &Bucket, keys: &[Key]) -> Result<Req
     })
 }
 
-/// The keys of these entries that pass a test.
+/// Returns the keys of these entries that pass a test.
 fn chosen<T: KeyTest>(alloc: Global, test: &T, entries: &[PageEntry]) -> Result<KeyList, AllocError>
     requires { AreKeys entries.now }
     ensures { IfOk result (λ chosen. chosen ≡ filter (T.goes test.now) (keys_on entries.now)) }
@@ -73,7 +73,7 @@ fn chosen<T: KeyTest>(alloc: Global, test: &T, entries: &[PageEntry]) -> Result<
     Ok(chosen)
 }
 
-/// Where the batch behind the present one begins, where there is one.
+/// Returns the place of the batch after the present one, if there is one.
 fn next_batch(from: usize, len: usize) -> Option<usize>
     ensures { result ≡ next_from from len }
 {
@@ -84,8 +84,8 @@ fn next_batch(from: usize, len: usize) -> Option<usize>
     }
 }
 
-/// A sweep: all keys below a prefix are listed page by page, and then those that are to go are deleted in
-/// batches of at most 1,000. Keys are shared and not copied.
+/// A sweep: it lists all keys below a prefix page by page, and then deletes those that pass a
+/// test, in batches of at most 1,000. Keys are shared and not copied.
 #[derive(Drop)]
 pub struct Sweep {
     listing: bool,
@@ -107,7 +107,7 @@ impl Model for Sweep {
 }
 
 impl Sweep {
-    /// No page was listed yet. Takes no memory.
+    /// A sweep before its first page. Takes no memory.
     pub fn new(alloc: Global) -> Sweep
         ensures { result ≡ sweep_start }
     {
@@ -119,7 +119,7 @@ impl Sweep {
         }
     }
 
-    /// A sweep that only deletes these keys, where there are any. Takes no memory.
+    /// A sweep that only deletes these keys, or None if there are none. Takes no memory.
     pub fn of(alloc: Global, keys: KeyList) -> Option<Sweep>
         ensures { result ≡ deleting keys }
     {
@@ -134,7 +134,8 @@ impl Sweep {
         })
     }
 
-    /// The next request: a page of at most 1,000 keys below the prefix, or the deletion of at most 1,000.
+    /// Returns the next request: a page of at most 1,000 keys below the prefix, or a DeleteObjects
+    /// of at most 1,000.
     pub fn request(
         &self,
         alloc: Global,
@@ -150,7 +151,7 @@ impl Sweep {
         }
     }
 
-    /// The same, as a machine's answer.
+    /// Returns the same request, as a machine's answer.
     pub fn ask(
         &self,
         alloc: Global,
@@ -165,8 +166,8 @@ impl Sweep {
         }
     }
 
-    /// Takes a reply, and says whether more is to be asked. Of the keys listed those that pass the test
-    /// are to go. After want of memory the sweep is of no more use.
+    /// Takes a reply, and returns whether there is a next request. Of the listed keys, those that
+    /// pass the test will be deleted. If memory runs out, the sweep cannot be used any more.
     pub fn hear<T: KeyTest>(
         &mut self,
         alloc: Global,
@@ -192,7 +193,7 @@ impl Sweep {
         Ok(self.delete(keys))
     }
 
-    /// Deletes these keys from now on, where there are any.
+    /// Starts to delete these keys, and returns whether there are any.
     fn delete(&mut self, keys: KeyList) -> bool
         ensures { deleting keys ≡ kept result self.new }
     {

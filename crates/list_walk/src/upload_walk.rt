@@ -5,7 +5,7 @@ use s3_types::{Bucket, PageLimit, Reply, Request, Text, UploadList, UploadRef};
 use std::alloc::{AllocError, Global};
 use std::marker::Model;
 
-/// The last of the uploads, where there is one.
+/// Returns the last of the uploads, if there is one.
 fn last_upload(uploads: &[UploadRef]) -> Result<Option<UploadRef>, AllocError>
     ensures { IfOk result (λ last. last ≡ last_ref None uploads.now) }
 {
@@ -25,7 +25,8 @@ fn add_uploads(found: &mut UploadList, entries: &[UploadRef]) -> Result<(), Allo
     Ok(())
 }
 
-/// A walk over the live uploads below a prefix, page by page, seen as the uploads so far.
+/// A walk over the live uploads below a prefix, page by page. Contracts see it as the uploads
+/// found so far.
 #[derive(Drop)]
 pub struct UploadWalk {
     found: UploadList,
@@ -41,7 +42,7 @@ impl Model for UploadWalk {
 }
 
 impl UploadWalk {
-    /// No page was listed yet. Takes no memory.
+    /// A walk before its first page. Takes no memory.
     pub fn new(alloc: Global) -> UploadWalk
         ensures { result ≡ [] }
     {
@@ -50,21 +51,21 @@ impl UploadWalk {
         }
     }
 
-    /// The uploads so far. Takes no memory.
+    /// Returns the uploads found so far. Takes no memory.
     pub fn found(&self) -> &UploadList
         ensures { result.now ≡ self.now }
     {
         &self.found
     }
 
-    /// Gives up the uploads so far. Takes no memory.
+    /// Gives up the uploads found so far. Takes no memory.
     pub fn into_found(self) -> UploadList
         ensures { result ≡ self }
     {
         self.found
     }
 
-    /// The request for the next page, of at most 1,000 uploads.
+    /// Returns the request for the next page, of at most 1,000 uploads.
     pub fn request(&self, bucket: &Bucket, prefix: &Text) -> Result<Request, AllocError>
         ensures { IfOk result (λ request. request ≡ uploads_after bucket.now prefix.now self.now) }
     {
@@ -72,7 +73,8 @@ impl UploadWalk {
         Request::list_uploads(bucket, prefix, &after, PageLimit::new(PageLimit::MOST))
     }
 
-    /// Takes a reply, and says whether more pages remain. After want of memory the uploads are some of those.
+    /// Takes a reply, and returns whether more pages remain. If memory runs out, the walk has some
+    /// of the uploads of the page.
     pub fn hear(&mut self, reply: &Reply) -> Result<bool, AllocError>
         ensures { IfOk result (λ more. walked_uploads self.old reply.now ≡ walked_by more self.new) }
     {

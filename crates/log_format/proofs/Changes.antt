@@ -1,4 +1,4 @@
--- What is read of a change is spelled so, and what is spelled so is read.
+-- The change that is read has the bytes as its text, and the text of a change is read as that change.
 use Rattle.basics.proofs.Bytes.{IsBytes, IsReader}
 use Rattle.basics.proofs.Reading.{parted, passed}
 use Rattle.log_format.proofs.Steps.{block_reader, byte_again, byte_takes, counted_reader, long_reader, named_reader, pair_reader}
@@ -112,7 +112,7 @@ module _ {A : Type 0} (read : List ℕ → Read A) (text : A → List ℕ) (IsVa
       let again : read (text x) ≡ Ok (x, []) = ap read same ∙ reader.again x [] is (subst (λ (t : List ℕ). length t < 2 ^ 64) same fits) in
       rw again refl
 
--- a change's text and what is known of it
+-- The bytes are the change's text, and the change is within its bounds.
 abbrev Told : ℕ → List ℕ → Request → Type 0
 Told kind bytes r = (kind ∷ bytes ≡ body r) × IsChange r
 
@@ -223,7 +223,7 @@ module _ (at : ℕ) (rest : List ℕ) (r : Request) (fits : IsBytes rest) where
     ]
   ]
 
--- what is read of a change is spelled so
+-- The change that is read has the bytes as its text.
 pub change_takes : (at : ℕ) (bytes : List ℕ) (r : Request) → IsBytes bytes → change_in at bytes ≡ Ok r → (bytes ≡ body r) × IsChange r
 unfolding change_in
 change_takes at bytes r fits e =
@@ -241,7 +241,7 @@ module _ {A : Type 0} (read : List ℕ → Read A) (text : A → List ℕ) (IsVa
   told_again : (x : A) → IsValue x → length (kind ∷ text x) < 2 ^ 64 → row_of make read at (text x) ≡ Ok (make x)
   told_again x is fits = row_again read text IsValue reader make at x is (omega (arith, fits))
 
--- a change is read again
+-- The text of a change is read as that change.
 pub change_again : (at : ℕ) (r : Request) → IsChange r → length (body r) < 2 ^ 64 → change_in at (body r) ≡ Ok r
 unfolding kind_in make_bucket_in put_object_in delete_object_in delete_objects_in copy_object_in create_upload_in upload_part_in
     complete_upload_in abort_upload_in

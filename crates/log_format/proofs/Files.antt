@@ -1,4 +1,4 @@
--- What is read of a file is what it stands for, and what a file stands for is read.
+-- The value that is read of a file is the one that it stands for, and the one that it stands for is read.
 use Rattle.basics.proofs.Bytes.{IsBytes, IsBytes-drop, Takes}
 use Rattle.basics.proofs.Reading.{parted, same_ok}
 use Rattle.basics.specs.Reading.{◌>>=◌}
@@ -40,7 +40,7 @@ record_again at r rest is fits = rw (block_again at (body r) rest fits, change_a
 
 -- ---- changes
 
--- changes behind open gates, and a gate that is not open
+-- The bytes are changes after open gates, a gate that is not open, and any bytes.
 pub record Ends (bytes : List ℕ) (rs : List Request) : Type 0 where
   pub gate : ℕ
   pub behind : List ℕ
@@ -99,7 +99,7 @@ one_open n whole r behind is fits = rw (
       (place whole (record_of r ++ behind)) r behind is fits,
 ) refl
 
--- behind changes that are open, reading goes on
+-- After changes with open gates, reading goes on with the rest.
 pub changes_again : (rs : List Request) (n whole : ℕ) (rest : List ℕ) → AllByRecursion IsChange rs → length (opened rs ++ rest) < 2 ^ 64
     → length (opened rs ++ rest) ≤ n
     → (m : ℕ) × (length rest ≤ m) × (changes_at n whole (opened rs ++ rest) ≡ (changes_at m whole rest >>= λ others. Ok (rs ++ others)))
@@ -134,7 +134,7 @@ changes_again (r ∷ rs) (suc n) whole rest legal fits le =
     regroup (Ok xs) = refl
     regroup (Err e) = refl
 
--- a gate that is not open ends the changes
+-- A gate that is not open ends the changes.
 pub changes_end : (m whole gate : ℕ) (behind : List ℕ) → gate ≢ 1 → length (gate ∷ behind) ≤ m → changes_at m whole (gate ∷ behind) ≡ Ok []
 unfolding changes_at
 changes_end zero whole gate behind closed le = absurd (omega (arith, le))
@@ -190,7 +190,7 @@ by_log : (file : List ℕ) (b : Bool) {G : Type 0} → (is_log file ≡ true →
 by_log file true f g e = f e
 by_log file false f g e = g e
 
--- what is read is what the file stands for
+-- The file stands for what is read.
 pub file_takes : (file : List ℕ) (h : Held) → IsBytes file → held_in file ≡ Ok h → StandsFor file h
 unfolding held_in
 file_takes file h fits e = by_log file (is_log file) logged bare refl
@@ -221,7 +221,7 @@ file_takes file h fits e = by_log file (is_log file) logged bare refl
 begins_log : (rest : List ℕ) → is_log (magic ++ rest) ≡ true
 begins_log rest = (bytes_eq-Decides (take 8 (magic ++ rest)) magic).1 (take_at magic rest 8 refl)
 
--- what the file stands for is read
+-- What the file stands for is read.
 pub file_again : (file : List ℕ) (h : Held) → length file < 2 ^ 64 → StandsFor file h → held_in file ≡ Ok h
 unfolding held_in
 file_again file h fits (inl bare) =

@@ -11,7 +11,7 @@ use Rattle.std.proofs.lemmas.List.{append-nil, drop_more}
 use Rattle.std.proofs.lemmas.List.Concat.{flat_map-cons}
 use Rattle.std.specs.List.{AllByRecursion, flat_map}
 
--- values that were read, and those that are read behind them
+-- The values that are read, after those that were read before.
 abbrev pub in_front : {A : Type 0} → List A → Read (List A) → Read (List A)
 in_front front read = made (λ xs. front ++ xs) read
 
@@ -38,7 +38,7 @@ module _ {A : Type 0} (one : List ℕ → Read A) where
   unfolding list_at
   stops n front rest e is = ap (λ (r : Read A). in_front front (r >>= λ y. list_at one n y.1 >>= λ ys. Ok (y.0 ∷ ys.0, ys.1))) is
 
-  -- a value's fault is the list's
+  -- The fault of a value is the fault of the list.
   pub ends : (n i : ℕ) (front : List A) (rest : List ℕ) (e : LogFault) (total : Read (List A)) → i < n → Fails wanting e (one rest)
       → in_front front (list_at one (n - i) rest) ≡ total → Fails wanting e total
   ends n i front rest e total lt fault so_far =
@@ -64,7 +64,7 @@ module _ {A : Type 0} (one : List ℕ → Read A) where
   first n bytes = let left : n - 0 ≡ n = omega arith in ap (λ (k : ℕ). in_front [] (list_at one k bytes)) left ∙ nothing_before
       (list_at one n bytes)
 
--- one more change
+-- One more change is read.
 pub change_more : (n i whole at here gate : ℕ) (front new : List Request) (rest after behind : List ℕ)
     (total : Result (List Request) LogFault) → i < n → at ≡ place whole rest → byte_at at rest ≡ Ok (gate, after) → gate ≡ 1
     → here ≡ place whole after → made (λ change. front ++ change ∷ []) (record_at here after) ≡ Ok (new, behind)
@@ -92,7 +92,7 @@ module _ {A : Type 0} (xs : List A) (i : ℕ) (x : A) (lt : i < length xs) (item
   front : drop i xs ≡ x ∷ drop (i + 1) xs
   front = drop_more xs i x lt ∙ ap (λ (y : A). y ∷ drop (i + 1) xs) (sym item)
 
-  -- the text of one more value
+  -- The text of one more value is written.
   pub one_written : (text : A → List ℕ) (out new total : List ℕ) → new ≡ out ++ text x → out ++ flat_map text (drop i xs) ≡ total
       → new ++ flat_map text (drop (i + 1) xs) ≡ total
   one_written text out new total is so_far =
@@ -102,7 +102,7 @@ module _ {A : Type 0} (xs : List A) (i : ℕ) (x : A) (lt : i < length xs) (item
       ∙ ap (λ (l : List A). out ++ flat_map text l) (sym front)
       ∙ so_far
 
-  -- one more value is as each is
+  -- One more value has the property.
   pub one_legal : (IsOne : A → Type 0) {All : Type 0} → IsOne x → (AllByRecursion IsOne (drop i xs) → All)
       → AllByRecursion IsOne (drop (i + 1) xs) → All
   one_legal IsOne is so_far others = so_far (subst (AllByRecursion IsOne) (sym front) (is, others))

@@ -1,4 +1,4 @@
--- Steps of reading: what a step took from the front, and that it reads again what was written.
+-- Steps of reading: each takes a text from the front, and reads again the text that was written.
 use Rattle.basics.proofs.Bytes.{IsBytes, IsReader, IsWide, Takes, Takes-then, front_again, front_takes, wide32, wide64}
 use Rattle.basics.proofs.Reading.{parted, passed, same_ok, unmade}
 use Rattle.basics.specs.Reading.{◌>>=◌}
@@ -27,7 +27,7 @@ pub bytes_again : (at : ℕ) (text rest : List ℕ) → bytes_at at (length text
 unfolding bytes_at
 bytes_again at text rest = front_again (Bad at) text rest
 
--- the only byte
+-- The only byte of a text.
 only_byte : (text : List ℕ) → length text ≡ 1 → text ≡ slice_index text 0 ∷ []
 only_byte (b ∷ []) e = refl
 only_byte _ e = absurd (omega arith)
@@ -75,7 +75,7 @@ short_reader at = number_reader w32 (2 ^ 32) wide32 at
 pub long_reader : (at : ℕ) → IsReader (number_at w64 at) long (IsBelow (2 ^ 64))
 long_reader at = number_reader w64 (2 ^ 64) wide64 at
 
--- ---- bytes with their length before them
+-- ---- bytes after their length
 
 module _ (at : ℕ) where
   pub block_takes : (bytes text rest : List ℕ) → IsBytes bytes → block_at at bytes ≡ Ok (text, rest) → Takes bytes (block text) rest

@@ -1,18 +1,18 @@
--- What a call returned of what reading gives.
+-- What a call returned, compared with what reading gives.
 use Rattle.std.specs.Prelude.{Bool, true, false, Result}
 use Rattle.basics.specs.Reading as reading
 use Rattle.log_format.specs.declared.fault.LogFault.{LogFault}
 use Rattle.log_format.specs.declared.fault.LogFault.TheVariants.{Bad, NoMemory}
 
--- want of memory
+-- True if the fault is that memory ran out.
 abbrev pub wanting : LogFault → Bool
 wanting (Bad place) = false
 wanting NoMemory = true
 
--- what a call returned, seen by a view, is what reading gives, unless memory ran out
+-- The call's result, seen by `view`, is what reading gives, unless memory ran out.
 abbrev pub GivesBy : {A B : Type 0} → (A → B) → Result A LogFault → Result B LogFault → Type 0
 GivesBy view result read = reading.GivesBy wanting view result read
 
--- what a call returned is what reading gives, unless memory ran out
+-- The call's result is what reading gives, unless memory ran out.
 abbrev pub Gives : {A : Type 0} → Result A LogFault → Result A LogFault → Type 0
 Gives result read = reading.Gives wanting result read

@@ -1,4 +1,4 @@
--- What a file's bytes stand for.
+-- What the bytes of a file stand for.
 use Rattle.log_format.specs.Change.{IsChange}
 use Rattle.log_format.specs.Log.{headed, opened}
 use Rattle.log_format.specs.Reading.{is_log}
@@ -6,13 +6,13 @@ use Rattle.log_format.specs.declared.held.Held.{Held}
 use Rattle.std.specs.List.{AllByRecursion}
 use Rattle.std.specs.Prelude.{List, false, ℕ, [], ◌++◌, ◌∷◌, ◌≡◌, ◌≢◌, ◌⊎◌}
 
--- a file that is no log is a base without changes
+-- The file is no log. It is a base without changes.
 pub record IsBare (file : List ℕ) (held : Held) : Type 0 where
   pub other : is_log file ≡ false
   pub base : held.base ≡ file
   pub none : held.changes ≡ []
 
--- a log is its base, its changes behind open gates, a gate that is not open, and any bytes
+-- The file is a log: its base, its changes after open gates, a gate that is not open, and any bytes after that.
 pub record IsLog (file : List ℕ) (held : Held) : Type 0 where
   pub gate : ℕ
   pub behind : List ℕ
@@ -20,6 +20,6 @@ pub record IsLog (file : List ℕ) (held : Held) : Type 0 where
   pub spelled : file ≡ headed held.base ++ (opened held.changes ++ gate ∷ behind)
   pub legal : AllByRecursion IsChange held.changes
 
--- a file stands for a base and the changes after it
+-- The file stands for this base and the changes after it.
 abbrev pub StandsFor : List ℕ → Held → Type 0
 StandsFor file held = IsBare file held ⊎ IsLog file held

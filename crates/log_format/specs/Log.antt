@@ -8,35 +8,35 @@ use Rattle.std.specs.Int.{to_be_bytes, w32, w64}
 use Rattle.std.specs.List.{flat_map}
 use Rattle.std.specs.Prelude.{List, codes, length, ℕ, [], ◌++◌, ◌∷◌}
 
--- a number in 4 bytes
+-- A number in 4 bytes.
 abbrev pub short : ℕ → List ℕ
 short n = to_be_bytes w32 n
 
--- a number in 8 bytes
+-- A number in 8 bytes.
 abbrev pub long : ℕ → List ℕ
 long n = to_be_bytes w64 n
 
--- bytes or a text with their length before them
+-- Bytes or a text, after their length.
 abbrev pub block : List ℕ → List ℕ
 block bytes = long (length bytes) ++ bytes
 
--- the texts of a list with their count before them
+-- The texts of a list, after their count.
 abbrev pub counted : {A : Type 0} → (A → List ℕ) → List A → List ℕ
 counted text xs = short (length xs) ++ flat_map text xs
 
--- a bucket and a key
+-- A bucket and a key.
 abbrev pub target : List ℕ × List ℕ → List ℕ
 target x = block x.0 ++ block x.1
 
--- a bucket, a key and the number of an upload
+-- A bucket, a key and the id of an upload.
 abbrev pub upload : (List ℕ × List ℕ) × ℕ → List ℕ
 upload x = target x.0 ++ long x.1
 
--- a named part: its number, its tag's digits and the tag's count of parts
+-- A named part: its number, the digits of its tag, and the tag's count of parts.
 abbrev pub named : NamedPart → List ℕ
 named p = (short p.number ++ p.tag.digits) ++ short p.tag.parts
 
--- a change: a byte for its kind, and then its fields
+-- A change: a byte for its kind, and then its fields.
 abbrev pub body : Request → List ℕ
 body (MakeBucket name) = 1 ∷ block name
 body (PutObject bucket key bytes given) = 2 ∷ (target (bucket, key) ++ long (header given)) ++ block bytes
@@ -49,26 +49,26 @@ body (CompleteUpload bucket key id parts) = 8 ∷ upload ((bucket, key), id) ++ 
 body (AbortUpload bucket key id) = 9 ∷ upload ((bucket, key), id)
 body _ = []
 
--- a change with its length before it
+-- A change, after its length.
 abbrev pub record_of : Request → List ℕ
 record_of change = block (body change)
 
--- changes, each behind an open gate
+-- The changes, each after an open gate.
 abbrev pub opened : List Request → List ℕ
 opened changes = flat_map (λ change. 1 ∷ record_of change) changes
 
--- the first 8 bytes of a log
+-- The first 8 bytes of a log.
 abbrev pub magic : List ℕ
 magic = codes "S3ALOG01"
 
--- what stands before the base's bytes
+-- The bytes before the base.
 abbrev pub head : List ℕ → List ℕ
 head base = magic ++ long (length base)
 
--- a base with its length
+-- The base, after the first 8 bytes and its length.
 abbrev pub headed : List ℕ → List ℕ
 headed base = head base ++ base
 
--- a log at rest: its base, its changes, and a closed gate behind them
+-- A log between two changes: its base, its changes, and a closed gate at the end.
 abbrev pub log : List ℕ → List Request → List ℕ
 log base changes = headed base ++ (opened changes ++ 0 ∷ [])

@@ -1,4 +1,4 @@
--- Reading a file from left to right, with the first fault that is met. All faults within a record are told at one place, that of its
+-- Reading a file from left to right, up to the first fault. Every fault within a record is reported at one place, that of the record's
 -- length.
 use Rattle.basics.specs.Reading.{made, passing, ◌>>=◌}
 use Rattle.log_format.specs.Log.{magic}
@@ -18,50 +18,50 @@ use Rattle.std.specs.Prelude.{suc, take, zero, ℕ, [], ◌-◌, ◌==◌, ◌�
 use Rattle.std.specs.Str.{is_utf8}
 use Rattle.basics.specs.Reading as reading
 
--- a value with what is left after it, or a fault
+-- A value with the bytes that are left after it, or a fault.
 abbrev pub Read : Type 0 → Type 0
 Read A = reading.Read LogFault A
 
--- the place of what is left
+-- The place where the rest begins, in bytes from the start of the whole.
 abbrev pub place : ℕ → List ℕ → ℕ
 place whole rest = whole - length rest
 
--- so many bytes
+-- The next n bytes, or a fault.
 unfoldable pub bytes_at : ℕ → ℕ → List ℕ → Read (List ℕ)
 bytes_at at n bytes = if nat_lt (length bytes) n then Err (Bad at) else Ok (take n bytes, drop n bytes)
 
--- one byte
+-- The next byte.
 unfoldable pub byte_at : ℕ → List ℕ → Read ℕ
 byte_at at bytes = made (λ b. slice_index b 0) (bytes_at at 1 bytes)
 
--- a number
+-- The next number.
 unfoldable pub number_at : Width → ℕ → List ℕ → Read ℕ
 number_at w at bytes = made (from_be_bytes w) (bytes_at at (byte_len w) bytes)
 
--- bytes with their length before them
+-- Bytes, after their length.
 unfoldable pub block_at : ℕ → List ℕ → Read (List ℕ)
 block_at at bytes = do
   n ← number_at w64 at bytes
   bytes_at at n.0 n.1
 
--- a text of a kind
+-- A text of this kind, after its length.
 unfoldable pub text_at : (List ℕ → Bool) → ℕ → List ℕ → Read (List ℕ)
 text_at is_kind at bytes = do
   text ← block_at at bytes
   passing is_kind (Bad at) text
 
--- what is read behind a value, together with it
+-- The second value that is read, paired with the first.
 abbrev pub paired : {A B : Type 0} → A → Read B → Read (A × B)
 paired first second = made (λ b. (first, b)) second
 
--- one value and then another
+-- One value and then another.
 unfoldable pub pair_at : {A B : Type 0} → (List ℕ → Read A) → (List ℕ → Read B) → List ℕ → Read (A × B)
 pair_at first second bytes = do
   a ← first bytes
   b ← second a.1
   Ok ((a.0, b.0), b.1)
 
--- so many values
+-- So many values, one after another.
 unfoldable pub list_at : {A : Type 0} → (List ℕ → Read A) → ℕ → List ℕ → Read (List A)
 list_at one zero bytes = Ok ([], bytes)
 list_at one (suc n) bytes = do
@@ -69,88 +69,88 @@ list_at one (suc n) bytes = do
   xs ← list_at one n x.1
   Ok (x.0 ∷ xs.0, xs.1)
 
--- values with their count before them
+-- Values, after their count.
 unfoldable pub counted_at : {A : Type 0} → (List ℕ → Read A) → ℕ → List ℕ → Read (List A)
 counted_at one at bytes = do
   n ← number_at w32 at bytes
   list_at one n.0 n.1
 
--- the 32 digits of a tag
+-- The 32 digits of a tag.
 unfoldable pub digits_at : ℕ → List ℕ → Read (List ℕ)
 digits_at at bytes = do
   digits ← bytes_at at 32 bytes
   passing (list_all is_hex) (Bad at) digits
 
--- a part by its number, its tag's digits and the tag's count of parts
+-- A part, from its number, the digits of its tag and the tag's count of parts.
 abbrev pub named_of : (ℕ × List ℕ) × ℕ → NamedPart
 named_of x = record { number = x.0.0; tag = record { digits = x.0.1; parts = x.1 } }
 
--- a named part
+-- A named part.
 unfoldable pub named_at : ℕ → List ℕ → Read NamedPart
 named_at at bytes = made named_of (pair_at (pair_at (number_at w32 at) (digits_at at)) (number_at w32 at) bytes)
 
--- a bucket and a key
+-- A bucket and a key.
 unfoldable pub target_at : ℕ → List ℕ → Read (List ℕ × List ℕ)
 target_at at bytes = pair_at (text_at is_bucket at) (text_at is_key at) bytes
 
--- a bucket, a key and the number of an upload
+-- A bucket, a key and the id of an upload.
 unfoldable pub upload_at : ℕ → List ℕ → Read ((List ℕ × List ℕ) × ℕ)
 upload_at at bytes = pair_at (target_at at) (number_at w64 at) bytes
 
--- the header that a number stands for
+-- The length header of a number: None for 0, else the number minus 1.
 abbrev pub header_in : ℕ → Option ℕ
 header_in zero = None
 header_in (suc n) = Some n
 
--- what a function makes of the value that is read, with nothing left after it
+-- What a function makes of the value that is read, if nothing is left after it; else a fault.
 abbrev pub alone : {A B : Type 0} → (A → B) → ℕ → Read A → Result B LogFault
 alone make at read = read >>= λ x. if length x.1 == 0 then Ok (make x.0) else Err (Bad at)
 
--- a request of the fields that are read, with nothing left after them
+-- The request of the fields that are read, if nothing is left after them; else a fault.
 unfoldable pub row_of : {A : Type 0} → (A → Request) → (List ℕ → Read A) → ℕ → List ℕ → Result Request LogFault
 row_of make read at bytes = alone make at (read bytes)
 
--- the MakeBucket whose fields these bytes are, or a fault
+-- The MakeBucket with these fields, or a fault.
 unfoldable pub make_bucket_in : ℕ → List ℕ → Result Request LogFault
 make_bucket_in at bytes = row_of MakeBucket (text_at is_utf8 at) at bytes
 
--- the PutObject whose fields these bytes are, or a fault
+-- The PutObject with these fields, or a fault.
 unfoldable pub put_object_in : ℕ → List ℕ → Result Request LogFault
 put_object_in at bytes = row_of (λ x. PutObject x.0.0.0 x.0.0.1 x.1 (header_in x.0.1))
     (pair_at (pair_at (target_at at) (number_at w64 at)) (block_at at)) at bytes
 
--- the DeleteObject whose fields these bytes are, or a fault
+-- The DeleteObject with these fields, or a fault.
 unfoldable pub delete_object_in : ℕ → List ℕ → Result Request LogFault
 delete_object_in at bytes = row_of (λ x. DeleteObject x.0 x.1) (target_at at) at bytes
 
--- the DeleteObjects whose fields these bytes are, or a fault
+-- The DeleteObjects with these fields, or a fault.
 unfoldable pub delete_objects_in : ℕ → List ℕ → Result Request LogFault
 delete_objects_in at bytes = row_of (λ x. DeleteObjects x.0 x.1) (pair_at (text_at is_bucket at) (counted_at (text_at is_key at) at)) at
     bytes
 
--- the CopyObject whose fields these bytes are, or a fault
+-- The CopyObject with these fields, or a fault.
 unfoldable pub copy_object_in : ℕ → List ℕ → Result Request LogFault
 copy_object_in at bytes = row_of (λ x. CopyObject x.0.0 x.0.1 x.1) (pair_at (target_at at) (text_at is_key at)) at bytes
 
--- the CreateUpload whose fields these bytes are, or a fault
+-- The CreateUpload with these fields, or a fault.
 unfoldable pub create_upload_in : ℕ → List ℕ → Result Request LogFault
 create_upload_in at bytes = row_of (λ x. CreateUpload x.0 x.1) (target_at at) at bytes
 
--- the UploadPart whose fields these bytes are, or a fault
+-- The UploadPart with these fields, or a fault.
 unfoldable pub upload_part_in : ℕ → List ℕ → Result Request LogFault
 upload_part_in at bytes = row_of (λ x. UploadPart x.0.0.0.0 x.0.0.0.1 x.0.0.1 x.0.1 x.1)
     (pair_at (pair_at (upload_at at) (number_at w32 at)) (block_at at)) at bytes
 
--- the CompleteUpload whose fields these bytes are, or a fault
+-- The CompleteUpload with these fields, or a fault.
 unfoldable pub complete_upload_in : ℕ → List ℕ → Result Request LogFault
 complete_upload_in at bytes = row_of (λ x. CompleteUpload x.0.0.0 x.0.0.1 x.0.1 x.1) (pair_at (upload_at at) (counted_at (named_at at) at))
     at bytes
 
--- the AbortUpload whose fields these bytes are, or a fault
+-- The AbortUpload with these fields, or a fault.
 unfoldable pub abort_upload_in : ℕ → List ℕ → Result Request LogFault
 abort_upload_in at bytes = row_of (λ x. AbortUpload x.0.0 x.0.1 x.1) (upload_at at) at bytes
 
--- a change by the byte of its kind
+-- The change of this kind with these fields, or a fault.
 unfoldable pub kind_in : ℕ → ℕ → List ℕ → Result Request LogFault
 kind_in at kind bytes =
     if kind == 1 then make_bucket_in at bytes
@@ -164,20 +164,20 @@ kind_in at kind bytes =
     else if kind == 9 then abort_upload_in at bytes
     else Err (Bad at)
 
--- a change
+-- The change that these bytes are, or a fault.
 unfoldable pub change_in : ℕ → List ℕ → Result Request LogFault
 change_in at bytes = do
   kind ← byte_at at bytes
   kind_in at kind.0 kind.1
 
--- a change with its length before it
+-- A change, after its length.
 unfoldable pub record_at : ℕ → List ℕ → Read Request
 record_at at bytes = do
   text ← block_at at bytes
   change ← change_in at text.0
   Ok (change, text.1)
 
--- the changes up to the first gate that is not open, where at most n bytes are left
+-- The changes up to the first gate that is not open. n bounds how many there can be; at n = 0 it is a fault.
 unfoldable pub changes_at : ℕ → ℕ → List ℕ → Result (List Request) LogFault
 changes_at zero whole bytes = Err (Bad (place whole bytes))
 changes_at (suc n) whole bytes = do
@@ -185,26 +185,26 @@ changes_at (suc n) whole bytes = do
   if gate.0 == 1 then (record_at (place whole gate.1) gate.1 >>= λ change. changes_at n whole change.1 >>= λ changes. Ok
       (change.0 ∷ changes)) else Ok []
 
--- a base and the changes after it
+-- A base and the changes after it.
 unfoldable pub logged_in : ℕ → List ℕ → Result Held LogFault
 logged_in whole bytes = do
   base ← block_at 8 bytes
   changes ← changes_at (length base.1) whole base.1
   Ok (record { base = base.0; changes = changes })
 
--- whether a file begins as a log does
+-- True if a file begins as a log does.
 abbrev pub is_log : List ℕ → Bool
 is_log bytes = bytes_eq (take 8 bytes) magic
 
--- what a file holds, or the first fault in it
+-- The base and changes in a file, or its first fault.
 unfoldable pub held_in : List ℕ → Result Held LogFault
 held_in bytes = if is_log bytes then logged_in (length bytes) (drop 8 bytes) else Ok (record { base = bytes; changes = [] })
 
--- how many bytes were read, 0 where there was a fault
+-- How many bytes were read, or 0 if there was a fault.
 abbrev pub length_of : Read (List ℕ) → ℕ
 length_of (Ok x) = length x.0
 length_of (Err fault) = 0
 
--- the length of a file's base, 0 where it runs past the end of a log
+-- The length of a file's base. It is 0 if the base of a log runs past the end.
 unfoldable pub base_length : List ℕ → ℕ
 base_length bytes = if is_log bytes then length_of (block_at 8 (drop 8 bytes)) else length bytes

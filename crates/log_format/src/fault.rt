@@ -7,9 +7,9 @@ use thiserror::Error;
 /// Why bytes are no log.
 #[derive(Clone, Copy, Debug, PartialEq, Eq, Error)]
 pub enum LogFault {
-    /// The place in bytes from the start of the first fault: 8 where the base runs past the end, that of a
-    /// gate that is due past the end, or that of a record's length where the record runs past the end or
-    /// is no change.
+    /// The place of the first fault, in bytes from the start. If the base runs past the end, it is
+    /// 8. If a gate is missing at the end, it is the place of that gate. If a record runs past the
+    /// end or is no change, it is the place of the record's length.
     #[error("bad log at {0}")]
     Bad(u64),
     #[error("no memory")]

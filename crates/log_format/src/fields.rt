@@ -14,14 +14,15 @@ use s3_types::{
 };
 use std::alloc::Global;
 
-/// The place of what is left of a whole of so many bytes.
+/// Returns the place where the rest of a whole begins, which has `whole` bytes.
 pub fn place_of(whole: u64, rest: &[u8]) -> u64
     ensures { result ≡ place whole rest.now }
 {
     whole.saturating_sub(rest.len() as u64)
 }
 
-/// The next `count` bytes, and what is left. The fault's place is `at`.
+/// Returns the next `count` bytes, and the bytes after them. Else fails with Bad and the place
+/// `at`.
 #[tactic(auto, unfolding(crate::specs::Reading::bytes_at))]
 pub fn front<'b>(at: u64, count: u64, bytes: &'b [u8]) -> Result<(&'b [u8], &'b [u8]), LogFault>
     ensures exact { GivesBy (λ x. (x.0.now, x.1.now)) result (bytes_at at count bytes.now) }
@@ -34,7 +35,7 @@ pub fn front<'b>(at: u64, count: u64, bytes: &'b [u8]) -> Result<(&'b [u8], &'b 
     Ok(bytes.split_at(count as usize))
 }
 
-/// The next byte, and the bytes behind it; else Bad with the place `at`.
+/// Returns the next byte, and the bytes after it. Else fails with Bad and the place `at`.
 #[tactic(auto, unfolding(crate::specs::Reading::bytes_at, crate::specs::Reading::byte_at))]
 pub fn byte_of(at: u64, bytes: &[u8]) -> Result<(u8, &[u8]), LogFault>
     ensures { GivesBy (λ x. (x.0, x.1.now)) result (byte_at at bytes.now) }
@@ -43,7 +44,8 @@ pub fn byte_of(at: u64, bytes: &[u8]) -> Result<(u8, &[u8]), LogFault>
     Ok((b[0], rest))
 }
 
-/// The next 4 bytes as a number, and the bytes behind them; else Bad with the place `at`.
+/// Returns the next 4 bytes as a number, and the bytes after them. Else fails with Bad and the
+/// place `at`.
 #[tactic(auto, unfolding(crate::specs::Reading::bytes_at, crate::specs::Reading::number_at))]
 pub fn u32_of(at: u64, bytes: &[u8]) -> Result<(u32, &[u8]), LogFault>
     ensures { GivesBy (λ x. (x.0, x.1.now)) result (number_at w32 at bytes.now) }
@@ -52,7 +54,8 @@ pub fn u32_of(at: u64, bytes: &[u8]) -> Result<(u32, &[u8]), LogFault>
     Ok((u32::from_be_bytes([n[0], n[1], n[2], n[3]]), rest))
 }
 
-/// The next 8 bytes as a number, and the bytes behind them; else Bad with the place `at`.
+/// Returns the next 8 bytes as a number, and the bytes after them. Else fails with Bad and the
+/// place `at`.
 #[tactic(auto, unfolding(crate::specs::Reading::bytes_at, crate::specs::Reading::number_at))]
 pub fn u64_of(at: u64, bytes: &[u8]) -> Result<(u64, &[u8]), LogFault>
     ensures exact { GivesBy (λ x. (x.0, x.1.now)) result (number_at w64 at bytes.now) }
@@ -63,7 +66,7 @@ pub fn u64_of(at: u64, bytes: &[u8]) -> Result<(u64, &[u8]), LogFault>
     Ok((number, rest))
 }
 
-/// Bytes with their length in 8 bytes before them.
+/// Reads bytes, after their length in 8 bytes.
 #[tactic(auto, unfolding(crate::specs::Reading::block_at))]
 pub fn block_of(at: u64, bytes: &[u8]) -> Result<(&[u8], &[u8]), LogFault>
     ensures exact { GivesBy (λ x. (x.0.now, x.1.now)) result (block_at at bytes.now) }
@@ -73,7 +76,7 @@ pub fn block_of(at: u64, bytes: &[u8]) -> Result<(&[u8], &[u8]), LogFault>
     front(at, count, rest)
 }
 
-/// The same, copied.
+/// Reads bytes, after their length in 8 bytes, and copies them.
 pub fn bytes_of<'b>(alloc: Global, at: u64, bytes: &'b [u8]) -> Result<(Bytes, &'b [u8]), LogFault>
     ensures { GivesBy (λ x. (x.0, x.1.now)) result (block_at at bytes.now) }
 {
@@ -81,7 +84,7 @@ pub fn bytes_of<'b>(alloc: Global, at: u64, bytes: &'b [u8]) -> Result<(Bytes, &
     Ok((Bytes::from_slice(alloc, block)?, rest))
 }
 
-/// Any text.
+/// Reads a text.
 #[tactic(auto, unfolding(crate::specs::Reading::text_at))]
 pub fn text_of<'b>(alloc: Global, at: u64, bytes: &'b [u8]) -> Result<(Text, &'b [u8]), LogFault>
     ensures { GivesBy (λ x. (x.0, x.1.now)) result (text_at is_utf8 at bytes.now) }
@@ -93,7 +96,7 @@ pub fn text_of<'b>(alloc: Global, at: u64, bytes: &'b [u8]) -> Result<(Text, &'b
     Ok((Text::copied(alloc, text)?, rest))
 }
 
-/// A bucket's name.
+/// Reads a bucket's name.
 #[tactic(auto, unfolding(crate::specs::Reading::text_at))]
 pub fn bucket_of<'b>(
     alloc: Global,
@@ -110,7 +113,7 @@ pub fn bucket_of<'b>(
     }
 }
 
-/// A key.
+/// Reads a key.
 #[tactic(auto, unfolding(crate::specs::Reading::text_at))]
 pub fn key_of<'b>(alloc: Global, at: u64, bytes: &'b [u8]) -> Result<(Key, &'b [u8]), LogFault>
     ensures { GivesBy (λ x. (x.0, x.1.now)) result (text_at is_key at bytes.now) }
@@ -123,7 +126,7 @@ pub fn key_of<'b>(alloc: Global, at: u64, bytes: &'b [u8]) -> Result<(Key, &'b [
     }
 }
 
-/// So many keys.
+/// Reads `count` keys.
 #[tactic(auto, unfolding(crate::specs::Reading::list_at))]
 fn keys_in<'b>(
     alloc: Global,
@@ -147,7 +150,7 @@ fn keys_in<'b>(
     Ok((Sequence::from_vec(keys), rest))
 }
 
-/// Keys with their count in 4 bytes before them.
+/// Reads keys, after their count in 4 bytes.
 #[tactic(auto, unfolding(crate::specs::Reading::counted_at))]
 pub fn keys_of<'b>(alloc: Global, at: u64, bytes: &'b [u8]) -> Result<(KeyList, &'b [u8]), LogFault>
     ensures { GivesBy (λ x. (x.0, x.1.now)) result (counted_at (text_at is_key at) at bytes.now) }
@@ -156,7 +159,7 @@ pub fn keys_of<'b>(alloc: Global, at: u64, bytes: &'b [u8]) -> Result<(KeyList, 
     keys_in(alloc, at, count, rest)
 }
 
-/// The 32 digits of a tag.
+/// Reads the 32 digits of a tag.
 #[tactic(auto, unfolding(crate::specs::Reading::bytes_at, crate::specs::Reading::digits_at))]
 fn digits_of(at: u64, bytes: &[u8]) -> Result<([u8; 32], &[u8]), LogFault>
     ensures exact { GivesBy (λ x. (x.0, x.1.now)) result (digits_at at bytes.now) }
@@ -172,7 +175,7 @@ fn digits_of(at: u64, bytes: &[u8]) -> Result<([u8; 32], &[u8]), LogFault>
     Ok((digits, rest))
 }
 
-/// A named part: its number, its tag's digits and the tag's count of parts.
+/// Reads a named part: its number, the digits of its tag, and the tag's count of parts.
 #[tactic(auto, unfolding(crate::specs::Reading::named_at, crate::specs::Reading::pair_at))]
 fn named_of(at: u64, bytes: &[u8]) -> Result<(NamedPart, &[u8]), LogFault>
     ensures { GivesBy (λ x. (x.0, x.1.now)) result (named_at at bytes.now) }
@@ -184,7 +187,7 @@ fn named_of(at: u64, bytes: &[u8]) -> Result<(NamedPart, &[u8]), LogFault>
     Ok((NamedPart { number, tag }, rest))
 }
 
-/// So many named parts.
+/// Reads `count` named parts.
 #[tactic(auto, unfolding(crate::specs::Reading::list_at))]
 fn parts_in(alloc: Global, at: u64, count: u32, bytes: &[u8]) -> Result<(PartList, &[u8]), LogFault>
     ensures { GivesBy (λ x. (x.0, x.1.now)) result (list_at (named_at at) count bytes.now) }
@@ -203,7 +206,7 @@ fn parts_in(alloc: Global, at: u64, count: u32, bytes: &[u8]) -> Result<(PartLis
     Ok((Sequence::from_vec(parts), rest))
 }
 
-/// Named parts with their count in 4 bytes before them.
+/// Reads named parts, after their count in 4 bytes.
 #[tactic(auto, unfolding(crate::specs::Reading::counted_at))]
 pub fn parts_of<'b>(
     alloc: Global,
@@ -216,7 +219,7 @@ pub fn parts_of<'b>(
     parts_in(alloc, at, count, rest)
 }
 
-/// One value and the one that was read behind it.
+/// Returns the first value together with the one that was read after it.
 pub fn pair_of<'b, A: Drop, B>(
     first: A,
     second: Result<(B, &'b [u8]), LogFault>,
@@ -232,7 +235,7 @@ pub fn pair_of<'b, A: Drop, B>(
     }
 }
 
-/// A bucket and a key.
+/// Reads a bucket and a key.
 #[tactic(auto, unfolding(crate::specs::Reading::target_at, crate::specs::Reading::pair_at))]
 pub fn target_of<'b>(
     alloc: Global,
@@ -245,7 +248,7 @@ pub fn target_of<'b>(
     pair_of(bucket, key_of(alloc, at, rest))
 }
 
-/// A bucket, a key and the number of an upload.
+/// Reads a bucket, a key and the id of an upload.
 #[tactic(auto, unfolding(crate::specs::Reading::upload_at, crate::specs::Reading::pair_at))]
 pub fn upload_of<'b>(
     alloc: Global,
@@ -258,7 +261,7 @@ pub fn upload_of<'b>(
     pair_of(target, u64_of(at, rest))
 }
 
-/// A bucket, a key, the number of an upload and that of a part.
+/// Reads a bucket, a key, the id of an upload and the number of a part.
 #[tactic(auto, unfolding(crate::specs::Reading::pair_at))]
 pub fn part_of<'b>(
     alloc: Global,
@@ -272,7 +275,7 @@ pub fn part_of<'b>(
     pair_of(upload, u32_of(at, rest))
 }
 
-/// The header that a number stands for: 0 for none, and else the length plus 1.
+/// Returns the header of a number: None for 0, else the number minus 1.
 pub fn header_of(number: u64) -> Option<LengthHeader>
     ensures { result ≡ header_in number }
 {

@@ -3,7 +3,7 @@ use s3_types::{Bytes, Request, Sequence};
 /// Requests in order.
 pub type RequestList = Sequence<Request>;
 
-/// What is kept of a store: an image, which is the base, and the changing requests after it, in order.
+/// A stored store: an image, which is the base, and the changing requests after it, in order.
 #[derive(Drop)]
 pub struct Held {
     pub base: Bytes,

@@ -1,12 +1,16 @@
-//! The log of a store: a base, which is an image, and the changes after it, as the bytes of one file.
-//! Every file is read as a base and its changes, or has a first fault.
+//! The log of a store: a base, which is an image, and the changes after it, as the bytes of one
+//! file. Every file is read as a base and its changes, or has a first fault.
 //!
 //! # What is proved
 //!
-//! `read_log`, `write_record`, `base_length`: `read_log` answers a base and changes exactly where the file
-//! stands for them, and else the first fault in reading order by its place, for every list of bytes
-//! (`exact`, `found`, `only`). `write_record` writes the one text of a changing request, which is read as
-//! that request again. Left open: a request that names 2^32 keys or parts has no record.
+//! - `read_log`: returns a base and changes exactly if the file stands for them. Otherwise it
+//!   returns the place of the first fault in reading order, for every list of bytes (`exact`,
+//!   `found`, `only`).
+//! - `write_record`: writes the one text of a changing request. Reading that text gives the
+//!   request again.
+//! - `base_length`: returns the length of a file's base.
+//!
+//! Left open: a request that names 2^32 keys or parts has no record.
 #![tactic(auto)]
 
 mod fault;

@@ -13,7 +13,7 @@ use crate::rows::change_of;
 use s3_types::{Bytes, Request, Sequence, let_go};
 use std::alloc::Global;
 
-/// A change with its length before it, whose place is `at`.
+/// Reads a change, after its length, which is at the place `at`.
 #[tactic(auto, unfolding(crate::specs::Reading::record_at))]
 fn record<'b>(alloc: Global, at: u64, bytes: &'b [u8]) -> Result<(Request, &'b [u8]), LogFault>
     ensures { GivesBy (λ x. (x.0, x.1.now)) result (record_at at bytes.now) }
@@ -25,7 +25,7 @@ fn record<'b>(alloc: Global, at: u64, bytes: &'b [u8]) -> Result<(Request, &'b [
     }
 }
 
-/// Adds the change whose length stands at `at`, and gives what is left after it.
+/// Adds the change whose length is at the place `at`, and returns the bytes after it.
 fn add_record<'b>(
     alloc: Global,
     at: u64,
@@ -68,7 +68,7 @@ fn add_changes(
     Err(LogFault::Bad(place_of(whole, rest)))
 }
 
-/// The changes up to the first gate that is not open.
+/// Reads the changes up to the first gate that is not open.
 fn changes_of(alloc: Global, whole: u64, bytes: &[u8]) -> Result<RequestList, LogFault>
     ensures { Gives result (changes_at (length bytes.now) whole bytes.now) }
 {
@@ -82,7 +82,7 @@ fn changes_of(alloc: Global, whole: u64, bytes: &[u8]) -> Result<RequestList, Lo
     }
 }
 
-/// A base and the changes after it.
+/// Reads a base and the changes after it.
 #[tactic(auto, unfolding(crate::specs::Reading::logged_in))]
 fn logged(alloc: Global, whole: u64, bytes: &[u8]) -> Result<Held, LogFault>
     ensures { Gives result (logged_in whole bytes.now) }
@@ -92,7 +92,7 @@ fn logged(alloc: Global, whole: u64, bytes: &[u8]) -> Result<Held, LogFault>
     Ok(Held { base, changes })
 }
 
-/// What stands behind a log's first 8 bytes.
+/// Returns the bytes after a log's first 8 bytes, or None if the bytes do not begin so.
 fn behind_magic(bytes: &[u8]) -> Option<&[u8]>
     ensures found { is_some result ≡ is_log bytes.now }
     ensures rest { IfSome result (λ rest. rest.now ≡ drop 8 bytes.now) }
@@ -105,8 +105,8 @@ fn behind_magic(bytes: &[u8]) -> Option<&[u8]>
     }
 }
 
-/// The length in bytes of the base of a file: of a log's base, 0 where that runs past the end, and else of
-/// the file. Takes no memory.
+/// Returns the length of a file's base in bytes. If the file is a log, that is its base's length,
+/// or 0 if the base runs past the end; else it is the file's length. Takes no memory.
 #[tactic(auto, unfolding(crate::specs::Reading::base_length))]
 pub fn base_length(file: &[u8]) -> u64
     ensures { result ≡ base_length file.now }
@@ -120,7 +120,7 @@ pub fn base_length(file: &[u8]) -> u64
     }
 }
 
-/// What a file holds, or the first fault in it.
+/// Reads the base and changes in a file, or its first fault.
 #[tactic(auto, unfolding(crate::specs::Reading::held_in))]
 fn held_of(alloc: Global, file: &Bytes, bytes: &[u8]) -> Result<Held, LogFault>
     requires { bytes.now ≡ file.now }
@@ -137,7 +137,7 @@ fn held_of(alloc: Global, file: &Bytes, bytes: &[u8]) -> Result<Held, LogFault>
     }
 }
 
-/// What a file holds, by its bytes.
+/// Reads the base and changes in a file from its bytes.
 fn read_bytes(alloc: Global, file: &Bytes, bytes: &[u8]) -> Result<Held, LogFault>
     requires { bytes.now ≡ file.now }
     ensures exact { Gives result (held_in bytes.now) }
@@ -147,11 +147,11 @@ fn read_bytes(alloc: Global, file: &Bytes, bytes: &[u8]) -> Result<Held, LogFaul
     held_of(alloc, file, bytes)
 }
 
-/// Reads a file in one pass. One that does not begin with `S3ALOG01` is a base without changes, and its
-/// bytes are shared. Reading stops at the first gate that is not open. Each byte is copied once at most,
-/// and no memory is taken on the word of a length or of a count.
+/// Reads a file in one pass. A file that does not begin with `S3ALOG01` is a base without changes;
+/// its bytes are shared. Reading stops at the first gate that is not open. It copies each byte at
+/// most once, and reserves no memory just because a length or a count says so.
 pub fn read_log(alloc: Global, file: &Bytes) -> Result<Held, LogFault>
-    // Which fault it is, and its place.
+    // It says which fault it is, and its place.
     ensures exact { Gives result (held_in file.now) }
     // The file stands for what is read.
     ensures found { IfOk result (λ held. StandsFor file.now held) }

@@ -11,7 +11,7 @@ use crate::fields::{
 use s3_types::{Request, let_go};
 use std::alloc::Global;
 
-/// What was read, with nothing left behind it.
+/// Returns the value that was read, if nothing is left after it.
 fn alone_of<T: Drop>(at: u64, read: Result<(T, &[u8]), LogFault>) -> Result<T, LogFault>
     ensures { (make : T → RequestValue) → (given : Read T) → GivesBy (λ x. (x.0, x.1.now)) read.entry given →
         GivesBy make result (alone make at given) }
@@ -154,7 +154,7 @@ fn abort_upload_of(alloc: Global, at: u64, bytes: &[u8]) -> Result<Request, LogF
     }
 }
 
-/// A change by the byte of its kind.
+/// Reads a change of this kind.
 #[tactic(auto, unfolding(crate::specs::Reading::kind_in))]
 fn kind_of(alloc: Global, at: u64, kind: u8, bytes: &[u8]) -> Result<Request, LogFault>
     ensures { Gives result (kind_in at kind bytes.now) }
@@ -173,7 +173,7 @@ fn kind_of(alloc: Global, at: u64, kind: u8, bytes: &[u8]) -> Result<Request, Lo
     }
 }
 
-/// A change, of which the bytes are the whole. All its faults are told at the place `at`.
+/// Reads a change that all these bytes are. Every fault is reported at the place `at`.
 #[tactic(auto, unfolding(crate::specs::Reading::change_in))]
 pub fn change_of(alloc: Global, at: u64, bytes: &[u8]) -> Result<Request, LogFault>
     ensures { Gives result (change_in at bytes.now) }

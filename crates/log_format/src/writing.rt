@@ -9,7 +9,7 @@ ghost use Rattle.log_format.specs.Log as spelled;
 use s3_types::{Bucket, Bytes, Key, LengthHeader, NamedPart, Request, Text};
 use std::alloc::AllocError;
 
-/// Whether a request may change what a store holds. Takes no memory.
+/// Whether a request may change a store. Takes no memory.
 pub fn is_changing(request: &Request) -> bool
     ensures { result ≡ known.is_changing request.now }
 {
@@ -27,7 +27,7 @@ pub fn is_changing(request: &Request) -> bool
     }
 }
 
-/// Whether the keys or parts that a request names can be counted in 4 bytes. Takes no memory.
+/// Whether 4 bytes can count the keys or parts that a request names. Takes no memory.
 pub fn can_write(request: &Request) -> bool
     ensures { result ≡ nat_lt (named_in request.now) (2 ^ 32) }
 {
@@ -39,7 +39,7 @@ pub fn can_write(request: &Request) -> bool
     (named as u64) < 1 << 32
 }
 
-/// What stands before a base of so many bytes.
+/// Returns the bytes before a base of this length.
 pub fn head_of(length: u64) -> [u8; 16]
     ensures { result ≡ spelled.magic ++ long length }
 {
@@ -69,7 +69,7 @@ fn put_block(out: &mut Vec<u8>, bytes: &[u8]) -> Result<(), AllocError>
     out.extend_from_slice(bytes)
 }
 
-/// A text's bytes, which are UTF-8.
+/// Returns the bytes of a text, which are UTF-8.
 fn utf8_of(text: &Text) -> &[u8]
     ensures same { result.now ≡ text.now }
     ensures utf8 { IsText text.now }
@@ -91,7 +91,7 @@ fn put_bucket(out: &mut Vec<u8>, bucket: &Bucket) -> Result<(), AllocError>
     put_block(out, bucket.as_bytes())
 }
 
-/// A key's bytes.
+/// Returns the bytes of a key.
 fn key_bytes(key: &Key) -> &[u8]
     ensures same { result.now ≡ key.now }
     ensures legal { IsKey key.now }
@@ -198,7 +198,7 @@ fn put_part(
     put_block(out, bytes.as_slice())
 }
 
-/// The byte of a change's kind.
+/// Returns the byte of a change's kind.
 fn kind_of(change: &Request) -> u8
     requires { known.is_changing change.now ≡ true }
     ensures { result ∷ drop 1 (body change.now) ≡ body change.now }
@@ -271,7 +271,7 @@ fn put_fields(out: &mut Vec<u8>, change: &Request) -> Result<(), AllocError>
     }
 }
 
-/// The length in bytes of what is behind the first 8 bytes, in their place.
+/// Writes the length in bytes of everything after the first 8 bytes over these 8 bytes.
 fn set_length(written: &mut [u8])
     requires { 8 ≤ length written.old }
     ensures { written.new ≡ long (length written.old - 8) ++ drop 8 written.old }
@@ -280,7 +280,7 @@ fn set_length(written: &mut [u8])
     place.copy_from_slice(&(text.len() as u64).to_be_bytes());
 }
 
-/// Writes a change with its length before it and a closed gate behind it, in place of what the buffer had.
+/// Replaces the buffer's content by a change, after its length, and a closed gate.
 pub fn write_record(buffer: &mut Vec<u8>, change: &Request) -> Result<(), AllocError>
     requires changing { known.is_changing change.now ≡ true }
     requires few { named_in change.now < 2 ^ 32 }

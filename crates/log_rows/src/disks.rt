@@ -18,13 +18,13 @@ pub const IMAGE: &str = "log-rows-folder/store.img";
 /// The file that a swap writes first.
 const FRESH: &str = "log-rows-folder/store.tmp";
 
-/// Another name of the file that stands at first.
+/// Another name of the first file.
 const OTHER: &str = "log-rows-folder/first.img";
 
-/// The calls that are made where there is no folder.
+/// The calls that are made without a folder.
 const WITHOUT_FOLDER: [Call; 3] = [Call::Sync, Call::Read, Call::Swap];
 
-/// The calls that are made where there is no file.
+/// The calls that are made without a file.
 const WITHOUT_FILE: [Call; 3] = [Call::Sync, Call::Read, Call::Write];
 
 const CALLS: [Call; 4] = [Call::Read, Call::Swap, Call::Write, Call::Sync];
@@ -40,7 +40,7 @@ const FAULTS: [(Fault, &str); 8] = [
     (Fault::Rename, "no file is renamed"),
 ];
 
-/// Two calls of one disk, each with what goes wrong with it.
+/// Two calls of one disk, each with its fault.
 const PAIRS: [([(Call, Fault); 2], &str, &str); 6] = [
     (
         [
@@ -83,7 +83,7 @@ const PAIRS: [([(Call, Fault); 2], &str, &str); 6] = [
 /// A call of a disk.
 #[derive(Clone, Copy)]
 pub enum Call {
-    /// The write of the file that stands at first.
+    /// The write of the first file.
     First,
     Read,
     Swap,
@@ -102,7 +102,7 @@ pub fn call_text(call: Call) -> &'static str {
     }
 }
 
-/// The bytes as text, of which these rows have no other.
+/// The bytes as text; these rows use no other bytes.
 pub fn text_of(bytes: &[u8]) -> &str {
     str::from_utf8(bytes).unwrap_or("no text")
 }
@@ -120,7 +120,7 @@ fn put_done(line: &mut String, done: Result<(), Failed>) -> Result<(), AllocErro
     line.push_str(if done.is_ok() { "done" } else { "failed" })
 }
 
-/// What a call answers.
+/// Writes the answer of a call.
 pub fn put_answer<R: Files<File = File>>(
     line: &mut String,
     disk: &mut FileDisk<Faulty<'_, R>>,
@@ -140,7 +140,7 @@ pub fn put_answer<R: Files<File = File>>(
     }
 }
 
-/// What calls answer, one behind the other, where this goes wrong with each.
+/// Writes the answers of calls in a row, each made with its fault.
 fn put_answers<R: Files<File = File>>(
     line: &mut String,
     disk: &mut FileDisk<Faulty<'_, R>>,
@@ -157,7 +157,7 @@ fn put_answers<R: Files<File = File>>(
     Ok(())
 }
 
-/// What calls of a new disk of the folder answer.
+/// Writes the answers of calls of a new disk of the folder.
 fn put_calls<R: Files<File = File>>(
     rt: &R,
     alloc: Global,
@@ -172,15 +172,15 @@ fn put_calls<R: Files<File = File>>(
     put
 }
 
-/// A file `first` under two names, of which the second stays with it. Where it cannot be written, there is
-/// none to name.
+/// Writes a file `first` and gives it a second name, under which it stays. If it cannot be written,
+/// there is no file to name.
 pub fn begin<R: Files<File = File>>(rt: &R, alloc: Global) -> io::Result<()> {
     let mut line = String::new(alloc);
     put_calls(rt, alloc, &mut line, &[(Call::First, Fault::Nothing)])?;
     fs::hard_link(rt, IMAGE, OTHER)
 }
 
-/// The bytes of a file of the folder, where it stands there.
+/// Writes the bytes of a file of the folder, or `no file`.
 fn put_file<R: Files<File = File>>(
     rt: &R,
     alloc: Global,
@@ -195,7 +195,8 @@ fn put_file<R: Files<File = File>>(
     Ok(line.push_str(text_of(&bytes))?)
 }
 
-/// What the file then has, under its name and as the old one, and whether a `store.tmp` is beside it.
+/// Writes what is left: the file under its name, the first file under its other name, and whether
+/// there is a `store.tmp`.
 pub fn put_left<R: Files<File = File>>(rt: &R, alloc: Global, line: &mut String) -> io::Result<()> {
     line.push_str(", then ")?;
     put_file(rt, alloc, line, IMAGE)?;
@@ -207,7 +208,7 @@ pub fn put_left<R: Files<File = File>>(rt: &R, alloc: Global, line: &mut String)
     fs::remove_file(rt, OTHER)
 }
 
-/// What calls answer where something fails, and what they leave.
+/// Writes the answers of calls with faults, and what they leave.
 fn put_fault<R: Files<File = File>>(
     rt: &R,
     alloc: Global,
@@ -252,7 +253,7 @@ fn show_pairs<R: Print + Files<File = File>>(rt: &R, alloc: Global) -> io::Resul
     Ok(())
 }
 
-/// What a call answers where there is no file, or no folder.
+/// Shows the answer of a call without a file, or without a folder.
 fn show_missing<R: Print + Files<File = File>>(
     rt: &R,
     alloc: Global,
@@ -276,7 +277,7 @@ fn show_all_missing<R: Print + Files<File = File>>(
     Ok(())
 }
 
-/// What a folder's file answers, and streams over it.
+/// Shows the answers of calls of a folder's file, and of streams over it.
 pub fn show_disks<R: Print + Files<File = File>>(rt: &R, alloc: Global) -> io::Result<()> {
     show_all_missing(rt, alloc, &WITHOUT_FOLDER, "folder")?;
     fs::create_dir(rt, FOLDER)?;

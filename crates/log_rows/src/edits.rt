@@ -3,21 +3,21 @@ use s3_types::Bytes;
 use std::alloc::{AllocError, Global};
 use std::io;
 
-/// What is done with a file's bytes, once for each number.
+/// An edit of a file's bytes, made once for each number.
 #[derive(Clone, Copy)]
 pub enum Edit {
-    /// So many of the first bytes are left.
+    /// Keeps as many of the first bytes as the number says.
     Prefix,
-    /// The byte at that place is set to a value.
+    /// Sets the byte at that place to a value.
     Set(u8),
-    /// The byte at that place is turned by a mask.
+    /// Flips the bits of a mask in the byte at that place.
     Turn(u8),
-    /// The byte at a place is set to that value.
+    /// Sets the byte at a place to the value that the number is.
     Value(usize),
 }
 
 impl Edit {
-    /// How many numbers there are for a file of so many bytes.
+    /// The count of numbers for a file of so many bytes.
     fn count(self, length: usize) -> usize {
         match self {
             Edit::Prefix => length.saturating_add(1),
@@ -45,7 +45,7 @@ fn edited(alloc: Global, bytes: &[u8], edit: Edit, number: usize) -> Result<Byte
     Bytes::new(alloc, copy)
 }
 
-/// Numbers in a row by which the file holds the same.
+/// Numbers in a row after whose edits the file holds the same.
 #[derive(Clone, Copy)]
 struct Run {
     first: usize,
@@ -62,7 +62,8 @@ fn show_run(rt: &impl Print, run: Run) -> io::Result<()> {
     }
 }
 
-/// The run with one number more, or a new one once the run before it is shown.
+/// The run with one number more. If this number finds something else, the run is shown and a new
+/// one begins.
 fn next_run(rt: &impl Print, run: Option<Run>, number: usize, found: Found) -> io::Result<Run> {
     let mut first = number;
     if let Some(run) = run {
@@ -79,7 +80,7 @@ fn next_run(rt: &impl Print, run: Option<Run>, number: usize, found: Found) -> i
     })
 }
 
-/// What the file holds after the edit, for each number.
+/// Shows what the file holds after the edit, for each number.
 pub fn show_edits(rt: &impl Print, alloc: Global, bytes: &[u8], edit: Edit) -> io::Result<()> {
     let mut run: Option<Run> = None;
     for number in 0..edit.count(bytes.len()) {

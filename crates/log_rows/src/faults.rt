@@ -6,13 +6,13 @@ use std::io;
 use std::io::{Read, Seek, SeekFrom, Write};
 use std::rt::Files;
 
-/// What goes wrong with the calls of a file system.
+/// A fault of the calls of a file system.
 #[derive(Clone, Copy, PartialEq, Eq)]
 pub enum Fault {
     Nothing,
     /// No file is opened.
     Open,
-    /// A file fails behind its first byte.
+    /// A file fails after its first byte.
     Read,
     /// One byte is read or written at a time.
     Short,
@@ -28,20 +28,21 @@ pub enum Fault {
     Rename,
     /// Another program has each lock.
     Locked,
-    /// There are no locks.
+    /// Locks are not supported.
     NoLocks,
-    /// No path is looked at.
+    /// No path can be looked at.
     Look,
 }
 
-/// A file system of which some calls fail, by what goes wrong at that time, and all that a disk does not make.
+/// A file system that fails as its fault says at the time of a call. It also fails each call that a
+/// disk does not make.
 #[derive(Drop)]
 pub struct Faulty<'r, R> {
     rt: &'r R,
     fault: &'r Cell<Fault>,
 }
 
-/// An open file or folder of it.
+/// An open file or folder of a faulty file system.
 #[derive(Drop)]
 pub struct FaultyFile<'r, F> {
     file: F,
@@ -51,7 +52,7 @@ pub struct FaultyFile<'r, F> {
 }
 
 impl<'r, R> Faulty<'r, R> {
-    /// A runtime of which the call fails that `fault` names.
+    /// A runtime whose calls fail as `fault` says.
     pub fn new(rt: &'r R, fault: &'r Cell<Fault>) -> Faulty<'r, R> {
         Faulty { rt, fault }
     }
@@ -108,7 +109,7 @@ impl<'r, F: OpenFile + Drop> OpenFile for FaultyFile<'r, F> {
         Err(failed())
     }
 
-    /// Of a folder alone: its names last.
+    /// Works only for a folder, whose names a disk syncs with it.
     fn sync_all(&self) -> io::Result<()> {
         if !self.is_folder || self.fault.get() == Fault::FolderSync {
             return Err(failed());
@@ -116,7 +117,7 @@ impl<'r, F: OpenFile + Drop> OpenFile for FaultyFile<'r, F> {
         self.file.sync_all()
     }
 
-    /// Of a file alone: its bytes and its length last.
+    /// Works only for a file, whose bytes and length a disk syncs with it.
     fn sync_data(&self) -> io::Result<()> {
         if self.is_folder || self.fault.get() == Fault::Sync {
             return Err(failed());

@@ -5,14 +5,14 @@ use shelf::kept::{Held, LoadFault, Shelf};
 use std::alloc::Global;
 use std::fmt;
 
-/// What a shelf over a disk with this file loads.
+/// Loads a shelf over a disk with this file.
 pub fn load(alloc: Global, file: Option<Bytes>) -> Result<Option<Held>, LoadFault> {
     let disk = MemDisk::new(alloc, file, CallList::new(alloc), None);
     let mut shelf = LogShelf::new(alloc, disk);
     shelf.load()
 }
 
-/// What was loaded, by its size or its fault.
+/// What was loaded: its size or its fault.
 #[derive(Clone, Copy, PartialEq, Eq)]
 pub enum Found {
     Nothing,
@@ -33,7 +33,7 @@ pub fn find(alloc: Global, file: Bytes) -> Found {
     }
 }
 
-/// A fault of loading, in words.
+/// The text of a fault of loading.
 pub fn fault_text(fault: LoadFault) -> &'static str {
     match fault {
         LoadFault::Failed => "failed",

@@ -7,13 +7,13 @@ use shelf::kept::{Held, LoadFault};
 use std::alloc::{AllocError, Global};
 use std::fmt;
 
-/// What is held at the end of a play.
+/// What is held at the end of a run.
 #[derive(Clone, Copy)]
 pub enum Left {
     Nothing,
-    /// The base that was played, and so many of the changes behind it.
+    /// The new base, and so many of the changes after it.
     Changes(usize),
-    /// What was held before the play.
+    /// What was held before the run.
     Before,
     Another,
     Fault(LoadFault),
@@ -31,7 +31,7 @@ impl fmt::Display for Left {
     }
 }
 
-/// A base with its length, and the changes behind it, each as a log has it.
+/// A base with its length, and the changes after it, each as a log has it.
 pub fn written(alloc: Global, base: &[u8], changes: &[Request]) -> Result<Vec<u8>, AllocError> {
     let mut bytes = Vec::new(alloc);
     let mut record = Vec::new(alloc);
@@ -46,7 +46,7 @@ pub fn written(alloc: Global, base: &[u8], changes: &[Request]) -> Result<Vec<u8
     Ok(bytes)
 }
 
-/// What a crash may leave of a play, by what is held.
+/// Which of the states that a crash may leave this is.
 pub fn held_left(alloc: Global, play: Play<'_>, held: &Held) -> Result<Left, AllocError> {
     let bytes = written(alloc, held.base.as_slice(), held.changes.as_slice())?;
     if play.whole.starts_with(&bytes) {
@@ -70,7 +70,7 @@ fn loaded_left(
     }
 }
 
-/// What loads after a crash.
+/// What is loaded after a crash.
 pub fn crash_left(
     alloc: Global,
     play: Play<'_>,

@@ -1,19 +1,27 @@
-//! What a log holds, and what a crash leaves of one. Each line of standard input is shown as it is, and behind it
-//! what it asks for. `log HEX ..` takes these bytes as the file. Of it `read` tells what it holds, `prefixes` what each
-//! of its prefixes does, `set VALUE` and `turn MASK` what it holds with one byte after the other set to a value or
-//! turned by a mask, `values PLACE` with the byte at a place set to each value, and `number PLACE NUMBER` with this
-//! number in the 8 bytes there. What is alike is told once, from its first place or value to its last.
+//! Shows what a log holds, and what a crash leaves of it. Each line of standard input is shown as
+//! it is, and after it the answer.
 //!
-//! `changes HEX` takes the changes of a log, which plays append. `play BASE` loads the file, or no file where `log` has no
-//! bytes, replaces it by a base of these bytes and appends those changes, over a disk in memory. It tells the calls and the file that they leave, and then, for each
-//! number of calls after which the disk stops, and for each call that fails alone, how many appends were answered, and
-//! what loads after a crash by what became of the ranges that were not synced: how many of the changes, `before` for
-//! what was held, `nothing` for no file, or `another`. `memory BASE` plays the same over a shelf in memory of which no call
-//! fails, or one, and tells what it then holds.
+//! - `log HEX ..` takes these bytes as the file.
+//! - `read` shows what the file holds, and `prefixes` what each of its prefixes holds.
+//! - `set VALUE` and `turn MASK` show what the file holds with one byte set to a value, or turned
+//!   by a mask, for each of its bytes.
+//! - `values PLACE` shows it with the byte at a place set to each value. `number PLACE NUMBER`
+//!   shows it with this number in the 8 bytes there.
+//! - Equal answers in a row are shown once, with their first and their last place or value.
+//! - `changes HEX` takes the changes of a log, to be appended by `play` and `memory`.
+//! - `play BASE` loads the file, replaces it by a base of these bytes and appends those changes,
+//!   over a disk in memory. If `log` has no bytes, there is no file to load.
+//! - `memory BASE` does the same over a shelf in memory of which no call fails, or one, and shows
+//!   what the shelf then holds.
+//! - `files` shows the answer of each call over a folder's file while a call of the system fails,
+//!   and what a read then returns. It shows the same for two calls of one disk, the answers of two
+//!   disks of one folder, and what the program's streams and those in memory read and write.
 //!
-//! `files` tells what each call over a folder's file answers where a call of the system fails, and what a read then
-//! gives, and so of two calls of one disk, and what two disks of one folder answer; and what the program's streams give
-//! and take there, and those in memory.
+//! `play` shows how many calls are made and the file that they leave. Then it runs again for each
+//! number of calls after which the disk stops, and for each call that fails alone. For each it
+//! shows how many appends were answered, and what is loaded after a crash. That depends on the
+//! ranges that were not synced: they are lost, kept, or torn. The answer is the number of changes,
+//! `before` for what was held, `nothing` for no file, or `another`.
 #![tactic(auto)]
 
 mod disks;

@@ -5,19 +5,20 @@ use s3_types::{Bytes, Request, let_go};
 use shelf::kept::Shelf;
 use std::fmt;
 
-/// What is played: the file that the disk has, the base that replaces it, and the changes behind that.
+/// A run over a shelf: the file that the disk has, the base that replaces it, and the changes
+/// appended to that.
 #[derive(Clone, Copy)]
 pub struct Play<'p> {
     pub file: &'p Option<Bytes>,
     pub base: &'p [u8],
     pub changes: &'p [Request],
-    /// What is held before it, as bytes; none where nothing is.
+    /// What is held before the run, as bytes; none if nothing is held.
     pub before: &'p [u8],
-    /// What is held after all of it, as bytes.
+    /// What is held after all of the run, as bytes.
     pub whole: &'p [u8],
 }
 
-/// How far a play came.
+/// How far a run came.
 #[derive(Clone, Copy)]
 pub enum Came {
     Nowhere,
@@ -35,7 +36,7 @@ impl fmt::Display for Came {
     }
 }
 
-/// Appends changes, and tells how many were answered well. The first one that is not is the last.
+/// Appends changes, and returns how many appends succeeded. It stops at the first that does not.
 fn append_all<S: Shelf>(shelf: &mut S, changes: &[Request]) -> usize
     requires { S.takes_appends shelf.old }
     ensures { result ≤ length changes.now }
@@ -53,7 +54,7 @@ fn append_all<S: Shelf>(shelf: &mut S, changes: &[Request]) -> usize
     appended
 }
 
-/// Loads, replaces and appends, up to the first call that is not answered well.
+/// Loads, replaces and appends, up to the first call that does not succeed.
 pub fn play_over<S: Shelf>(shelf: &mut S, play: Play<'_>) -> Came {
     match shelf.load() {
         Ok(held) => let_go(held),

@@ -17,7 +17,8 @@ pub fn calls_of(alloc: Global, call: Option<u64>) -> Result<CallList, AllocError
     Ok(calls)
 }
 
-/// A shelf over the disk as it is before the play, of which a call fails, or which stops after some calls.
+/// A shelf over the disk as it is before the run. One call of the disk may fail, or the disk stops
+/// after some calls.
 fn shelf_of(
     alloc: Global,
     play: Play<'_>,
@@ -29,7 +30,7 @@ fn shelf_of(
     Ok(LogShelf::new(alloc, MemDisk::new(alloc, file, fail, stop)))
 }
 
-/// How far a play came, and what loads after a crash at its end.
+/// Shows how far a run came, and what is loaded after a crash at its end.
 fn show_came(
     rt: &impl Print,
     alloc: Global,
@@ -58,7 +59,7 @@ fn show_play(
     shown
 }
 
-/// Plays once for each number of calls after which the disk stops.
+/// Runs once for each number of calls after which the disk stops.
 fn show_stops(rt: &impl Print, alloc: Global, play: Play<'_>, calls: u64) -> io::Result<()> {
     for stop in 0..=calls {
         print!(rt; "stop {stop}: ")?;
@@ -67,7 +68,7 @@ fn show_stops(rt: &impl Print, alloc: Global, play: Play<'_>, calls: u64) -> io:
     Ok(())
 }
 
-/// Plays once for each call that fails alone.
+/// Runs once for each call that fails alone.
 fn show_fails(rt: &impl Print, alloc: Global, play: Play<'_>, calls: u64) -> io::Result<()> {
     for call in 1..=calls {
         print!(rt; "fail {call}: ")?;
@@ -76,7 +77,7 @@ fn show_fails(rt: &impl Print, alloc: Global, play: Play<'_>, calls: u64) -> io:
     Ok(())
 }
 
-/// How many calls the whole play has, and the file that they leave.
+/// The number of calls of the whole run, and the file that they leave.
 fn whole_play(alloc: Global, play: Play<'_>) -> Result<(u64, Option<Bytes>), AllocError> {
     let mut shelf = shelf_of(alloc, play, None, None)?;
     let _ = play_over(&mut shelf, play);
@@ -94,7 +95,7 @@ fn show_whole(rt: &impl Print, alloc: Global, calls: u64, file: &Option<Bytes>) 
     println!(rt; "calls {calls}\nfile {digits}")
 }
 
-/// Plays over a disk, of which nothing fails, which stops, or of which one call fails.
+/// Runs over a disk on which nothing fails, then on which it stops, then of which one call fails.
 pub fn show_plays(rt: &impl Print, alloc: Global, play: Play<'_>) -> io::Result<()> {
     let (calls, file) = whole_play(alloc, play)?;
     let shown = show_whole(rt, alloc, calls, &file);
@@ -105,7 +106,7 @@ pub fn show_plays(rt: &impl Print, alloc: Global, play: Play<'_>) -> io::Result<
     show_fails(rt, alloc, play, calls)
 }
 
-/// What the file holds, or nothing where that is bad.
+/// What the file holds, or nothing if the file is bad.
 fn held_of(alloc: Global, file: &Option<Bytes>) -> Result<Option<Held>, AllocError> {
     match load(alloc, file.clone()?) {
         Ok(held) => Ok(held),
@@ -113,7 +114,7 @@ fn held_of(alloc: Global, file: &Option<Bytes>) -> Result<Option<Held>, AllocErr
     }
 }
 
-/// What the file holds before a play, as bytes, which are none where it holds nothing.
+/// What the file holds before a run, as bytes; none if it holds nothing.
 pub fn written_before(alloc: Global, file: &Option<Bytes>) -> Result<Vec<u8>, AllocError> {
     match held_of(alloc, file)? {
         Some(held) => {
@@ -125,7 +126,7 @@ pub fn written_before(alloc: Global, file: &Option<Bytes>) -> Result<Vec<u8>, Al
     }
 }
 
-/// A shelf in memory that holds what the file does, of which this call fails.
+/// A shelf in memory that holds what the file does. This call of it fails.
 fn shelf_in_memory(alloc: Global, play: Play<'_>, call: u64) -> Result<MemShelf, AllocError> {
     let fail = calls_of(alloc, Some(call))?;
     let held = held_of(alloc, play.file)?;
@@ -139,7 +140,8 @@ fn shelf_left(alloc: Global, play: Play<'_>, shelf: &MemShelf) -> Result<Left, A
     }
 }
 
-/// How far the play comes over a shelf in memory of which this call fails, and what it then holds.
+/// How far the run comes over a shelf in memory of which this call fails, and what the shelf then
+/// holds.
 fn play_in_memory(alloc: Global, play: Play<'_>, call: u64) -> Result<(Came, Left), AllocError> {
     let mut shelf = shelf_in_memory(alloc, play, call)?;
     let came = play_over(&mut shelf, play);
@@ -148,7 +150,7 @@ fn play_in_memory(alloc: Global, play: Play<'_>, call: u64) -> Result<(Came, Lef
     Ok((came, left?))
 }
 
-/// Plays over a shelf in memory of which no call fails, or one.
+/// Runs over a shelf in memory of which no call fails, or one.
 pub fn show_memories(rt: &impl Print, alloc: Global, play: Play<'_>) -> io::Result<()> {
     for call in 0..12u64 {
         let (came, left) = play_in_memory(alloc, play, call)?;

@@ -9,20 +9,20 @@ use std::io::Write;
 use std::rt::Files;
 use std::{fs, io};
 
-/// What happens to a folder over which there are two disks.
+/// An event of a folder over which there are two disks.
 #[derive(Clone, Copy)]
 enum Turn {
     One(Call),
     Two(Call),
-    /// The first disk is let go.
+    /// The first disk is dropped.
     Close,
-    /// Somebody else writes behind the file.
+    /// Somebody else appends to the file.
     Grow,
     /// Somebody else removes the file.
     Remove,
 }
 
-/// What happens, one behind the other.
+/// The events, in order.
 const TURNS: [&[Turn]; 7] = [
     &[
         Turn::One(Call::Read),
@@ -68,7 +68,7 @@ const TURNS: [&[Turn]; 7] = [
     ],
 ];
 
-/// Two disks of the folder, of which the first may be let go.
+/// Two disks of the folder. The first may be dropped.
 #[derive(Drop)]
 struct Disks<'r, R: Files> {
     one: Option<FileDisk<Faulty<'r, R>>>,
@@ -84,7 +84,7 @@ fn disk<'r, R: Files<File = File>>(
     FileDisk::new(alloc, Faulty::new(rt, fault), folder)
 }
 
-/// Writes a byte behind the file.
+/// Appends a byte to the file.
 fn grow<R: Files<File = File>>(rt: &R) -> io::Result<()> {
     let mut options = OpenOptions::new();
     options.append(true);
@@ -165,7 +165,7 @@ fn show_turns<R: Print + Files<File = File>>(
     println!(rt; "{line}")
 }
 
-/// What two disks of one folder answer.
+/// Shows the answers of two disks of one folder.
 pub fn show_rivals<R: Print + Files<File = File>>(rt: &R, alloc: Global) -> io::Result<()> {
     for turns in &TURNS {
         show_turns(rt, alloc, turns)?;

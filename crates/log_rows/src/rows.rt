@@ -12,7 +12,7 @@ use std::alloc::{AllocError, Global};
 use std::fs::File;
 use std::rt::Files;
 
-/// The file that the rows are about, and a log whose changes are played.
+/// The file that the rows are about, and a log whose changes are appended.
 #[derive(Drop)]
 pub struct Rows {
     file: Option<Bytes>,
@@ -20,7 +20,7 @@ pub struct Rows {
     alloc: Global,
 }
 
-/// What a play is over: a disk, or a shelf in memory.
+/// The medium of a run: a disk, or a shelf in memory.
 #[derive(Clone, Copy)]
 enum Medium {
     Disk,
@@ -60,7 +60,7 @@ fn with_number(alloc: Global, bytes: &[u8], place: usize, number: u64) -> Result
 }
 
 impl Rows {
-    /// Before the first row: nothing is given.
+    /// The rows before the first line: nothing is given.
     pub fn new(alloc: Global) -> Result<Rows> {
         let log = Held {
             base: Bytes::empty(alloc)?,
@@ -109,7 +109,7 @@ impl Rows {
         Ok(println!(rt; "{}", find(self.alloc, bytes))?)
     }
 
-    /// Plays this base and the log's changes over a disk, or a shelf in memory.
+    /// Runs with this base and the log's changes over a disk, or a shelf in memory.
     fn play(&self, rt: &impl Print, medium: Medium, words: &str) -> Result<()> {
         let base = spelled(self.alloc, words)?;
         let changes = self.log.changes.as_slice();
@@ -129,7 +129,7 @@ impl Rows {
     }
 }
 
-/// The edit that a row asks for.
+/// The edit that a row names.
 fn edit_of(verb: &str, words: &str) -> Result<Edit> {
     match verb {
         "prefixes" => Ok(Edit::Prefix),
@@ -163,7 +163,7 @@ fn show_row<R: Print + Files<File = File>>(
     }
 }
 
-/// Shows a line and what it asks for.
+/// Shows a line and its answer.
 pub fn show_line<R: Print + Files<File = File>>(rt: &R, rows: &mut Rows, line: &str) -> Result<()> {
     println!(rt; "{line}")?;
     let (verb, words) = line.split_once(' ').unwrap_or((line, ""));

@@ -16,7 +16,7 @@ const FAULTS: [(Fault, &str); 5] = [
     (Fault::Flush, "nothing is flushed"),
 ];
 
-/// What four reads of two bytes give.
+/// Writes the answers of four reads of two bytes.
 fn put_reads<S: Source>(line: &mut String, source: &mut S) -> Result<(), AllocError> {
     for _ in 0..4u8 {
         let mut buffer = [0u8; 2];
@@ -28,7 +28,7 @@ fn put_reads<S: Source>(line: &mut String, source: &mut S) -> Result<(), AllocEr
     Ok(())
 }
 
-/// What writes of three bytes and of none answer, and a flush.
+/// Writes the answers of a write of three bytes, a write of none, and a flush.
 fn put_writes<S: Sink>(line: &mut String, sink: &mut S) -> Result<(), AllocError> {
     let first = sink.write(b"abc");
     let second = sink.write(b"");
@@ -54,7 +54,7 @@ fn put_sink<R: Files>(rt: &R, line: &mut String, fault: Fault) -> io::Result<()>
     Ok(put?)
 }
 
-/// A source in memory, of which the third call fails, and a sink in memory.
+/// Writes the answers of a source in memory whose third call fails, and of a sink in memory.
 fn put_memory(alloc: Global, line: &mut String) -> Result<(), AllocError> {
     let bytes = Bytes::from_slice(alloc, b"first")?;
     let mut source = MemSource::new(bytes, calls_of(alloc, Some(3))?);
@@ -77,7 +77,7 @@ fn show_stream<R: Print + Files>(
     fs::write(rt, IMAGE, "first")
 }
 
-/// What streams over the folder's file give and take, and streams in memory.
+/// Shows the answers of streams over the folder's file, and of streams in memory.
 pub fn show_streams<R: Print + Files>(rt: &R, alloc: Global) -> io::Result<()> {
     for (fault, what) in &FAULTS {
         show_stream(rt, alloc, *fault, what)?;

@@ -1,4 +1,4 @@
--- Counts of sendings one after another.
+-- The counts of sends, one after another.
 use Rattle.machine.specs.Counted.{AreAnswered, Counted}
 use Rattle.s3_types.specs.Moment.{is_unanswered}
 use Rattle.s3_types.specs.declared.fates.Fate.{Fate}
@@ -14,12 +14,12 @@ answered_both : (a b : List Entry) → AreAnswered (a ++ b) → AreAnswered a ×
 answered_both [] b h = (tt, h)
 answered_both (e ∷ a) b h = let k = answered_both a b h.1 in ((h.0, k.0), k.1)
 
--- nothing was sent
+-- No send was made.
 pub counted_none : (old new : List Entry) (first requests before now : ℕ) (told tells : ℕ → Option Fate) → new ≡ old → requests ≡ first
     → now ≡ before → ((n : ℕ) → tells n ≡ told n) → Counted old new first requests before now told tells
 counted_none old new first requests before now told tells h g e f = grind arith
 
--- one sending, with its entry
+-- One send was made, and its entry appended.
 pub counted_one : (old mid new : List Entry) (e : Entry) (first requests before now : ℕ) (told tells : ℕ → Option Fate)
     → new ≡ mid ++ e ∷ [] → mid ≡ old → requests ≡ first + 1 → before ≤ now → (is_unanswered e.outcome ≡ false → now ≡ before)
     → ((n : ℕ) → tells n ≡ told n) → Counted old new first requests before now told tells
@@ -31,7 +31,7 @@ counted_one old mid new e first requests before now told tells em eo r l k t = r
   kept = λ part ep a. k (subst AreAnswered (cancel old part (e ∷ []) (sym ep ∙ em ∙ ap (λ l. l ++ e ∷ []) eo)) a).0;
 }
 
--- first these, and then those
+-- First the one sends were made, and then the others.
 pub counted_then : (old mid new part rest : List Entry) (first middle requests before between now : ℕ)
     (told meanwhile tells : ℕ → Option Fate) → mid ≡ old ++ part → new ≡ mid ++ rest
     → Counted old mid first middle before between told meanwhile → Counted mid new middle requests between now meanwhile tells

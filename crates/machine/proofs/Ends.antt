@@ -1,4 +1,4 @@
--- A run whose machine asks nothing more is over, and whole where no request wore out.
+-- A run whose machine has no next request is over; it is whole if no request exhausted its retries.
 use Rattle.machine.proofs.Literal.{literal_whole, literal_worn}
 use Rattle.machine.proofs.Tries.{tried_whole, tried_worn}
 use Rattle.machine.specs.Drove.{Driving, Drove, IsOver, IsRun, standing_after}
@@ -33,7 +33,7 @@ module _ {M : Type 0} (wants : M → Option Request) (after : M → Item → M) 
       → IsRun wants after actor event t s part z
   scene_of t s s' z part e r = record { by = r.by; honest = r.honest; follows = r.follows; scene = e ∙ r.scene }
 
-  -- a request wore out
+  -- A request exhausted its retries.
   pub drove_worn : {T : Type 0} (t t' u : Retrying M) (s s' z : Scene) (old new end : List Entry) (before now then : ℕ)
       (told tells : ℕ → Option Fate) (first requests : ℕ) (worn : Bool)
       → Driving after wants ready standing actor event t t' s s' old new before now told tells first requests worn
@@ -54,7 +54,7 @@ module _ {M : Type 0} (wants : M → Option Request) (after : M → Item → M) 
     );
   }
 
-  -- no request wore out
+  -- No request exhausted its retries.
   pub drove_whole : {T : Type 0} (x : T) (t t' u : Retrying M) (s s' z : Scene) (old new end : List Entry) (before now then : ℕ)
       (told tells : ℕ → Option Fate) (first requests : ℕ) (worn : Bool)
       → Driving after wants ready standing actor event t t' s s' old new before now told tells first requests worn

@@ -1,4 +1,4 @@
--- What each sending keeps, a run of a machine that is alone keeps.
+-- A run of a machine that is alone keeps what each send keeps.
 use Rattle.machine.proofs.Keeping.{Keeps}
 use Rattle.machine.proofs.Runs.{run_keeps}
 use Rattle.retries.specs.Operation.{Follows, run}

@@ -1,4 +1,4 @@
--- Where nothing of the present request was sent before, a run wore out exactly where the entries alone say so.
+-- If no send of the present request came before, the entries alone say whether a request of the run exhausted its retries.
 use Rattle.retries.proofs.First.{counted_first, some_worn}
 use Rattle.retries.specs.Operation.{Follows}
 use Rattle.retries.specs.Retries.{Item, Retried, fresh, has_worn, step, wants_of, worn_in}

@@ -1,4 +1,4 @@
--- A run goes on by one sending.
+-- A run goes on by one send.
 use Rattle.basics.proofs.Naturals.{more_times, no_more_times}
 use Rattle.machine.proofs.Counts.{counted_then}
 use Rattle.machine.specs.Counted.{Counted}
@@ -46,7 +46,7 @@ pub is_run_more : {M : Type 0} (wants : M → Option Request) (after : M → Ite
     → IsSent wants actor event t' s' e s'' → IsRun wants after actor event t s (part ++ e ∷ []) s''
 is_run_more wants after actor event t s part s' t' e s'' h g f = grind (arith, by_more, honest_more, follows_more, after_all_more)
 
--- readiness is kept, and the work that is left falls
+-- The work that is left: the steps to come, and the sends to spare.
 abbrev pub work : {M : Type 0} → (M → Scene → ℕ) → ℕ → Retried M → Scene → ℕ
 work left retries t s = left t.operation s * (retries + 1) + t.spare
 
@@ -56,7 +56,7 @@ less_work a b n x y h k = omega (arith, more_times a b n h)
 one_less : (a n : ℕ) → a + n < a + suc n
 one_less a n = omega arith
 
--- `StoreFault` is told where a request was worn out
+-- The turn says that a request exhausted its retries exactly if it did.
 pub told : {M : Type 0} (t : Retried M) (o : Outcome) → tells_worn (turn_of t o) ≡ wears t o
 told t o = grind arith
 
@@ -128,7 +128,7 @@ told_more p n (x ∷ part) e h k =
     let m : n + suc (length part) ≡ (n + 1) + length part = omega arith in
     (h.0, told_more p (n + 1) part e h.1 (subst (λ v. IsForetold (p v) e.outcome) m k))
 
--- the number of the next request
+-- The number of the next request.
 pub next_number : (old new part : List Entry) (first requests : ℕ) → new ≡ old ++ part → requests + length old ≡ first + length new
     → requests + 1 ≡ first + 1 + length part
 next_number old new part first requests e h = let n : length new ≡ length (old ++ part) = ap length e in omega
@@ -178,7 +178,7 @@ driving_more {M = M} {wants = wants} {after = after} {fits = fits} {ready = read
           (λ w. lost (lost_if_worn (retried t') e.outcome w)) (sym ew ∙ h);
     }
 
--- what each sending keeps, a run keeps, at its end and at each moment of it
+-- A run keeps what each send keeps, at its end and at every point of it.
 module _ {M : Type 0} (wants : M → Option Request) (tells : M → Outcome → M) (P : M → Scene → Type 0)
     (keeps : (m : M) (s : Scene) (e : Entry) → wants m ≡ Some e.request → IsHonestOutcome e.outcome (answer s e.request) → P m s
     → P (tells m e.outcome) (effect s e.request e.outcome)) where

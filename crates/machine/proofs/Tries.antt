@@ -1,4 +1,4 @@
--- A run falls into tries, and wore out exactly where one of them did.
+-- A run consists of tries, and a request exhausted its retries exactly if one of the tries did.
 use Rattle.machine.specs.Tries.{AreTries, AreUnanswered, HasUnanswered, IsBrokenOff, IsClosed, IsTry, Tried, Try, answer_in, is_worn}
 use Rattle.machine.specs.Tries.{sendings_of, some_worn, spare_after}
 use Rattle.machine.specs.declared.driving.DriveStop.TheVariants.{NoMemory, StoreFault}
@@ -13,19 +13,19 @@ use Rattle.std.proofs.Common.{Bool, Err, List, None, Ok, Option, Some, ap, appen
 use Rattle.std.proofs.Common.{sym, true, zero, ℕ, [], ◌++◌, ◌+◌, ◌<◌, ◌||◌, ◌∙◌, ◌∷◌, ◌≡◌, ◌≤◌}
 use Rattle.std.proofs.lemmas.Bool.{false≢true, or_right}
 
--- the request that is present is the first of these
+-- The present request is that of the first try.
 abbrev Leads : Option Request → List Try → List Entry → Type 0
 Leads o (t ∷ ts) rest = o ≡ Some t.request
 Leads o [] (e ∷ es) = o ≡ Some e.request
 Leads o [] [] = Unit {0}
 
--- the request that is present behind these, where that is known
+-- The request that is present after the entries, if that is known.
 abbrev Ends : List Entry → List Try → Option Request → Option Request → Type 0
 Ends (e ∷ es) ts now later = later ≡ Some e.request
 Ends [] [] now later = later ≡ now
 Ends [] (t ∷ ts) now later = Unit {0}
 
--- entries as tries, between the request that is present before them and the one that is present behind them
+-- The entries as tries, between the request that is present before them and the one that is present after them.
 pub record Grouped (retries spare : ℕ) (part : List Entry) (worn : Bool) (now later : Option Request) : Type 0 where
   pub tries : List Try
   pub rest : List Entry
@@ -50,7 +50,7 @@ ends_alike : (rest : List Entry) (ts : List Try) (x y : Try) (now later : Option
     → Ends rest (y ∷ ts) now later
 ends_alike rest ts x y now later h = grind arith
 
--- a try of one sending
+-- A try of one send.
 another : (retries spare : ℕ) (e : Entry) (es : List Entry) (here worn : Bool) (now o later : Option Request) (x : Try)
     → x.unanswered ++ answer_in x.answered ≡ e ∷ [] → IsTry spare x → now ≡ Some x.request → is_worn x.answered ≡ here
     → Grouped retries retries es worn o later → Grouped retries spare (e ∷ es) (here || worn) now later
@@ -65,7 +65,7 @@ another retries spare e es here worn now o later x is k asked h g = record {
   last = ends_behind g.rest g.tries x now o later g.last;
 }
 
--- one loss more
+-- One more send may be lost.
 closed_more : (spare : ℕ) (r : Request) (n : ℕ) (a : Option Entry) → IsClosed spare r n a → IsClosed (suc spare) r (suc n) a
 closed_more spare r n a h = grind arith
 
@@ -75,7 +75,7 @@ one_more n spare h = omega arith
 same_request : (o : Option Request) (a b : Request) → o ≡ Some a → o ≡ Some b → a ≡ b
 same_request o a b h k = cc
 
--- a sending without an answer in front of a try that may lose one less
+-- A send without an answer, before a try that may lose one send less.
 again_by : (retries spare : ℕ) (e : Entry) (es : List Entry) (worn : Bool) (now later : Option Request) → is_unanswered e.outcome ≡ true
     → now ≡ Some e.request
     → (ts : List Try) (rest : List Entry) → es ≡ sendings_of ts ++ rest → AreTries retries spare ts
@@ -126,11 +126,11 @@ again : (retries spare : ℕ) (e : Entry) (es : List Entry) (worn : Bool) (now l
 again retries spare e es worn now later u asked g = again_by retries spare e es worn now later u asked g.tries g.rest g.entries g.each
     g.broken_off g.wore g.first g.last
 
--- nothing is broken off where no request is present at the end
+-- If no request is present at the end, no try was broken off.
 none_left : (rest : List Entry) (ts : List Try) (now later : Option Request) → Ends rest ts now later → later ≡ None → rest ≡ []
 none_left rest ts now later h g = grind arith
 
--- a try that wore out is a row of losses
+-- A try that exhausted its retries has `retries + 1` lost sends in a row.
 window_by : (retries spare : ℕ) (ts : List Try) (rest : List Entry) (r : Request) (lost : List Entry) (a : Option Entry) → spare ≡ retries
     → AreUnanswered r lost → IsClosed spare r (length lost) a
     → (is_worn a || some_worn ts) ≡ true → (some_worn ts ≡ true → HasUnanswered (retries + 1) (sendings_of ts ++ rest))
@@ -166,7 +166,7 @@ window retries spare (x ∷ ts) rest k e h = window_by retries spare ts rest x.r
 -- ---- of a machine
 
 module _ {M : Type 0} (retries : ℕ) (wants : M → Option Request) (after : M → Item → M) where
-  -- the entries of a run from t on, as tries
+  -- The entries of a run from t on, as tries.
   abbrev pub GroupedFrom : Retried M → List Entry → Type 0
   GroupedFrom t part = Grouped retries t.spare part (has_worn retries after t part) (wants t.operation)
       (wants (run (step retries after) t part).operation)
@@ -196,7 +196,7 @@ module _ {M : Type 0} (retries : ℕ) (wants : M → Option Request) (after : M 
   grouped t [] f = nothing retries t.spare (wants t.operation)
   grouped t (e ∷ es) f = by_outcome t e es e.outcome refl f.0 (grouped (step retries after t e.outcome) es f.1)
 
-  -- ---- more losses in a row than are spared wear a request out
+  -- ---- a request exhausts its retries when more sends in a row are lost than it has to spare
 
   worn_outcome : (t : Retried M) (es behind : List Entry) (o : Outcome) → is_unanswered o ≡ true → t.spare < suc (length es)
       → ((t' : Retried M) → t'.spare < length es → has_worn retries after t' (es ++ behind) ≡ true)
@@ -208,7 +208,7 @@ module _ {M : Type 0} (retries : ℕ) (wants : M → Option Request) (after : M 
   worn_here t r [] behind u l = let no : ⊥ = omega arith in absurd no
   worn_here t r (e ∷ es) behind u l = worn_outcome t es behind e.outcome u.1 l (λ t' l'. worn_here t' r es behind u.2 l')
 
-  -- no request has more to spare than there are retries
+  -- No request has more sends to spare than there are retries.
   kept_by : (m : M) (spare : ℕ) (b : Bool) → spare ≤ retries → (unanswered_by retries after m b spare).spare ≤ retries
   kept_by m zero b h = omega arith
   kept_by m (suc n) b h = omega arith
@@ -224,7 +224,7 @@ module _ {M : Type 0} (retries : ℕ) (wants : M → Option Request) (after : M 
   worn_behind t r (e ∷ es) these behind l u n = or_right (wears t e.outcome) _
       (worn_behind (step retries after t e.outcome) r es these behind (kept t e.outcome l) u n)
 
-  -- ---- what driving tells of it
+  -- ---- what the result of driving says of it
 
   pub tried_short : {T : Type 0} (t : Retried M) (part : List Entry) → Follows (wants_of wants) (step retries after) t part
       → Tried {T = T} retries t.spare part (Err NoMemory)

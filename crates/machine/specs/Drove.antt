@@ -1,4 +1,4 @@
--- What sending once, and driving a machine alone, have done.
+-- What has happened after one send, and after driving a machine alone.
 use Rattle.machine.specs.Counted.{Counted}
 use Rattle.machine.specs.Standing.{Faulted, Standing}
 use Rattle.machine.specs.Tries.{IsFaultBy, Tried}
@@ -21,7 +21,7 @@ use Rattle.s3_types.specs.declared.request.Request.{Request}
 use Rattle.std.specs.Prelude.{Bool, Err, IsTrue, List, None, Ok, Option, Result, Some, false, length, true, ℕ, [], ◌++◌, ◌+◌, ◌<◌, ◌∷◌, ◌≡◌}
 use Rattle.std.specs.Prelude.{◌≤◌, ◌⊎◌}
 
--- from s to s' these entries are one run of the machine from t on
+-- From scene s to s' these entries are one run of the machine, started at t.
 pub record IsRun {M : Type 0} (wants : M → Option Request) (after : M → Item → M) (actor : Actor) (event : ℕ) (t : Retrying M) (s : Scene)
     (part : List Entry) (s' : Scene) : Type 0 where
   pub by : AreBy actor event part
@@ -29,7 +29,7 @@ pub record IsRun {M : Type 0} (wants : M → Option Request) (after : M → Item
   pub follows : Follows (wants_of wants) (step t.retries after) (retried t) part
   pub scene : s' ≡ after_all s part
 
--- one sending, by a machine at t: the entry, which is honest, and the scene after it
+-- The machine t made this one send: its entry is honest, and s' is the scene after it.
 pub record IsSent {M : Type 0} (wants : M → Option Request) (actor : Actor) (event : ℕ) (t : Retrying M) (s : Scene) (e : Entry)
     (s' : Scene) : Type 0 where
   pub by : e.actor ≡ actor
@@ -38,7 +38,7 @@ pub record IsSent {M : Type 0} (wants : M → Option Request) (actor : Actor) (e
   pub honest : IsHonestOutcome e.outcome (answer s e.request)
   pub scene : s' ≡ effect s e.request e.outcome
 
--- nothing was asked, and nothing sent; or one sending, with its entry
+-- Either the machine had no next request and nothing was sent; or one send was made, and its entry appended.
 abbrev pub Sent : {M : Type 0} → (M → Option Request) → (M → Item → M) → Actor → ℕ → Retrying M → Retrying M → Scene → Scene → List Entry
     → List Entry → ℕ → ℕ → (ℕ → Option Fate) → ℕ → ℕ → Option Turn → Type 0
 Sent wants after actor event t t' s s' old new before now told first requests None = (wants t.machine ≡ None) × (t' ≡ t) × (s' ≡ s)
@@ -53,7 +53,8 @@ Sent wants after actor event t t' s s' old new before now told first requests (S
     × IsForetold (told (first + 1)) e.outcome
     × (requests ≡ first + 1)
 
--- memory was wanting before the sending, and all is as it was; or after it, and then its entry stands and the machine is broken
+-- Memory ran out. If it did before the send, everything is as before; if after it, the send's entry is there and the machine is broken
+-- off.
 abbrev pub SentNone : {M : Type 0} → (M → Option Request) → (M → Item → M) → Actor → ℕ → Retrying M → Retrying M → Scene → Scene
     → List Entry → List Entry → (ℕ → Option Fate) → ℕ → Type 0
 SentNone wants after actor event t t' s s' old new told first =
@@ -65,12 +66,12 @@ SentNone wants after actor event t t' s s' old new told first =
     × (retried t' ≡ broken after (retried t))
     × (t'.retries ≡ t.retries))
 
--- a worn request shows
+-- The machine's standing, after a request exhausted its retries or not.
 abbrev pub standing_after : Bool → Standing → Standing
 standing_after true x = Faulted
 standing_after false x = x
 
--- the machine is where these entries lead, and asks nothing more
+-- The machine is at the point to which these entries lead, and has no next request.
 pub record IsOver {M : Type 0} (wants : M → Option Request) (after : M → Item → M) (ready : M → Scene → Bool → Type 0)
     (standing : M → Standing) (t : Retrying M) (part : List Entry) (t' : Retrying M) (s' : Scene) (worn : Bool) : Type 0 where
   pub there : retried t' ≡ run (step t.retries after) (retried t) part
@@ -80,13 +81,13 @@ pub record IsOver {M : Type 0} (wants : M → Option Request) (after : M → Ite
   pub wore : has_worn t.retries after (retried t) part ≡ worn
   pub stands : standing t'.machine ≡ standing_after worn (standing t.machine)
 
--- StoreFault exactly where a request wore out here, and then something was lost
+-- StoreFault came exactly if a request exhausted its retries here, and then something was lost.
 abbrev pub Ended : {T : Type 0} → (Bool → Type 0) → ℕ → ℕ → Result T DriveStop → Type 0
 Ended over before now (Ok x) = over false
 Ended over before now (Err StoreFault) = over true × (before < now)
 Ended over before now (Err NoMemory) = Unit {0}
 
--- from t, s and the entries `old`, a machine that was alone was driven to t', s' and the entries `new`
+-- A machine that was alone was driven from t, scene s and the entries `old` to t', s' and the entries `new`.
 pub record Drove {M T : Type 0} (wants : M → Option Request) (after : M → Item → M) (ready : M → Scene → Bool → Type 0)
     (standing : M → Standing) (actor : Actor) (event : ℕ) (t t' : Retrying M) (s s' : Scene) (old new : List Entry) (before now : ℕ)
     (told : ℕ → Option Fate) (first : ℕ) (result : Result T DriveStop) : Type 0 where
@@ -95,11 +96,11 @@ pub record Drove {M T : Type 0} (wants : M → Option Request) (after : M → It
   pub is_run : IsRun wants after actor event t s part s'
   pub foretold : AreForetold told (first + 1) part
   pub tried : Tried t.retries t.spare part result
-  -- where nothing of its present request was sent before
+  -- This holds if no send of its present request came before.
   pub literal : retried t ≡ fresh t.retries t.machine → IsFaultBy t.retries part result
   pub ended : Ended (IsOver wants after ready standing t part t' s') before now result
 
--- a machine that was alone, in the midst of being driven
+-- A machine that is alone, while it is being driven.
 pub record Driving {M : Type 0} (after : M → Item → M) (wants : M → Option Request) (ready : M → Scene → Bool → Type 0)
     (standing : M → Standing) (actor : Actor) (event : ℕ) (t t' : Retrying M) (s s' : Scene) (old new : List Entry) (before now : ℕ)
     (told tells : ℕ → Option Fate) (first requests : ℕ) (worn : Bool) : Type 0 where
@@ -116,6 +117,6 @@ pub record Driving {M : Type 0} (after : M → Item → M) (wants : M → Option
   pub stands : standing t'.machine ≡ standing_after worn (standing t.machine)
   pub lost : worn ≡ true → before < now
 
--- the answer that is due to the present request fits
+-- The answer that the store gives to the present request fits.
 abbrev pub DueFits : {M : Type 0} → (M → Option Request) → (M → Reply → Bool → Type 0) → Retrying M → Scene → Type 0
 DueFits wants fits t s = (r : Request) → wants t.machine ≡ Some r → fits t.machine (answer s r) t.repeated

@@ -1,8 +1,8 @@
--- How a machine stands by what it was told.
+-- Whether a machine is fine, after the replies that it received.
 
 pub data Standing : Type 0 where
   Fine : Standing
-  -- a request of it wore out
+  -- One of its requests exhausted its retries.
   Faulted : Standing
-  -- memory was wanting
+  -- Memory ran out.
   Broken : Standing

@@ -9,8 +9,8 @@ use s3_types::{Reply, Request, let_go, put};
 use std::alloc::{AllocError, Global};
 use std::marker::Model;
 
-/// An operation that an actor holds, as a machine. It goes on among others that send, so it promises nothing of a
-/// scene.
+/// An operation that an actor holds, as a machine. It runs among others that send, so it promises
+/// nothing of a scene.
 #[derive(Drop)]
 pub struct Asking<O: Asks> {
     alloc: Global,
@@ -28,7 +28,7 @@ impl<O: Asks> Model for Asking<O> {
     ghost invariant = { λ a. a.asked ≡ O.wants a.operation };
 }
 
-/// Keeps the request that an operation gave, or breaks the operation off where memory was wanting.
+/// Keeps the request that an operation gave, or breaks the operation off if memory ran out.
 fn settle<O: Asks>(
     operation: &mut O,
     asked: &mut Option<Request>,
@@ -55,7 +55,7 @@ fn settle<O: Asks>(
 }
 
 impl<O: Asks> Asking<O> {
-    /// The operation of a plan, of which nothing was sent yet.
+    /// The operation of a plan. Nothing was sent yet.
     pub fn new(alloc: Global, plan: O::Plan) -> Result<Asking<O>, AllocError>
         requires { O.goes_by plan }
         ensures { IfOk result (λ operation. operation ≡ O.begun plan) }
@@ -71,14 +71,14 @@ impl<O: Asks> Asking<O> {
         }
     }
 
-    /// The plan, as the operation has it now. Takes no memory.
+    /// Returns the plan as the operation has it now. Takes no memory.
     pub fn plan(&self) -> &O::Plan
         ensures { result.now ≡ O.plan_of self.now }
     {
         self.operation.plan()
     }
 
-    /// Gives the plan back, as the operation has it now. Takes no memory.
+    /// Gives the plan back as the operation has it now. Takes no memory.
     pub fn into_plan(self) -> O::Plan
         ensures { result ≡ O.plan_of self }
     {
@@ -91,14 +91,14 @@ impl<O: Asks> Asking<O> {
         operation.into_plan()
     }
 
-    /// The operation. Takes no memory.
+    /// Returns the operation. Takes no memory.
     pub fn operation(&self) -> &O
         ensures { result.now ≡ self.now }
     {
         &self.operation
     }
 
-    /// How it ended, or None while a request is asked. Takes no memory.
+    /// Returns how it ended, or None while it has a next request. Takes no memory.
     pub fn end(&self) -> Option<&O::End>
         ensures { option_copied result ≡ O.end_of self.now }
     {

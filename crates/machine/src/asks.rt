@@ -10,56 +10,56 @@ ghost use Rattle.machine.specs.Asks.{AskLaws};
 use s3_types::{Reply, Request};
 use std::alloc::{AllocError, Global};
 
-/// The next request that an operation asks, or None where it asks nothing more; or want of memory.
+/// The next request of an operation, or None if there is none; or AllocError.
 pub type Asked = Result<Option<Request>, AllocError>;
 
-/// An operation as an actor holds it, with the plan that it goes by. It is told how each request ended, and
-/// gives the next one.
+/// An operation as an actor holds it, with its plan. It receives how each request ended, and gives
+/// the next one.
 pub trait Asks: Drop {
-    /// What the operation goes by.
+    /// The plan of the operation.
     type Plan: Drop;
 
-    /// How it may end.
+    /// The ways in which it may end.
     type End: Drop;
 
-    /// It may be begun by such a plan.
+    /// The operation may be started with this plan.
     ghost goes_by: { Self.Plan → Type 0 };
 
-    /// The operation of a plan, of which nothing was sent yet.
+    /// The operation of a plan, before anything was sent.
     ghost begun: { Self.Plan → Self };
 
     /// Its plan.
     ghost plan_of: { Self → Self.Plan };
 
-    /// How it ended, if it did.
+    /// How it ended, or None while it goes on.
     ghost end_of: { Self → Option Self.End };
 
-    /// The request that it asks, if it does.
+    /// Its next request, or None.
     ghost wants: { Self → Option Request };
 
-    /// Where an item leads.
+    /// The operation after it received this item.
     ghost after: { Self → Item → Self };
 
-    /// Its request may be answered so, where an earlier sending of it was lost or not.
+    /// This reply may come to its request; the Bool says whether an earlier send of it was lost.
     ghost fits: { Self → Reply → Bool → Type 0 };
 
-    /// At most so many answers and worn requests are to come where nobody else sends.
+    /// At most this many answers and exhausted requests are to come, if nobody else sends.
     ghost left: { Self → Scene → ℕ };
 
-    /// Whether a request of it wore out, or memory was wanting.
+    /// Whether one of its requests exhausted its retries, or memory ran out.
     ghost standing: { Self → Standing };
 
-    /// Begins the operation of a plan.
+    /// Starts the operation of a plan.
     fn begin(alloc: Global, plan: Self::Plan) -> Result<Self, AllocError>
         requires { goes_by plan }
         ensures { IfOk result (λ operation. operation ≡ begun plan) };
 
-    /// The request that it asks, or None where it asks nothing more.
+    /// Returns its next request, or None if there is none.
     fn ask(&self, alloc: Global) -> Asked
         ensures { IfOk result (λ request. request ≡ wants self.now) };
 
-    /// Takes the reply to its request, and gives the next one. After want of memory it is to be broken off,
-    /// and is then as if it had been so before.
+    /// Takes the reply to its request, and returns the next one. If memory runs out, the caller
+    /// must break it off, and the result is as if it had been broken off before.
     fn hear(&mut self, alloc: Global, reply: &Reply, repeated: bool) -> Asked
         requires asked { IsSome (wants self.old) }
         requires fits { fits self.old reply.now repeated }
@@ -67,19 +67,19 @@ pub trait Asks: Drop {
         ensures next { IfOk result (λ request. request ≡ wants self.new) }
         ensures err { OnErr result (after self.new OutOfMemory ≡ after self.old OutOfMemory) };
 
-    /// Takes it that its request wore out, and gives the next one. After want of memory it is to be broken
-    /// off, and is then as if it had been so before.
+    /// Learns that its request exhausted its retries, and returns the next one. If memory runs
+    /// out, the caller must break it off, and the result is as if it had been broken off before.
     fn wear(&mut self, alloc: Global) -> Asked
         requires asked { IsSome (wants self.old) }
         ensures ok { OnOk result (self.new ≡ after self.old WornOut) }
         ensures next { IfOk result (λ request. request ≡ wants self.new) }
         ensures err { OnErr result (after self.new OutOfMemory ≡ after self.old OutOfMemory) };
 
-    /// Ends it for want of memory. Takes no memory.
+    /// Ends it because memory ran out. Takes no memory.
     fn break_off(&mut self)
         ensures { self.new ≡ after self.old OutOfMemory };
 
-    /// Its plan. Takes no memory.
+    /// Returns its plan. Takes no memory.
     fn plan(&self) -> &Self::Plan
         ensures { result.now ≡ plan_of self.now };
 
@@ -87,10 +87,11 @@ pub trait Asks: Drop {
     fn into_plan(self) -> Self::Plan
         ensures { result ≡ plan_of self };
 
-    /// How it ended, or None while it asks a request, which is until it ends (`laws`). Takes no memory.
+    /// Returns how it ended, or None while it has a next request, which it has until it ends
+    /// (`laws`). Takes no memory.
     fn end(&self) -> Option<&Self::End>
         ensures { option_copied result ≡ end_of self.now };
 
-    /// What holds of these.
+    /// The laws of these definitions.
     ghost laws: { AskLaws wants after fits end_of standing };
 }

@@ -7,15 +7,15 @@ use crate::retrying::{Retrying, Turn};
 use s3_types::{Actor, Entry, Journal, ObjectStore, Outcome, Request, let_go};
 use std::alloc::{AllocError, Global};
 
-/// Why driving stopped short.
+/// Why driving ended early.
 #[derive(Clone, Copy, Debug, PartialEq, Eq)]
 pub enum DriveStop {
-    /// A request wore out.
+    /// A request exhausted its retries.
     StoreFault,
     NoMemory,
 }
 
-/// Appends the entry of a sending where there is room for it. Takes no memory.
+/// Appends the entry of a send, for which there is room. Takes no memory.
 pub fn write_down(
     journal: &mut Journal,
     event: u32,
@@ -40,9 +40,10 @@ pub fn write_down(
     });
 }
 
-/// Sends the present request once, if there is one, and appends its entry, whose place is taken before
-/// the sending. The answer that is due fits. Where memory is wanting before the sending, store, journal and
-/// machine are as before; else the entry stands, and the machine asks nothing more.
+/// Sends the present request once, if there is one, and appends its entry. The place of the entry
+/// is reserved before the send. The answer that the store gives must fit. If memory runs out
+/// before the send, the store, the journal and the machine are as before. If it runs out later,
+/// the entry is there and the machine has no next request.
 pub fn send<M: Machine, S: ObjectStore>(
     alloc: Global,
     store: &mut S,
@@ -82,10 +83,10 @@ pub fn send<M: Machine, S: ObjectStore>(
     Ok(Some(turn?))
 }
 
-/// Drives a machine that is alone until it asks nothing more. It appends one entry for each sending.
-/// Each request is sent at most `retries + 1` times. StoreFault comes exactly where a request wore out:
-/// `retries + 1` sendings of it in a row got no answer. Where nothing of the present request was sent
-/// before, that is exactly where a request wore out by the new entries alone.
+/// Drives a machine that is alone until it has no next request. It appends one entry for each
+/// send. It sends each request at most `retries + 1` times. It fails with StoreFault exactly if a
+/// request exhausted its retries: `retries + 1` sends of it in a row got no answer. If no send of
+/// the present request came before, the new entries alone decide that.
 pub fn drive<M: Machine, S: ObjectStore>(
     alloc: Global,
     machine: &mut Retrying<M>,

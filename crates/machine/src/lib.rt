@@ -1,18 +1,21 @@
-//! Operations as machines that send one request at a time, also those that an actor holds together with the plan that
-//! they go by, among others that send; and how they are driven: retries, one sending with its entry in a journal, and
-//! sendings until nothing more is asked.
+//! Operations as machines that send one request at a time, and how they are driven: with retries,
+//! and with one journal entry for each send (one try of a request). An actor that runs among
+//! others holds an operation together with its plan.
 //!
 //! # What is proved
 //!
-//! `Retrying`: A machine under its retries: it asks and goes on as `retried` of `retries` says, and tells whether a
-//! sending was answered, will be made again, or was the last.
-//! `send`, `drive`: For every machine that keeps the laws and every store. `send` appends the one entry of a sending,
-//! whose place is taken before. `drive` sends what the machine asks until it asks nothing more, into an honest journal
-//! (`Drove`). Each request is sent at most `retries + 1` times, and StoreFault comes exactly where one wore out
-//! (`Tried`), also by the literal definition where nothing of the present request was sent before (`literal`). One
-//! request is counted for each entry; losses never fall, and stand still where each entry was answered (`Counted`).
-//! `Asking`: An operation that an actor holds together with its plan is a machine that asks and goes on as that operation
-//! says. At want of memory it is broken off, and asks nothing more.
+//! - `Retrying`: a machine under retries. Its requests and its course are those that `retried` of
+//!   `retries` gives. It tells whether a send was answered, will be made again, or was the last.
+//! - `send`: for every machine that keeps the laws and for every store, appends the one entry of a
+//!   send. The entry's place is reserved before the send.
+//! - `drive`: sends the machine's requests until there is no next one, into an honest journal
+//!   (`Drove`). It sends each request at most `retries + 1` times. It fails with StoreFault
+//!   exactly if a request exhausted its retries (`Tried`). The entries alone say the same, if no
+//!   send of the present request came before (`literal`). It makes one request for each entry.
+//!   Losses never fall, and do not change if each entry was answered (`Counted`).
+//! - `Asking`: an operation that an actor holds together with its plan is a machine. Its requests
+//!   and its course are those of the operation. If memory runs out, it is broken off and has no
+//!   next request.
 #![tactic(auto)]
 
 mod asking;

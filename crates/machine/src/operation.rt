@@ -10,47 +10,48 @@ ghost use Rattle.machine.specs.Standing.{Standing};
 use s3_types::{Reply, Request};
 use std::alloc::AllocError;
 
-/// An operation that sends one request after another, each by the replies so far. Its present request
-/// stays the same until `take` or `worn`.
+/// An operation that sends one request after another; each depends on the replies so far. Its
+/// present request stays the same until `take` or `worn`.
 pub trait Machine {
     /// The present request.
     ghost wants: { Self → Option Request };
 
-    /// Where it is after it was told something of its present request.
+    /// The machine after it received this item for its present request.
     ghost after: { Self → Item → Self };
 
-    /// The present request may be answered so, where an earlier sending of it was lost or not.
+    /// This reply may come to the present request; the Bool says whether an earlier send of it was
+    /// lost.
     ghost fits: { Self → Reply → Bool → Type 0 };
 
-    /// In this scene, and alone, it goes on well, where an earlier sending of its present request was
-    /// lost or not.
+    /// In this scene, and alone, it goes on well; the Bool says whether an earlier send of its
+    /// present request was lost.
     ghost ready: { Self → Scene → Bool → Type 0 };
 
-    /// At most so many answers and worn requests are to come where it is alone.
+    /// At most this many answers and exhausted requests are to come, if it is alone.
     ghost left: { Self → Scene → ℕ };
 
-    /// Whether a request of it wore out, or memory was wanting.
+    /// Whether one of its requests exhausted its retries, or memory ran out.
     ghost standing: { Self → Standing };
 
-    /// The present request, or None where nothing more is asked. Takes no memory.
+    /// Returns the present request, or None if there is none. Takes no memory.
     fn request(&self) -> Option<&Request>
         ensures { option_copied result ≡ wants self.now };
 
-    /// Takes the reply to the present request. After want of memory nothing more is asked.
+    /// Takes the reply to the present request. If memory runs out, there is no next request.
     fn take(&mut self, reply: &Reply, repeated: bool) -> Result<(), AllocError>
         requires asked { IsSome (wants self.old) }
         requires fits { fits self.old reply.now repeated }
         ensures ok { OnOk result (self.new ≡ after self.old (Got reply.now repeated)) }
         ensures err { OnErr result (self.new ≡ after self.old OutOfMemory) };
 
-    /// Takes it that the present request wore out: none of its sendings got an answer. After want of
-    /// memory nothing more is asked.
+    /// Learns that the present request exhausted its retries: none of its sends got an answer. If
+    /// memory runs out, there is no next request.
     fn worn(&mut self) -> Result<(), AllocError>
         requires { IsSome (wants self.old) }
         ensures ok { OnOk result (self.new ≡ after self.old WornOut) }
         ensures err { OnErr result (self.new ≡ after self.old OutOfMemory) };
 
-    /// What holds of these. Does nothing.
+    /// The laws of these definitions. Does nothing.
     fn laws()
         ensures { Laws wants after fits ready left standing };
 }

@@ -7,32 +7,32 @@ use crate::operation::Machine;
 use s3_types::{Outcome, Request};
 use std::alloc::AllocError;
 
-/// A machine whose requests are sent again where no answer came: each is sent at most `retries + 1`
-/// times. SlowDown is no answer, and no reason to count a later sending as repeated.
+/// A machine whose requests are sent again if no answer came. Each is sent at most `retries + 1`
+/// times. SlowDown is no answer, but a later send after it does not count as repeated.
 #[derive(Drop)]
 pub struct Retrying<M> {
     pub machine: M,
-    /// How often a request may be sent again.
+    /// How many times a request may be sent again.
     pub retries: u32,
-    /// How often the present request may still be sent again.
+    /// How many times the present request may still be sent again.
     pub spare: u32,
-    /// Whether an earlier sending of the present request was lost.
+    /// Whether an earlier send of the present request was lost.
     pub repeated: bool,
 }
 
-/// What an outcome was for a machine.
+/// What an outcome means for a machine.
 #[derive(Clone, Copy, PartialEq, Eq)]
 pub enum Turn {
-    /// No answer, and the request is sent again.
+    /// There was no answer, and the request is sent again.
     Again,
-    /// An answer.
+    /// There was an answer.
     Moved,
-    /// No answer, and the request is not sent again.
+    /// There was no answer, and the request is not sent again.
     WornOut,
 }
 
 impl<M: Machine> Retrying<M> {
-    /// A machine of which nothing was sent yet. Takes no memory.
+    /// A machine before anything was sent. Takes no memory.
     pub fn new(machine: M, retries: u32) -> Retrying<M>
         ensures unsent { retried result ≡ fresh retries machine }
         ensures retries { result.retries ≡ retries }
@@ -45,15 +45,15 @@ impl<M: Machine> Retrying<M> {
         }
     }
 
-    /// The machine's present request. Takes no memory.
+    /// Returns the machine's present request. Takes no memory.
     pub fn request(&self) -> Option<&Request>
         ensures { option_copied result ≡ M.wants self.now.machine }
     {
         self.machine.request()
     }
 
-    /// Takes the outcome of a sending of the present request. After want of memory nothing more is asked,
-    /// and what is counted here is as before.
+    /// Takes the outcome of a send of the present request. If memory runs out, there is no next
+    /// request, and the counts here are as before.
     pub fn take(&mut self, outcome: &Outcome) -> Result<Turn, AllocError>
         requires asked { IsSome (M.wants self.old.machine) }
         requires fits { FitsOutcome M.fits self.old outcome.now }
@@ -95,7 +95,7 @@ impl<M: Machine> Retrying<M> {
 }
 
 impl<M> Retrying<M> {
-    /// The machine. Takes no memory.
+    /// Returns the machine. Takes no memory.
     pub fn machine(&self) -> &M
         ensures { result.now ≡ self.now.machine }
     {
@@ -111,7 +111,7 @@ impl<M> Retrying<M> {
 }
 
 impl Turn {
-    /// Whether a request wore out.
+    /// Whether a request exhausted its retries.
     pub fn is_worn(self) -> bool
         ensures { result ≡ tells_worn self }
     {

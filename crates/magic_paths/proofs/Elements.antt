@@ -38,15 +38,15 @@ digits_others s [] n h = refl
 digits_others s (d ∷ ds) n h = let p = and_parts (is_digit d) (list_all is_digit ds) h in rw
     (digit_other s d n p.0, digits_others s ds n p.1) refl
 
--- a decimal has none of a byte that is no digit
+-- A decimal number has no byte s if s is not a digit.
 pub decimal_without : (s n : ℕ) → is_digit s ≡ false → n < 2 ^ 64 → list_all (is_other s) (decimal n) ≡ true
 decimal_without s n h lt = digits_others s (decimal n) h (digits_only n lt)
 
--- a decimal has no `/`
+-- A decimal number has no `/`.
 decimal_others : (n : ℕ) → n < 2 ^ 64 → list_all (is_other 47) (decimal n) ≡ true
 decimal_others n h = decimal_without 47 n refl h
 
--- a word that does not begin with a dot is an element
+-- A word that does not begin with a dot is an element.
 word_is_element : (b : ℕ) (bs : List ℕ) → b ≢ 46 → is_element (b ∷ bs) ≡ true
 word_is_element b bs h = grind arith
 
@@ -64,7 +64,7 @@ three_others : (a b c : List ℕ) → list_all (is_other 47) a ≡ true → list
     → list_all (is_other 47) (a ++ (b ++ c)) ≡ true
 three_others a b c x y z = list_all-append (is_other 47) a (b ++ c) ∙ rw (x, list_all-append (is_other 47) b c, y, z) refl
 
--- the element T_A of an attempt
+-- The text T_A of an attempt is an element.
 attempt_elements : (task attempt : ℕ) → task < 2 ^ 64 → attempt < 2 ^ 64
     → are_elements (decimal task ++ (codes "_" ++ decimal attempt)) ≡ true
 attempt_elements task attempt t a =
@@ -72,14 +72,14 @@ attempt_elements task attempt t a =
     (decimal_others task t) refl (decimal_others attempt a))
     (number_is_element (decimal task) (codes "_" ++ decimal attempt) (decimal_nonempty task t) (digits_only task t))
 
--- the element task_T.pendingset of a set
+-- The text task_T.pendingset of a set is an element.
 set_elements : (task : ℕ) → task < 2 ^ 64 → are_elements (codes "task_" ++ (decimal task ++ codes ".pendingset")) ≡ true
 set_elements task t =
     lone_element (codes "task_" ++ (decimal task ++ codes ".pendingset")) (three_others (codes "task_") (decimal task) (codes ".pendingset")
     refl (decimal_others task t) refl)
     (word_is_element 116 (codes "ask_" ++ (decimal task ++ codes ".pendingset")) (λ e. absurd (omega arith)))
 
--- the element job-ID of a job
+-- No byte of a job's id is a `/`.
 id_other : (b : ℕ) → is_id_byte b ≡ true → is_other 47 b ≡ true
 id_other b h = grind (arith, nat_tests)
 
@@ -87,7 +87,7 @@ ids_others : (id : List ℕ) → list_all is_id_byte id ≡ true → list_all (i
 ids_others [] h = refl
 ids_others (b ∷ id) h = let p = and_parts (is_id_byte b) (list_all is_id_byte id) h in rw (id_other b p.0, ids_others id p.1) refl
 
--- a job's id has no `/`
+-- A job's id has no `/`.
 pub id_others : (id : List ℕ) → is_job_id id ≡ true → list_all (is_other 47) id ≡ true
 id_others id h = ids_others id (and_parts _ _ h).1
 
@@ -114,7 +114,7 @@ fixed_success : are_elements (codes "_SUCCESS") ≡ true
 unfolding parts_from
 fixed_success = refl
 
--- what stands below a job's magic directory
+-- A key below a job's magic directory consists of elements.
 in_job : (dest id tail : List ℕ) → are_elements dest ≡ true → is_job_id id ≡ true → are_elements tail ≡ true
     → are_elements (dest ++ (codes "/__magic/job-" ++ (id ++ (codes "/" ++ tail)))) ≡ true
 in_job dest id tail d h t =

@@ -1,4 +1,4 @@
--- What is kept of a key's elements, and that it makes a key.
+-- The kept elements of a key, and that they make a key.
 use Rattle.basics.specs.Parts.{parts_from, parts_of}
 use Rattle.magic_paths.specs.Finals.{after_magic, before_magic, final_elements, is_word, kept}
 use Rattle.path_keys.proofs.Keys.{key_from, some_key}
@@ -19,7 +19,7 @@ parts_none s part (x ∷ xs) e = by (x == s) refl (parts_none s (part ++ x ∷ [
     by : (b : Bool) → (x == s) ≡ b → parts_from s (part ++ x ∷ []) xs ≢ [] → ⊥
     by b h g = grind arith
 
--- a text has a part
+-- A text has at least one part.
 pub some_parts : (text : List ℕ) → parts_of 47 text ≢ []
 some_parts text e = parts_none 47 [] text e
 

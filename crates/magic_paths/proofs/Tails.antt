@@ -20,12 +20,12 @@ use Rattle.std.specs.List.{ends_with}
 nat_same : (n : ℕ) → nat_eq n n ≡ true
 nat_same n = grind (arith, nat_tests)
 
--- a text begins with p ++ r exactly where its rest behind p begins with r
+-- The text p ++ q begins with p ++ r exactly if q begins with r.
 pub begins_behind : (p r q : List ℕ) → begins (p ++ r) (p ++ q) ≡ begins r q
 begins_behind [] r q = refl
 begins_behind (x ∷ p) r q = rw (nat_same x) (begins_behind p r q)
 
--- what begins with p goes on behind it
+-- A text that begins with p is p and some rest.
 pub begins_back : (p q : List ℕ) → begins p q ≡ true → (r : List ℕ) × (q ≡ p ++ r)
 begins_back [] q h = (q, refl)
 begins_back (x ∷ p) [] h = absurd cc
@@ -34,7 +34,7 @@ begins_back (x ∷ p) (y ∷ q) h =
     let old = begins_back p q a.1 in
     (old.0, ap (λ z. z ∷ q) (sym (eqb-true x y a.0)) ∙ ap (λ l. x ∷ l) old.1)
 
--- what is below a key that is not empty
+-- The key below a key that is not empty has a `/` between them.
 pub below_is : (k q : List ℕ) → 1 ≤ length k → below k q ≡ k ++ 47 ∷ q
 below_is k q h = grind arith
 
@@ -62,7 +62,7 @@ ends_so q r = ap (text_eq r) (drop_front q r) ∙ text_equiv.refl r
 no_record : (p q : List ℕ) → is_record p ≡ false → p ≡ q ++ codes ".pending" → ⊥
 no_record p q h e = true≢false (sym (ap (λ l. ends_with nat_eq l (codes ".pending")) e ∙ ends_so q (codes ".pending")) ∙ h)
 
--- ---- what stands below a job's magic directory
+-- ---- below a job's magic directory
 
 abbrev attempt_in : ℕ → ℕ → List ℕ → List ℕ
 attempt_in t a p = codes "tasks/" ++ (decimal t ++ 95 ∷ (decimal a ++ 47 ∷ (codes "__base/" ++ p)))
@@ -126,7 +126,7 @@ inner_apart (SetPlace t) (RecordPlace u b q) m n g h e = absurd (tasks_sets u b 
 inner_apart (SetPlace t) (SetPlace u) m n g h e = ap SetPlace (decimal_injective t u g h
     (append_cancel_right (decimal t) (decimal u) (codes ".pendingset") (append_cancel_left (codes "sets/task_") _ _ e)))
 
--- ---- what stands behind a destination's key
+-- ---- after a destination's key
 
 abbrev tail : List ℕ → Place → List ℕ
 tail id (FilePlace p) = 47 ∷ p
@@ -151,7 +151,7 @@ tail_is dest id _ some = refl
 tail_magic : (id : List ℕ) (p : Place) → is_magic_place p ≡ true → tail id p ≡ codes "/__magic/job-" ++ (id ++ 47 ∷ inner p)
 tail_magic id p h = grind arith
 
--- the second byte of a tail is `_` but for files, and then `S` for the marker of a committed job
+-- The kind of a tail, by its second and third byte: 0 for a file, 1 for the marker of a committed job, 2 for the others.
 abbrev kind_of : List ℕ → ℕ
 kind_of l = cond (nat_eq 95 (get_or l 1 0)) (cond (nat_eq 83 (get_or l 2 0)) 1 2) 0
 
@@ -175,7 +175,7 @@ number_magic p h = grind arith
 same_number : (id other : List ℕ) (p q : Place) → IsPlace p → IsPlace q → tail id p ≡ tail other q → number p ≡ number q
 same_number id other p q g h e = sym (number_is id p g) ∙ ap kind_of e ∙ number_is other q h
 
--- what stands below the magic directories of two jobs is of one job
+-- If keys below the magic directories of two jobs are equal, the jobs are equal.
 cut_jobs : (id other x y : List ℕ) → is_job_id id ≡ true → is_job_id other ≡ true
     → codes "/__magic/job-" ++ (id ++ 47 ∷ x) ≡ codes "/__magic/job-" ++ (other ++ 47 ∷ y) → Cut id other x y
 cut_jobs id other x y i o e = cut_once 47 id other x y (id_others id i) (id_others other o)

@@ -10,7 +10,7 @@ use Rattle.std.proofs.lemmas.List.{append_cancel_right}
 use Rattle.std.proofs.lemmas.List.Folds.{list_any-append}
 use Rattle.std.specs.List.{after_first, before_first, list_any, position_or_len}
 
--- a front of a text is passed, whose elements are seen, and none of these is the word
+-- A front of the text has been walked. Its elements are known, and none of them is the word.
 pub record Walked (word text rest : List ℕ) : Type 0 where
   pub front : List ℕ
   pub seen : List (List ℕ)
@@ -21,7 +21,7 @@ pub record Walked (word text rest : List ℕ) : Type 0 where
 pub begun : (word text : List ℕ) → Walked word text text
 begun word text = record { front = []; seen = []; whole = refl; parts = λ more. refl; none = refl }
 
--- an element that a `/` follows is one part
+-- An element before a `/` is one part.
 one_element : (rest element after : List ℕ) → parts_of 47 rest ≡ element ∷ parts_of 47 after → rest ≡ element ++ 47 ∷ after
     → parts_of 47 element ≡ element ∷ []
 one_element rest element after p e = append_cancel_right (parts_of 47 element) (element ∷ []) (parts_of 47 after)
@@ -44,7 +44,7 @@ stepped word text rest element after w p e n = record {
   none = list_any-append (is_word word) w.seen (element ∷ []) ∙ (rw (w.none, n) refl);
 }
 
--- all elements of the text, once the next one is known
+-- The elements of the text, once the next one is known.
 pub all_elements : (word text rest element : List ℕ) (more : List (List ℕ)) (w : Walked word text rest) → parts_of 47 rest ≡ element ∷ more
     → parts_of 47 text ≡ w.seen ++ element ∷ more
 all_elements word text rest element more w p = ap (parts_of 47) w.whole ∙ w.parts rest ∙ ap (λ (l : List (List ℕ)). w.seen ++ l) p

@@ -1,4 +1,4 @@
--- Where a job keeps what it writes, as data: places in the store and in the cluster's file system.
+-- The places where a job writes, in the store and in the cluster's file system, as data.
 use Rattle.path_keys.specs.Paths.{below}
 use Rattle.s3_types.specs.Names.{is_job_id}
 use Rattle.s3_types.specs.Pages.{begins}
@@ -6,7 +6,7 @@ use Rattle.std.specs.List.{ends_with}
 use Rattle.std.specs.Prelude.{Bool, List, codes, false, length, nat_eq, not, true, ℕ, [], ◌++◌, ◌<◌, ◌^◌, ◌∷◌, ◌≡◌, ◌≤◌}
 use Rattle.magic_paths.specs.Layout as layout
 
--- a place in the store: of a file, of its marker, of its record, of a task's set, and of the marker of a committed job
+-- A place in the store: a file, the marker of a file, the record of a file, a task's set, or the marker of a committed job.
 pub data Place : Type 0 where
   FilePlace : (path : List ℕ) → Place
   MarkerPlace : (task attempt : ℕ) (path : List ℕ) → Place
@@ -14,12 +14,12 @@ pub data Place : Type 0 where
   SetPlace : (task : ℕ) → Place
   SuccessPlace : Place
 
--- a place in the cluster's file system: of an attempt's temporary file, and of a task's set
+-- A place in the cluster's file system: an attempt's temporary file, or a task's set.
 pub data ClusterPlace : Type 0 where
   TemporaryPlace : (task attempt : ℕ) → ClusterPlace
   StagedSetPlace : (task : ℕ) → ClusterPlace
 
--- the key of a place of a job at a destination
+-- The key of a job's place, at a destination.
 abbrev pub key_at : List ℕ → List ℕ → Place → List ℕ
 key_at dest job (FilePlace p) = below dest p
 key_at dest job (MarkerPlace t a p) = below (layout.attempt_key dest job t a) p
@@ -27,22 +27,22 @@ key_at dest job (RecordPlace t a p) = below (layout.attempt_key dest job t a) (p
 key_at dest job (SetPlace t) = layout.set_key dest job t
 key_at dest job SuccessPlace = layout.success_key dest
 
--- the cluster's path of a place of a job
+-- The path of a job's place in the cluster.
 abbrev pub path_at : List ℕ → ClusterPlace → List ℕ
 path_at job (TemporaryPlace t a) = layout.temporary_path job t a
 path_at job (StagedSetPlace t) = layout.staged_set_path job t
 
--- a path that is not empty and does not begin with `_`
+-- True if the path is not empty and does not begin with `_`.
 abbrev pub is_open : List ℕ → Bool
 is_open [] = false
 is_open (b ∷ bs) = not (nat_eq b 95)
 
--- a path of a record, by its end
+-- True if the path ends as a record's does, with `.pending`.
 abbrev pub is_record : List ℕ → Bool
 is_record path = ends_with nat_eq path (codes ".pending")
 
--- the bounds of a place: numbers below 2^64, a file's path that does not begin with `_`, and none below an attempt's directory that is a
--- record's
+-- The bounds of a place: numbers are below 2^64, a file's path is not empty and does not begin with `_`, and no path below an attempt's
+-- directory ends with `.pending`.
 abbrev pub IsPlace : Place → Type 0
 IsPlace (FilePlace p) = is_open p ≡ true
 IsPlace (MarkerPlace t a p) = (t < 2 ^ 64) × (a < 2 ^ 64) × (is_record p ≡ false)
@@ -50,19 +50,19 @@ IsPlace (RecordPlace t a p) = (t < 2 ^ 64) × (a < 2 ^ 64) × (is_record p ≡ f
 IsPlace (SetPlace t) = t < 2 ^ 64
 IsPlace SuccessPlace = Unit {0}
 
--- the bounds of a place in the cluster
+-- The bounds of a place in the cluster.
 abbrev pub IsClusterPlace : ClusterPlace → Type 0
 IsClusterPlace (TemporaryPlace t a) = (t < 2 ^ 64) × (a < 2 ^ 64)
 IsClusterPlace (StagedSetPlace t) = t < 2 ^ 64
 
--- below the job's magic directory
+-- True if the place is below the job's magic directory.
 abbrev pub is_magic_place : Place → Bool
 is_magic_place (FilePlace p) = false
 is_magic_place SuccessPlace = false
 is_magic_place _ = true
 
--- Two keys at a destination that is no bucket's root, or two paths of the cluster, are equal only where the places are, also
--- those of two jobs; and then both are one job's, where they are a job's own.
+-- Two keys at a destination that is not a bucket's root, or two paths in the cluster, are equal only if their places are equal, even if
+-- they are of two jobs. If the place is a job's own, both are of the same job.
 pub record AreApart : Type 0 where
   pub places : (dest job other : List ℕ) (p q : Place) → 1 ≤ length dest → is_job_id job ≡ true → is_job_id other ≡ true → IsPlace p
       → IsPlace q → key_at dest job p ≡ key_at dest other q → p ≡ q
@@ -70,7 +70,7 @@ pub record AreApart : Type 0 where
       → IsPlace q → key_at dest job p ≡ key_at dest other q → is_magic_place p ≡ true → job ≡ other
   pub cluster : (job other : List ℕ) (p q : ClusterPlace) → is_job_id job ≡ true → is_job_id other ≡ true → IsClusterPlace p
       → IsClusterPlace q → path_at job p ≡ path_at other q → (p ≡ q) × (job ≡ other)
-  -- below a job's magic directory are exactly these of its places, and none of another job's
+  -- The places below a job's magic directory are exactly its magic places, and none is of another job.
   pub magic : (dest job : List ℕ) (p : Place) → 1 ≤ length dest → IsPlace p
       → begins (layout.magic_prefix dest job) (key_at dest job p) ≡ is_magic_place p
   pub strange : (dest job other : List ℕ) (p : Place) → 1 ≤ length dest → is_job_id job ≡ true → is_job_id other ≡ true → IsPlace p

@@ -5,15 +5,15 @@ ghost use Rattle.magic_paths.specs.Finals.{is_word};
 
 use path_keys::first_element;
 
-/// A text cut at one of its elements: what stands before that element, with the `/` in between, and
-/// what stands behind it and a `/`, where one stands there.
+/// A text that is cut at one of its elements: the text before that element, with its `/`, and the
+/// text after the element and a `/`, if there is one.
 #[derive(Drop)]
 pub struct Cut<'a> {
     pub front: &'a str,
     pub behind: Option<&'a str>,
 }
 
-/// What stands in a text before an end of it.
+/// Returns the text before this end of it.
 fn before_end<'a>(text: &'a str, end: &str) -> &'a str
     requires { (front : List ℕ) × (text.now ≡ front ++ end.now) }
     ensures { text.now ≡ result.now ++ end.now }
@@ -21,7 +21,7 @@ fn before_end<'a>(text: &'a str, end: &str) -> &'a str
     &text[..text.len() - end.len()]
 }
 
-/// Cuts a text at its first element that is the word; None comes exactly where none is.
+/// Cuts a text at its first element that is the word. Returns None exactly if no element is.
 pub fn cut_at<'a>(word: &str, text: &'a str) -> Option<Cut<'a>>
     ensures found { is_some result ≡ list_any (is_word word.now) (parts_of 47 text.now) }
     ensures front { IfSome result (λ c. (rest : List ℕ)
@@ -47,7 +47,7 @@ pub fn cut_at<'a>(word: &str, text: &'a str) -> Option<Cut<'a>>
     }
 }
 
-/// The last element of a text.
+/// Returns the last element of a text.
 pub fn last_element(text: &str) -> &str
     ensures last { parts_of 47 result.now ≡ drop (length (parts_of 47 text.now) - 1) (parts_of 47 text.now) }
     ensures most { length result.now ≤ length text.now }

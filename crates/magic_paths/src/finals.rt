@@ -18,7 +18,7 @@ pub fn is_magic(path: &S3Path) -> bool
     cut_at("__magic", path.key().as_str()).is_some()
 }
 
-/// What is kept of the text behind `__magic/`.
+/// Returns the part that is kept of the text after `__magic/`.
 fn kept(behind: &str) -> Option<&str>
     ensures kept { parts_after 47 (option_map (λ r. r.now) result) ≡ finals.kept (parts_of 47 behind.now) }
     ensures most { IfSome result (λ r. length r.now ≤ length behind.now) }
@@ -29,7 +29,8 @@ fn kept(behind: &str) -> Option<&str>
     }
 }
 
-/// The two texts that make the final key: what stands before `__magic`, and what is kept behind it.
+/// Returns the two texts that make the final key: the text before `__magic`, and the part that is
+/// kept after it.
 fn final_parts(key: &str) -> Result<(&str, &str), MagicRefusal>
     requires { is_key key.now ≡ true }
     ensures elements { IfOk result (λ r. parts_of 47 (r.0.now ++ r.1.now)
@@ -51,12 +52,12 @@ fn final_parts(key: &str) -> Result<(&str, &str), MagicRefusal>
     }
 }
 
-/// Where the file that is written at a path below a magic directory stands once its upload is completed.
-/// Its key has the elements before the first `__magic`, and then those after the first `__base` that
-/// stands behind that, or, where none does, the path's last element. NotMagic comes exactly where no
-/// element is `__magic`, and NothingAfter exactly where nothing stands behind the first `__magic`, or
-/// nothing behind that `__base`. (Modelled on the magic paths of Hadoop's S3A committer architecture; the
-/// rule is this project's own.)
+/// Returns the path at which a file that is written below a magic directory ends up, once its
+/// upload is completed. The new key has the elements before the first `__magic`. Then follow the
+/// elements after the first `__base` after that or, if there is no `__base`, the path's last
+/// element. Fails with NotMagic exactly if no element is `__magic`. Fails with NothingAfter
+/// exactly if there is nothing after the first `__magic`, or after that `__base`. (Modelled on the
+/// magic paths of Hadoop's S3A committer architecture; the rule is this project's own.)
 pub fn final_path(alloc: Global, path: &S3Path) -> Result<S3Path, MagicRefusal>
     ensures bucket { IfOk result (λ p. p.bucket ≡ path.now.bucket) }
     ensures elements { IfOk result (λ p. finals.elements p ≡ finals.final_elements (finals.elements path.now)) }

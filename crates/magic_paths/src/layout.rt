@@ -12,9 +12,9 @@ use path_keys::S3Path;
 use s3_types::{Key, Text};
 use std::alloc::{AllocError, Global};
 
-/// The directory that an attempt of a task writes its files below:
-/// `DEST/__magic/job-ID/tasks/T_A/__base`. A destination's key has 1 to 400 bytes, and a job's id 1 to 64
-/// letters, digits, `_` and `-`.
+/// Returns the directory below which a task attempt writes its files:
+/// `DEST/__magic/job-ID/tasks/T_A/__base`. A destination's key has 1 to 400 bytes, and a job's id
+/// 1 to 64 letters, digits, `_` and `-`.
 pub fn attempt_dir(
     alloc: Global,
     dest: &S3Path,
@@ -35,8 +35,9 @@ pub fn attempt_dir(
     Ok(S3Path::new(dest.bucket().clone()?, key))
 }
 
-/// The key of a committed task's set of pending uploads: `DEST/__magic/job-ID/sets/task_T.pendingset`. A
-/// destination's key has 1 to 400 bytes, and a job's id 1 to 64 letters, digits, `_` and `-`.
+/// Returns the key of a committed task's set of pending uploads:
+/// `DEST/__magic/job-ID/sets/task_T.pendingset`. A destination's key has 1 to 400 bytes, and a
+/// job's id 1 to 64 letters, digits, `_` and `-`.
 pub fn set_key(alloc: Global, dest: &S3Path, job: &Text, task: u32) -> Result<Key, AllocError>
     requires some { 1 ≤ length dest.now.key }
     requires most { length dest.now.key ≤ 400 }
@@ -47,7 +48,8 @@ pub fn set_key(alloc: Global, dest: &S3Path, job: &Text, task: u32) -> Result<Ke
     Ok(Key::new(Text::new(alloc, text)?))
 }
 
-/// The key of the marker of a committed job: `DEST/_SUCCESS`. A destination's key has 1 to 400 bytes.
+/// Returns the key of the marker of a committed job: `DEST/_SUCCESS`. A destination's key has 1 to
+/// 400 bytes.
 pub fn success_key(alloc: Global, dest: &S3Path) -> Result<Key, AllocError>
     requires some { 1 ≤ length dest.now.key }
     requires most { length dest.now.key ≤ 400 }
@@ -57,7 +59,7 @@ pub fn success_key(alloc: Global, dest: &S3Path) -> Result<Key, AllocError>
     Ok(Key::new(Text::new(alloc, text)?))
 }
 
-/// What the keys below a destination begin with: its key and a `/`.
+/// Returns the prefix of all keys below a destination: its key and a `/`.
 pub fn dest_prefix(alloc: Global, dest: &S3Path) -> Result<Text, AllocError>
     ensures { IfOk result (λ prefix. prefix ≡ dest.now.key ++ codes "/") }
 {
@@ -65,7 +67,7 @@ pub fn dest_prefix(alloc: Global, dest: &S3Path) -> Result<Text, AllocError>
     Text::new(alloc, format!(in alloc; "{key}/")?)
 }
 
-/// What the keys of all that is below a job's magic directory begin with: `DEST/__magic/job-ID/`.
+/// Returns the prefix of all keys below a job's magic directory: `DEST/__magic/job-ID/`.
 pub fn magic_prefix(alloc: Global, dest: &S3Path, job: &Text) -> Result<Text, AllocError>
     ensures { IfOk result (λ t. t ≡ keys.magic_prefix dest.now.key job.now) }
 {
@@ -73,7 +75,7 @@ pub fn magic_prefix(alloc: Global, dest: &S3Path, job: &Text) -> Result<Text, Al
     Text::new(alloc, text)
 }
 
-/// What the paths of all that a staging job keeps in the cluster's file system begin with: `jobs/ID/`.
+/// Returns the prefix of all paths of a staging job in the cluster's file system: `jobs/ID/`.
 pub fn cluster_prefix(alloc: Global, job: &Text) -> Result<Text, AllocError>
     ensures { IfOk result (λ t. t ≡ keys.cluster_prefix job.now) }
 {
@@ -81,8 +83,8 @@ pub fn cluster_prefix(alloc: Global, job: &Text) -> Result<Text, AllocError>
     Text::new(alloc, text)
 }
 
-/// The path of the temporary file that a staging attempt puts its set into, in the cluster's file system:
-/// `jobs/ID/tmp/T_A.pendingset`.
+/// Returns the path of the temporary file into which a staging attempt puts its set, in the
+/// cluster's file system: `jobs/ID/tmp/T_A.pendingset`.
 pub fn temporary_path(
     alloc: Global,
     job: &Text,
@@ -95,7 +97,7 @@ pub fn temporary_path(
     Text::new(alloc, text)
 }
 
-/// The path of a committed task's set of a staging job, in the cluster's file system:
+/// Returns the path of a committed task's set, for a staging job, in the cluster's file system:
 /// `jobs/ID/sets/task_T.pendingset`.
 pub fn staged_set_path(alloc: Global, job: &Text, task: u32) -> Result<Text, AllocError>
     ensures { IfOk result (λ t. t ≡ keys.staged_set_path job.now task) }
@@ -104,8 +106,8 @@ pub fn staged_set_path(alloc: Global, job: &Text, task: u32) -> Result<Text, All
     Text::new(alloc, text)
 }
 
-/// The key of a file whose path stands below a directory: the directory's key, a `/`, and the path; at
-/// a bucket's root, the path alone.
+/// Returns the key of a file with this path below a directory: the directory's key, a `/`, and the
+/// path; at a bucket's root, the path alone.
 pub fn file_key(alloc: Global, dir: &S3Path, path: &Text) -> Result<Key, AllocError>
     requires elements { are_elements path.now ≡ true }
     requires most { length (below dir.now.key path.now) ≤ MOST_KEY_BYTES }

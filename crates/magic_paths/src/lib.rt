@@ -1,14 +1,17 @@
-//! Where the magic committer keeps what it needs below a job's destination, and where a file that is
-//! written there stands in the end; and where the staging committers keep theirs in the cluster's file
-//! system. (Hadoop, S3A committer architecture; the layout below `__magic` and `jobs` is this profile's.)
+//! Where the magic committer keeps its files below a job's destination, and at which path a file
+//! that is written there ends up; and where the staging committers keep theirs in the cluster's
+//! file system. (Hadoop, S3A committer architecture; the layout below `__magic` and `jobs` is this
+//! project's own.)
 //!
 //! # What is proved
 //!
-//! the layout's keys and paths; `places_apart`: The committers' keys are keys and the texts of the
-//! layout. Equal keys, or equal paths in the cluster, are of equal places, also of two jobs, and what
-//! is below a job's magic directory is its own. `is_magic` says whether an element is exactly
-//! `__magic`; `final_path` answers the final elements, and NotMagic and NothingAfter exactly where
-//! there are none. The program does not call `final_path`.
+//! - The layout's keys and paths: they have the texts that `Layout` gives, and the keys are valid
+//!   keys.
+//! - `places_apart`: equal keys, or equal paths in the cluster, belong to equal places, even if
+//!   they are of two jobs. Only a job's own places are below its magic directory.
+//! - `is_magic`: says whether an element is exactly `__magic`.
+//! - `final_path`: returns the path of the final elements, and fails with NotMagic and
+//!   NothingAfter exactly if there are none. The program does not call `final_path`.
 #![tactic(auto)]
 
 mod cut;

@@ -4,13 +4,13 @@ ghost use Rattle.magic_paths.specs.declared.refusal.MagicRefusal.TheVariants.{No
 use std::alloc::AllocError;
 use thiserror::Error;
 
-/// Why a path has no final path, in the order in which it is looked at.
+/// Why a path has no final path, in the order of the checks.
 #[derive(Clone, Copy, Debug, PartialEq, Eq, Error)]
 pub enum MagicRefusal {
     /// No element of its key is `__magic`.
     #[error("the path has no element __magic")]
     NotMagic,
-    /// Nothing stands behind the first `__magic`, or behind the first `__base` after it.
+    /// Nothing follows the first `__magic`, or the first `__base` after it.
     #[error("the path names no file below __magic")]
     NothingAfter,
     #[error("no memory")]

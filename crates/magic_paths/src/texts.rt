@@ -3,11 +3,11 @@ ghost use Rattle.magic_paths.specs.Layout as keys;
 
 use std::alloc::{AllocError, Global};
 
-/// How many bytes there are at most beside a destination and a job's id in the keys that are asked for
-/// again and again: two numbers, and the pieces between them.
+/// The most bytes beside a destination and a job's id in the keys that are made again and again:
+/// two numbers, and the pieces between them.
 const MOST_BETWEEN: usize = 48;
 
-/// No text, with room for such a key, so that it is one allocation.
+/// Returns an empty text with room for such a key, so that making it takes one allocation.
 fn with_room(alloc: Global, dest: &str, job: &str) -> Result<String, AllocError>
     ensures { IfOk result (λ text. string_bytes text ≡ []) }
 {
@@ -15,7 +15,7 @@ fn with_room(alloc: Global, dest: &str, job: &str) -> Result<String, AllocError>
     String::with_capacity(alloc, named.saturating_add(MOST_BETWEEN))
 }
 
-/// The directory that an attempt of the magic committer writes below.
+/// Returns the directory below which an attempt of the magic committer writes.
 pub fn attempt_text(
     alloc: Global,
     dest: &str,
@@ -31,7 +31,7 @@ pub fn attempt_text(
     Ok(text)
 }
 
-/// The key of a task's set.
+/// Returns the key of a task's set.
 pub fn set_text(alloc: Global, dest: &str, job: &str, task: u32) -> Result<String, AllocError>
     ensures { IfOk result (λ text. string_bytes text ≡ keys.set_key dest.now job.now task) }
 {
@@ -40,28 +40,28 @@ pub fn set_text(alloc: Global, dest: &str, job: &str, task: u32) -> Result<Strin
     Ok(text)
 }
 
-/// The key of `_SUCCESS`.
+/// Returns the key of `_SUCCESS`.
 pub fn success_text(alloc: Global, dest: &str) -> Result<String, AllocError>
     ensures { IfOk result (λ text. string_bytes text ≡ keys.success_key dest.now) }
 {
     format!(in alloc; "{dest}/_SUCCESS")
 }
 
-/// What all keys of the job's own magic directory begin with.
+/// Returns the prefix of all keys below the job's own magic directory.
 pub fn prefix_text(alloc: Global, dest: &str, job: &str) -> Result<String, AllocError>
     ensures { IfOk result (λ text. string_bytes text ≡ keys.magic_prefix dest.now job.now) }
 {
     format!(in alloc; "{dest}/__magic/job-{job}/")
 }
 
-/// What the cluster's paths of the job begin with.
+/// Returns the prefix of all paths of the job in the cluster.
 pub fn cluster_text(alloc: Global, job: &str) -> Result<String, AllocError>
     ensures { IfOk result (λ text. string_bytes text ≡ keys.cluster_prefix job.now) }
 {
     format!(in alloc; "jobs/{job}/")
 }
 
-/// The cluster path of an attempt's temporary file.
+/// Returns the cluster path of an attempt's temporary file.
 pub fn temporary_text(
     alloc: Global,
     job: &str,
@@ -73,14 +73,14 @@ pub fn temporary_text(
     format!(in alloc; "jobs/{job}/tmp/{task}_{attempt}.pendingset")
 }
 
-/// The cluster path of a task's set.
+/// Returns the cluster path of a task's set.
 pub fn staged_set_text(alloc: Global, job: &str, task: u32) -> Result<String, AllocError>
     ensures { IfOk result (λ text. string_bytes text ≡ keys.staged_set_path job.now task) }
 {
     format!(in alloc; "jobs/{job}/sets/task_{task}.pendingset")
 }
 
-/// The two texts, one behind the other.
+/// Returns the two texts, the second after the first.
 pub fn final_text(alloc: Global, front: &str, kept: &str) -> Result<String, AllocError>
     ensures { IfOk result (λ text. string_bytes text ≡ front.now ++ kept.now) }
 {

@@ -1,4 +1,4 @@
--- What a listing without a delimiter has: each object below a prefix behind a text, once and in order, with its length.
+-- What a listing without a delimiter has: each object below a prefix and after a text, once and in order, with its length.
 use Rattle.basics.proofs.Less.{irrefl, lt, lt_back, lt_trans}
 use Rattle.basics.proofs.Members.{false_true, in_filter, in_map, some_is, text_exact}
 use Rattle.basics.proofs.Tree.{map_sorted}
@@ -21,7 +21,7 @@ use Rattle.std.specs.declared.cmp.Ordering.TheVariants.{Equal, Greater, Less}
 use Rattle.store_frame.proofs.Flat.{found_at, listed_all, listed_rises}
 use Rattle.std.specs.FinMap as fin
 
--- each object that stands below a prefix behind a text, once, in order, with the length of its bytes
+-- The listing has each existing object below a prefix and after a text, once, in order, with its length in bytes.
 pub record IsListing (q l : List ℕ) (z : Objects) (es : List PageEntry) : Type 0 where
   pub rises : RisesFrom l (map text_in es)
   pub each : (e : PageEntry) → IsIn e es → (k : List ℕ) × (o : Object) × (e ≡ Single k (length o.bytes)) × (begins q k ≡ true)
@@ -31,7 +31,7 @@ pub record IsListing (q l : List ℕ) (z : Objects) (es : List PageEntry) : Type
 
 -- ---- texts in order
 
--- a text that another begins with, and is not, is less
+-- A text is less than another one that begins with it.
 pub above : (k j : List ℕ) → begins k j ≡ true → (j ≡ k → ⊥) → lt text_cmp k j ≡ true
 above k j b n = by (text_cmp k j) refl
   where
@@ -40,7 +40,7 @@ above k j b n = by (text_cmp k j) refl
     by Equal e = absurd (n (sym (text_exact k j e)))
     by Greater e = absurd (false_true (from_prefix k j b) (lt_back text_total k j ∙ ap Rattle.std.specs.Ordering.is_gt e))
 
--- what rises from the empty text rises from what is less than all of it
+-- What rises from some text, and is greater than b, rises from b.
 pub rises_from : (l b : List ℕ) (ks : List (List ℕ)) → RisesFrom l ks → ((k : List ℕ) → IsIn k ks → lt text_cmp b k ≡ true) → RisesFrom b ks
 rises_from l b [] h g = tt
 rises_from l b (k ∷ ks) h g = (g k (inl refl), h.1)
@@ -55,7 +55,7 @@ pub last_less : (l x : List ℕ) (ks : List (List ℕ)) → lt text_cmp l x ≡ 
 last_less l x [] b g = b
 last_less l x (k ∷ ks) b g = last_less k x ks (g k (inl refl)) (λ q i. g q (inr i))
 
--- some of what rises does
+-- A part of a list that rises also rises.
 pub rises_some : (p : List ℕ → Bool) (l : List ℕ) (ks : List (List ℕ)) → RisesFrom l ks → RisesFrom l (filter p ks)
 rises_some p l [] h = tt
 rises_some p l (k ∷ ks) h = elim (p k) as (λ b. RisesFrom l (cond b (k ∷ filter p ks) (filter p ks))) [
@@ -101,7 +101,7 @@ module _ (q l : List ℕ) (z : Objects) where
   pub is_listing : IsListing q l z (listed q false l z)
   is_listing = record { rises = listed_rises q l z; each = listed_each; all = listed_has }
 
--- what is listed behind the first entry
+-- What is listed after the first entry is a listing from there.
 pub behind_first : (q l : List ℕ) (z : Objects) (e : PageEntry) (es : List PageEntry) → IsListing q l z (e ∷ es)
     → IsListing q (text_in e) z es
 behind_first q l z e es h = record {

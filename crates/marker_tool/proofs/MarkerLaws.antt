@@ -1,4 +1,4 @@
--- What the markers of a listing are where the objects stand that were listed.
+-- What the markers of a listing are, if the objects that were listed exist.
 use Rattle.basics.proofs.Less.{irrefl, lt, lt_not}
 use Rattle.basics.proofs.Members.{false_true, filter_in, in_back, in_filter, in_front, in_map, map_in, some_is}
 use Rattle.basics.proofs.Naturals.{positive}
@@ -35,7 +35,7 @@ bare_bytes z k h g =
     let l : 0 < length g.0.bytes = g.2 in
     omega (arith, n, l)
 
--- a key has one kind
+-- A key has at most one kind.
 pub one_kind : (z : Objects) (k : List ℕ) (a b : MarkerKind) → IsKind z k a → IsKind z k b → a ≡ b
 one_kind z k Surplus Leaf h g = absurd (g.1 h.1)
 one_kind z k Leaf Surplus h g = absurd (h.1 g.1)
@@ -44,17 +44,17 @@ one_kind z k Odd _ h g = absurd (bare_bytes z k g.0 h)
 one_kind z k _ Odd h g = absurd (bare_bytes z k h.0 g)
 one_kind z k _ _ h g = refl
 
--- a marker and what it is
+-- A marker and its kind.
 abbrev entry : List ℕ → MarkerKind → MarkerEntry
 entry k kind = record { key = k; kind = kind }
 
--- the length that an entry tells
+-- The length of an entry.
 abbrev bytes_in : PageEntry → ℕ
 bytes_in (Single k n) = n
 bytes_in (Prefix t) = 0
 
 module _ (q : List ℕ) (z : Objects) where
-  -- a key that begins with it stands behind it, and so does the next one
+  -- a key that begins with the marker comes after it, so the next key begins with it too
   next_up : (k j : List ℕ) (n : ℕ) (es : List PageEntry) → IsListing q k z es → begins k j ≡ true → IsIn (Single j n) es
       → goes_on k es ≡ true
   next_up k j n [] h b i = absurd i
@@ -87,7 +87,7 @@ module _ (q : List ℕ) (z : Objects) where
   kind_by k o n true true g e t f h = ((o, g, sym e ∙ eqb-true n 0 t), f refl)
   kind_by k o n true false g e t f h = ((o, g, sym e ∙ eqb-true n 0 t), λ more. false≢true (h more))
 
-  -- an entry's kind is told
+  -- the kind of an entry is right
   kind_here : (l k : List ℕ) (n : ℕ) (es : List PageEntry) → IsListing q l z (Single k n ∷ es) → IsKind z k (kind_of n (goes_on k es))
   kind_here l k n es h =
       let w = h.each (Single k n) (inl refl) in
@@ -95,7 +95,7 @@ module _ (q : List ℕ) (z : Objects) where
       kind_by k w.1 n (n == 0) (goes_on k es) (ap (fin.get z) key ∙ w.4) (ap bytes_in w.2) refl (next_more l k n es h)
       (more_next l k n es h (ap (begins q) key ∙ w.3))
 
-  -- it is a marker below the prefix, of its kind
+  -- holds if this is a marker below the prefix, with its kind
   abbrev IsFound : MarkerEntry → Type 0
   IsFound x = (begins q x.key ≡ true) × (is_marker x.key ≡ true) × IsKind z x.key x.kind
 
@@ -174,7 +174,7 @@ module _ (p : List ℕ) (z : Objects) (es : List PageEntry) (h : IsListing (belo
       map_in (λ x. x.key) x (filter (λ x. is_surplus x.kind) (markers_in es))
       (filter_in (λ x. is_surplus x.kind) x (markers_in es) (has_markers.all k Surplus s.0 s.1) refl)
 
-  -- and these the surplus ones
+  -- these are the surplus ones
   pub all_surplus : AreAll (IsSurplus p z) (surplus_in es)
   all_surplus = record {
     each = surplus_each;

@@ -1,4 +1,4 @@
--- What the missing markers of a listing are where the objects stand that were listed.
+-- What the missing markers of a listing are, if the objects that were listed exist.
 use Rattle.basics.proofs.Bools.{not_so}
 use Rattle.basics.proofs.Less.{irrefl, lt, lt_not, lt_trans}
 use Rattle.basics.proofs.Members.{false_true, filter_in, in_append, in_back, in_filter, in_front, in_map, map_in, none_some, true_or_false}
@@ -33,7 +33,7 @@ use Rattle.std.specs.FinMap as fin
 
 -- ---- the markers above a key
 
--- a text that another begins with, and is not, is shorter
+-- A shorter text is another one.
 apart : (t k : List ℕ) → length t < length k → t ≡ k → ⊥
 apart t k h e = let l = ap length e in omega (arith, h, l)
 
@@ -60,7 +60,7 @@ trimmed_begins k = elim (trimmed_is k) [
   | inr e ↦ ap (begins (trimmed k)) e ∙ begins_marker (trimmed k)
 ]
 
--- each is a marker with which the key begins, and which it is not
+-- Each is a marker with which the key begins, and not the key itself.
 above_is : (t k : List ℕ) → IsIn t (markers_above k) → (is_marker t ≡ true) × (begins t k ≡ true) × (k ≡ t → ⊥)
 above_is t k i =
     let w = in_map marker_of t (keys_above (trimmed k)) i in
@@ -77,7 +77,7 @@ above_is t k i =
         let m : length (marker_of d) ≡ length (marker_of (trimmed k)) = ap length (sym e ∙ s) in
         omega (arith, begins_length (marker_of d) (trimmed k) b, m, longer (trimmed k))
 
--- and they are all of these
+-- They are all such markers.
 above_has : (t k : List ℕ) → is_marker t ≡ true → begins t k ≡ true → (k ≡ t → ⊥) → IsIn t (markers_above k)
 above_has t k m b n =
     let w = marker_ends t m in
@@ -115,10 +115,10 @@ above_rise (suc n) p h = by (cut p) (λ front g. above_rise n front g)
         shorter : (front back : List ℕ) → p ≡ front ++ 47 ∷ back → length front < n
         shorter front back e = let l = ap length e ∙ length-append front (47 ∷ back) in omega (arith, h, l)
 
--- ---- those that an entry wants
+-- ---- the markers that an entry needs
 
 module _ (q l k : List ℕ) (h : lt text_cmp l k ≡ true) where
-  -- a marker between two keys with which the second begins
+  -- holds if this is a marker between two keys, and the second begins with it
   abbrev IsDue : List ℕ → Type 0
   IsDue t = (lt text_cmp l t ≡ true) × (lt text_cmp t k ≡ true) × (is_marker t ≡ true) × (begins q t ≡ true) × (begins t k ≡ true)
 
@@ -145,7 +145,7 @@ module _ (q l k : List ℕ) (h : lt text_cmp l k ≡ true) where
 -- ---- the missing ones
 
 module _ (q : List ℕ) where
-  -- what is missing behind a text
+  -- holds if this marker is missing after a text
   abbrev IsWanted : List ℕ → List PageEntry → List ℕ → Type 0
   IsWanted l es t = (lt text_cmp l t ≡ true) × (is_marker t ≡ true) × (begins q t ≡ true) × (IsIn t (map text_in es) → ⊥) × (e : PageEntry)
       × IsIn e es × (begins t (text_in e) ≡ true)

@@ -1,4 +1,4 @@
--- The tree without surplus markers, and with missing ones put, is the same.
+-- The tree without surplus markers, or with missing ones put, is the same.
 use Rattle.basics.proofs.Members.{false_true, none_some, same_or_other, text_here, text_left, text_other}
 use Rattle.basics.specs.Members.{IsIn}
 use Rattle.bucket_ops.proofs.Below.{gone_in, is_in, kept_out}
@@ -16,9 +16,9 @@ use Rattle.std.proofs.Common.{inl, inr, refl, subst, sym, ◌∙◌}
 use Rattle.std.specs.Prelude.{List, None, Some, length, true, ℕ, [], ◌++◌, ◌∷◌, ◌≡◌, ◌⊎◌}
 use Rattle.std.specs.FinMap as fin
 
--- ---- what is kept at a moment
+-- ---- what is kept at a point
 
--- where only these surplus keys are gone
+-- Only these surplus keys are gone.
 pub cleaning_of : (p : List ℕ) (z m : Objects) (ks : List (List ℕ)) → IsDirectory z p → SameTree z m
     → ((k : List ℕ) → IsIn k ks → IsSurplus p z k) → ((k : List ℕ) → IsIn k ks → fin.get m k ≡ None)
     → ((k : List ℕ) → (IsIn k ks → ⊥) → fin.get m k ≡ fin.get z k) → IsCleaning p z m
@@ -27,20 +27,20 @@ cleaning_of p z m ks d t s g o = record {
   kept = λ k. (elim (is_in k ks) [ inl i ↦ inr (g k i, d, s k i) | inr n ↦ inl (o k n) ]);
 }
 
--- where only these missing ones are put
+-- Only these missing markers are put.
 pub filling_of : (p : List ℕ) (z m : Objects) (ks : List (List ℕ)) → IsDirectory z p → SameTree z m
     → ((k : List ℕ) → IsIn k ks → IsMissing p z k) → ((k : List ℕ) → IsIn k ks → fin.get m k ≡ Some marker)
     → ((k : List ℕ) → (IsIn k ks → ⊥) → fin.get m k ≡ fin.get z k) → IsFilling p z m
 filling_of p z m ks d t s g o = record { tree = t; kept = λ k. (elim (is_in k ks) [ inl i ↦ inr (g k i, d, s k i) | inr n ↦ inl (o k n) ]) }
 
--- ---- keys go with which others begin
+-- ---- removal of keys with which others begin
 
--- texts that begin with each other are one
+-- Texts that begin with each other are equal.
 one_text : (a b : List ℕ) → begins a b ≡ true → begins b a ≡ true → b ≡ a
 one_text a b h g = elim (same_or_other b a) [ inl e ↦ e | inr n ↦ absurd (false_true (from_prefix b a g) (above a b h n)) ]
 
 module _ (z : Objects) (k : List ℕ) (h : HasMore z k) where
-  -- where one of them goes, the others are still such
+  -- after the removal of one of them, the others are still such keys
   more_without : (j : List ℕ) → HasMore z j → HasMore (fin.remove z k) j
   more_without j g = by (same_or_other g.0 k)
     where
@@ -54,7 +54,7 @@ module _ (z : Objects) (k : List ℕ) (h : HasMore z k) where
           )
       by (inr n) = (g.0, g.1, g.2, (g.3.0, text_left z k g.0 n ∙ g.3.1))
 
-  -- and what was above one of them is above another key
+  -- a path that was above one of them is above another key
   some_without : (t : List ℕ) → SomeBelow z t → SomeBelow (fin.remove z k) t
   some_without t g = elim (same_or_other g.0 k) [
     | inl e ↦ (h.0, begins_trans t k h.0 (subst (λ j. begins t j ≡ true) e g.1) h.1, h.3.0, text_left z k h.0 h.2 ∙ h.3.1)
@@ -94,7 +94,7 @@ module _ (p : List ℕ) (z : Objects) (ks : List (List ℕ)) (h : (k : List ℕ)
   pub is_cleaning : IsDirectory z p → IsCleaning p z (without z ks)
   is_cleaning d = cleaning_of p z (without z ks) ks d same_without h (gone_in z ks) (kept_out z ks)
 
--- without all of them none is left
+-- Without all of them no surplus marker is left.
 pub cleans : (p : List ℕ) (z : Objects) (ks : List (List ℕ)) → AreAll (IsSurplus p z) ks → CleansMarkers p z (length ks) (without z ks)
 cleans p z ks a = record {
   surplus = ks;
@@ -140,7 +140,7 @@ stands_with : (z : Objects) (ks : List (List ℕ)) (k : List ℕ) → Stands z k
 stands_with z ks k h = elim (is_in k ks) [ inl i ↦ (marker, put_in z ks k i) | inr n ↦ (h.0, put_out z ks k n ∙ h.1) ]
 
 module _ (p : List ℕ) (z : Objects) (ks : List (List ℕ)) (h : (k : List ℕ) → IsIn k ks → IsMissing p z k) where
-  -- what is above a key was above one before
+  -- a path that is above a key now was above one before
   some_was : (t : List ℕ) → SomeBelow (with_markers z ks) t → SomeBelow z t
   some_was t g =
       elim (is_in g.0 ks) [
@@ -167,7 +167,7 @@ module _ (p : List ℕ) (z : Objects) (ks : List (List ℕ)) (h : (k : List ℕ)
   pub is_filling : IsDirectory z p → IsFilling p z (with_markers z ks)
   is_filling d = filling_of p z (with_markers z ks) ks d same_with h (put_in z ks) (put_out z ks)
 
--- with all of them none is missing
+-- With all of them no marker is missing.
 pub fills : (p : List ℕ) (z : Objects) (ks : List (List ℕ)) → AreAll (IsMissing p z) ks → FillsMarkers p z (length ks) (with_markers z ks)
 fills p z ks a = record {
   missing = ks;

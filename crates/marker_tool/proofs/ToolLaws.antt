@@ -1,4 +1,4 @@
--- The stages of the marker tool keep what they promise, whatever is done in a directory.
+-- The stages of the marker tool keep what they promise, whatever work is done in a directory.
 use Rattle.basics.proofs.Members.{in_back, in_front}
 use Rattle.basics.specs.Members.{IsIn}
 use Rattle.bucket_ops.proofs.Walks.{walk_begins, walk_falls, walk_fits, walk_goes}
@@ -44,11 +44,11 @@ module _ {A : Type 0} {keys : List ℕ → List PageEntry → List (List ℕ)} {
     abbrev All : List PageEntry
     All = all_below (prefix_of o) z
 
-    -- those that are to be changed
+    -- the keys that are to be changed
     abbrev Keys : List (List ℕ)
     Keys = keys (prefix_of o) All
 
-    -- a step leads on
+    -- what holds after a step
     abbrev On : Step (ToolStage A) (Result A FsRefusal) → Objects → Type 0
     On y m = Goes (holds keys answer changed o z) (gives o z) y m
 
@@ -58,7 +58,7 @@ module _ {A : Type 0} {keys : List ℕ → List PageEntry → List (List ℕ)} {
     begun_holds [] d e = subst (λ m. gives o z (Ok (answer (prefix_of o) All)) m) (ap (changed z) (sym e) ∙ w.nothing z) (w.given o z d)
     begun_holds (k ∷ ks) d e = (d, e, refl, omega arith, sym (w.nothing z))
 
-    -- those that are left, of which there is one
+    -- the step that changes the keys that are left, of which there is at least one
     left_keys : (ks : List (List ℕ)) (n : ℕ) (r : List (List ℕ)) → drop n ks ≡ r → n < length ks
         → edited (changes r) (changed z (take n ks)) ≡ changed z (take (n + batch) ks)
     left_keys ks n [] e l = let s = ap length (sym e) ∙ length-drop n ks in absurd (omega (arith, l, s))
@@ -134,16 +134,16 @@ module _ {A : Type 0} {keys : List ℕ → List PageEntry → List (List ℕ)} {
   during o z (Walk es) m h = subst (always o z) (sym h.0) (w.still o z)
   during o z (Change ks n a) m h = subst (always o z) (sym h.4) (w.during o z (take n ks) h.0 (λ k i. some_of o z ks n h.1 k (inl i)))
 
-  -- ---- what is left
+  -- ---- the number of requests that are left
 
-  -- what is left at most, and that it falls
+  -- the bound on what is left, which falls
   abbrev Left : List ℕ → ToolStage A → Objects → ℕ
   Left o x m = left keys o x m
 
   abbrev Fall : List ℕ → Step (ToolStage A) (Result A FsRefusal) → Objects → ℕ → Type 0
   Fall o y m n = Falls (Left o) y m n
 
-  -- how many keys are to be changed
+  -- the number of keys to change
   abbrev Most : List ℕ → Objects → ℕ
   Most o m = length (keys (prefix_of o) (all_below (prefix_of o) m))
 

@@ -1,4 +1,4 @@
--- Telling, deleting and putting markers are such works.
+-- The audit, the cleaning and the filling are such works.
 use Rattle.basics.proofs.Members.{in_front}
 use Rattle.basics.specs.Members.{IsIn}
 use Rattle.bucket_ops.proofs.Batches.{batch_deletes}
@@ -25,7 +25,7 @@ use Rattle.std.specs.Prelude.{Err, List, Ok, Result, drop, length, take, ℕ, []
 same_tree : (z : Objects) → SameTree z z
 same_tree z = record { files = λ k f. refl; kept = λ q h. h; only = λ q h. h }
 
--- ---- telling
+-- ---- the audit
 
 audit_end : (p : List ℕ) (z : Objects) (a : Result (List MarkerEntry) FsRefusal) (m : Objects) → Audits p z a m → m ≡ z
 audit_end p z (Ok ms) m h = h.2
@@ -46,7 +46,7 @@ audit_laws = record {
   at_end = audit_end;
 }
 
--- ---- deleting
+-- ---- the cleaning
 
 surplus_all : (p : List ℕ) (z : Objects) → AreAll (IsSurplus p z) (surplus_in (all_below (prefix_of p) z))
 surplus_all p z = all_surplus p z (all_below (prefix_of p) z) (is_listing (prefix_of p) [] z)
@@ -85,7 +85,7 @@ clean_laws = record {
   at_end = clean_end;
 }
 
--- ---- putting
+-- ---- the filling
 
 missing_all : (p : List ℕ) (z : Objects) → AreAll (IsMissing p z) (missing_in (prefix_of p) (all_below (prefix_of p) z))
 missing_all p z = all_missing p z (all_below (prefix_of p) z) (is_listing (prefix_of p) [] z)

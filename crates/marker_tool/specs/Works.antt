@@ -1,4 +1,4 @@
--- What the marker tool asks in a directory, beside looks.
+-- The requests of the marker tool in a directory, beside looks.
 use Rattle.basics.specs.Members.{IsIn}
 use Rattle.bucket_ops.specs.Asks.{Ask, DropAll, Put, is_look}
 use Rattle.fs_ops.specs.Places.{bucket_asks}
@@ -8,30 +8,30 @@ use Rattle.s3_types.specs.Store.{Objects}
 use Rattle.std.specs.Prelude.{List, length, take, true, ℕ, [], ◌∷◌, ◌≡◌, ◌≤◌, ◌⊎◌}
 use Rattle.std.specs.FinMap as fin
 
--- the deletion of the first thousand keys
+-- The request that deletes the first thousand keys.
 abbrev pub drops : List (List ℕ) → Ask
 drops ks = DropAll (take 1000 ks)
 
--- the first key's marker; where there is none, a look
+-- The request that puts a marker at the first key, or a look if there is none.
 abbrev pub puts : List (List ℕ) → Ask
 puts [] = bucket_asks
 puts (k ∷ ks) = Put k []
 
--- the objects with markers at these keys
+-- The objects with markers at these keys.
 abbrev pub with_markers : Objects → List (List ℕ) → Objects
 with_markers z [] = z
 with_markers z (k ∷ ks) = with_markers (fin.insert z k marker) ks
 
--- these are surplus keys of a directory, at most a thousand
+-- These are surplus keys of a directory, at most a thousand.
 pub record IsBatch (p : List ℕ) (z : Objects) (ks : List (List ℕ)) : Type 0 where
   pub directory : IsDirectory z p
   pub few : length ks ≤ 1000
   pub each : (k : List ℕ) → IsIn k ks → IsSurplus p z k
 
--- it looks, or deletes some surplus keys of a directory in one batch, at least one
+-- Holds if the request only looks, or deletes some surplus keys of a directory in one batch, at least one.
 abbrev pub CleanSends : List ℕ → Objects → Ask → Type 0
 CleanSends p z a = (is_look a ≡ true) ⊎ ((k : List ℕ) × (ks : List (List ℕ)) × (a ≡ DropAll (k ∷ ks)) × IsBatch p z (k ∷ ks))
 
--- a missing marker of a directory is put, and else it looks
+-- Holds if the request only looks, or puts a missing marker of a directory.
 abbrev pub FillSends : List ℕ → Objects → Ask → Type 0
 FillSends p z a = (is_look a ≡ true) ⊎ ((k : List ℕ) × (a ≡ Put k []) × IsDirectory z p × IsMissing p z k)

@@ -1,3 +1,3 @@
--- The marker tool stage by stage, as the code goes through it. What it answers and leaves is said in `fs_tree`.
+-- The marker tool stage by stage, as the code goes through it. `fs_tree` states what it answers and leaves.
 pub mod Work
 pub mod Tool

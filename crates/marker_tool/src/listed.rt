@@ -39,7 +39,8 @@ fn kind_of(length: u64, more: bool) -> MarkerKind
     }
 }
 
-/// Adds an entry's marker, if it is one, by the entries behind it.
+/// Adds an entry's marker, if it is one. The entries after it show whether other keys begin with
+/// it.
 fn add_marker(
     markers: &mut MarkerList,
     entry: &PageEntry,
@@ -62,7 +63,7 @@ fn add_marker(
     }
 }
 
-/// The markers of a listing, each with what it is, in the order of their keys.
+/// The markers of a listing, each with its kind, in the order of their keys.
 pub(crate) fn markers_in(alloc: Global, entries: &[PageEntry]) -> Result<MarkerList, AllocError>
     ensures { IfOk result (λ markers. markers ≡ markers_in entries.now) }
 {
@@ -84,7 +85,7 @@ fn is_surplus(kind: MarkerKind) -> bool
     }
 }
 
-/// The keys of the surplus ones of these markers.
+/// The keys of the surplus ones among these markers.
 fn surplus_of(alloc: Global, markers: &[MarkerEntry]) -> Result<KeyList, AllocError>
     ensures { IfOk result (λ keys. keys ≡ map (λ x. x.key) (filter (λ x. is_surplus x.kind) markers.now)) }
 {
@@ -111,7 +112,7 @@ fn is_due(prefix: &Text, before: &Text, marker: &Text) -> bool
     marker.starts_with(prefix) && !before.starts_with(marker)
 }
 
-/// Adds those of these markers that are below the prefix and do not begin the key before.
+/// Adds those of these markers that are below the prefix, unless the key before begins with them.
 fn add_due(
     missing: &mut KeyList,
     prefix: &Text,
@@ -128,7 +129,7 @@ fn add_due(
     Ok(())
 }
 
-/// Adds the markers that an entry wants and the key before it does not.
+/// Adds the markers above an entry, unless they are above the key before it too.
 fn add_missing(
     alloc: Global,
     missing: &mut KeyList,
@@ -147,7 +148,7 @@ fn add_missing(
     }
 }
 
-/// The markers that are missing behind a key.
+/// The markers that are missing after a key.
 fn missing_from<'t>(
     alloc: Global,
     prefix: &Text,

@@ -18,14 +18,14 @@ use s3_types::{Bucket, Key, KeyList, PageEntry, Reply, Request};
 use std::alloc::{AllocError, Global};
 use std::marker::Model;
 
-/// Where the marker tool stands at a path.
+/// The stage of the marker tool.
 #[derive(Drop)]
 pub enum ToolStage<A> {
-    /// Whether a file stands at the path.
+    /// Asks whether a file exists at the path.
     Here,
-    /// All keys below the path are listed.
+    /// Lists all keys below the path.
     Walk(KeyWalk),
-    /// These keys are changed, of which so many are, and then that is answered.
+    /// Changes these keys, of which `done` are changed already, and then answers.
     Change {
         keys: KeyList,
         done: usize,
@@ -33,7 +33,7 @@ pub enum ToolStage<A> {
     },
 }
 
-/// The marker tool at a path, with what it does there.
+/// The marker tool at a path, with the work that it does there.
 #[derive(Drop)]
 pub struct MarkerTool<W> {
     alloc: Global,
@@ -49,7 +49,7 @@ impl<W> Model for MarkerTool<W> {
     ghost view = { λ o. o.place };
 }
 
-/// The first step of a change, where there is something to change.
+/// The step that begins the changes, or the answer if there is nothing to change.
 fn begun<A: Drop>(found: Found<A>) -> Step<ToolStage<A>, Result<A, FsRefusal>>
     ensures { result ≡ begun found.keys found.answer }
 {
@@ -64,7 +64,7 @@ fn begun<A: Drop>(found: Found<A>) -> Step<ToolStage<A>, Result<A, FsRefusal>>
     })
 }
 
-/// Where a change leads.
+/// The step after a change.
 fn on_change<A: Drop>(
     batch: usize,
     keys: KeyList,
@@ -113,7 +113,7 @@ impl<W: MarkerWork> MarkerTool<W> {
         })
     }
 
-    /// All keys were listed.
+    /// The step after all keys were listed.
     fn whole(
         &self,
         entries: &[PageEntry],

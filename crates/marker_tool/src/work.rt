@@ -8,50 +8,50 @@ ghost use Rattle.marker_tool.specs.code.Work.{IsWork};
 use s3_types::{Bucket, Key, KeyList, PageEntry, Request, Text};
 use std::alloc::{AllocError, Global};
 
-/// What is to be done below a directory: these keys are changed, and then that is answered.
+/// The work found to do below a directory: the keys to change, and the answer to give then.
 #[derive(Drop)]
 pub struct Found<A> {
     pub keys: KeyList,
     pub answer: A,
 }
 
-/// What the marker tool does below a directory once all keys there are listed: some keys are changed, the first
-/// ones first, and then it answers.
+/// What the marker tool does below a directory after all keys there were listed: it changes some
+/// keys, the first ones first, and then it answers.
 pub trait MarkerWork: Drop {
     type Answer: Drop;
 
-    /// The keys that are changed, by what the keys below the path begin with and all entries there.
+    /// The keys to change, from the prefix of the keys below the path and all entries there.
     ghost keys: { List ℕ → List PageEntry → List (List ℕ) };
 
-    /// What is answered.
+    /// The answer, from the same.
     ghost answer: { List ℕ → List PageEntry → Self.Answer };
 
-    /// So many keys are changed by a request at most.
+    /// The most keys that one request changes.
     ghost batch: { ℕ };
 
-    /// What changes the first of the keys that are left.
+    /// The request that changes the first of the keys that are left.
     ghost changes: { List (List ℕ) → Ask };
 
-    /// The objects after keys were changed.
+    /// The objects after these keys were changed.
     ghost changed: { Objects → List (List ℕ) → Objects };
 
-    /// Begun at those objects, it may give this answer and leave these.
+    /// Holds if the work, begun with the first objects, may give this answer and leave the second.
     ghost gives: { List ℕ → Objects → Result Self.Answer FsRefusal → Objects → Type 0 };
 
-    /// Begun at those objects, these may stand at any moment.
+    /// Holds if the work, begun with the first objects, may leave the second at any point.
     ghost always: { List ℕ → Objects → Objects → Type 0 };
 
-    /// Begun at those objects, it may ask this.
+    /// Holds if the work, begun with these objects, may send this request.
     ghost sends: { List ℕ → Objects → Ask → Type 0 };
 
-    /// What is to be done. Takes no memory.
+    /// Makes the work. Takes no memory.
     fn of() -> Self;
 
-    /// How many keys are changed by a request at most. Takes no memory.
+    /// The most keys that one request changes. Takes no memory.
     fn batch(&self) -> usize
         ensures { result ≡ batch };
 
-    /// What is to be done below a path with this prefix, where these are all entries.
+    /// Finds the work to do below a path with this prefix, given all entries there.
     fn find(
         &self,
         alloc: Global,
@@ -65,7 +65,7 @@ pub trait MarkerWork: Drop {
     fn change(&self, alloc: Global, bucket: &Bucket, left: &[Key]) -> Result<Request, AllocError>
         ensures { IfOk result (λ request. request ≡ request_of bucket.now (changes left.now)) };
 
-    /// What holds of these. Does nothing.
+    /// Proves what the work must fulfil. Does nothing.
     fn laws()
         ensures { IsWork keys answer batch changes changed gives always sends };
 }

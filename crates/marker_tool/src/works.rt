@@ -16,37 +16,44 @@ use list_walk::batch_request;
 use s3_types::{Bucket, Key, KeyList, PageEntry, Request, Text};
 use std::alloc::{AllocError, Global};
 
-/// The work of an audit: markers are told.
+/// The work of an audit: it lists the markers.
 #[derive(Drop)]
 pub struct Audit;
 
-/// The work of a cleaning: surplus markers are deleted.
+/// The work of a cleaning: it deletes surplus markers.
 #[derive(Drop)]
 pub struct Clean;
 
-/// The work of a filling: missing markers are put.
+/// The work of a filling: it puts missing markers.
 #[derive(Drop)]
 pub struct Fill;
 
-/// Tells the markers below a path, its own among them, each with what it is, in the order of their keys. Refused
-/// NoSuchBucket, then NotDirectory with the path's key where a file stands there, then NotFound where nothing
-/// stands there; the root always does. Nothing changes. One look, and a page for each 1,000 keys; memory for
-/// all keys below the path. (Hadoop, S3A: the marker tool, audit.)
+/// Lists the markers of a directory and of those below it, each with its kind, in the order of
+/// their keys. (Hadoop, S3A: the marker tool, audit.)
+///
+/// It is refused with `NoSuchBucket`, then with `NotDirectory` and the path's key if a file exists
+/// there, then with `NotFound` if nothing exists there; the root always exists. Nothing changes. It
+/// sends one look, and a page for each 1,000 keys, and takes memory for all keys below the path.
 pub type AuditMarkers = MarkerTool<Audit>;
 
-/// Deletes the surplus markers below a path, its own among them, and tells how many they were: those that have no
-/// bytes, and with which another key begins. Refused as `AuditMarkers` is, with nothing changed. Nothing is deleted
-/// before all keys are listed. Requests and memory as there, and a batch for each 1,000 surplus ones. (Hadoop, S3A:
-/// the marker tool, clean.)
+/// Deletes the surplus markers of a directory and of those below it, and returns their number. A
+/// marker is surplus if it has no bytes and another key begins with it. (Hadoop, S3A: the marker
+/// tool, clean.)
+///
+/// It is refused as `AuditMarkers` is, with nothing changed. Nothing is deleted before all keys are
+/// listed. It takes the same requests and memory, and a batch for each 1,000 surplus markers.
 pub type CleanMarkers = MarkerTool<Clean>;
 
-/// Puts the missing markers of the directories below a path, its own among them, and tells how many they were:
-/// those at which nothing stands, and with which a key begins. Refused as `AuditMarkers` is, with nothing changed.
-/// Nothing is put before all keys are listed. Requests as there, and one for each missing one; memory for all
-/// keys, and for all missing markers. (Hadoop, S3A: directory markers, keeping them.)
+/// Puts the missing markers of a directory and of those below it, and returns their number. A
+/// marker is missing if nothing exists at its key and another key begins with it. (Hadoop, S3A:
+/// directory markers, keeping them.)
+///
+/// It is refused as `AuditMarkers` is, with nothing changed. Nothing is put before all keys are
+/// listed. It sends the same requests, and one for each missing marker. It takes memory for all
+/// keys, and for all missing markers.
 pub type FillMarkers = MarkerTool<Fill>;
 
-/// How many keys, with these.
+/// These keys, with their number as the answer.
 fn counted(keys: KeyList) -> Found<u64>
     ensures { result ≡ record { keys = keys; answer = length keys } }
 {

@@ -42,12 +42,12 @@ none_after p k (s ∷ rs) g n h =
     let m : begins p s.key ≡ false = contrary (begins p s.key) (λ t. sym n ∙ between p k s.key g h.0 t) in
     ap (λ b. cond b (s ∷ below p rs) (below p rs)) m ∙ none_after p s.key rs (le_le text_total p k s.key g h.0) m h.1
 
--- behind a key that does not begin with p there is none that does
+-- After a key that does not begin with p, no key begins with p.
 pub none_left : (p : List ℕ) (rest es : List (UploadRef × List ℕ)) (e : UploadRef × List ℕ) → rest ≡ e ∷ es → Follows p (keys_of rest)
     → begins p e.0.key ≡ false → below p (keys_of rest) ≡ []
 none_left p rest es e h g f = grind (arith, none_after)
 
--- the page is whole
+-- The page is whole.
 whole : (xs rest all : List UploadRef) → xs ++ rest ≡ all → rest ≡ [] → xs ≡ all
 whole xs rest all told none = sym (append-nil xs) ∙ ap (λ l. xs ++ l) (sym none) ∙ told
 
@@ -110,7 +110,7 @@ all_follow p f (r ∷ rs) s h = by (all_follow p f rs (sorted_tail ref_cmp r rs 
     by ih true t = (h r t, kept_follows f r rs s)
     by ih false t = ih
 
--- the places from a start on
+-- True if the place is at the start or after it.
 abbrev from_start : Bound UploadRef → UploadRef → Bool
 from_start lo r = is_from_start ref_cmp lo r && true
 
@@ -137,11 +137,11 @@ first_in p r = by (text_cmp p r.key) (nat_cmp 0 r.upload) (zero_least r.upload) 
     by Equal Greater h = absurd (false≢true (sym h))
     by Greater s h = refl
 
--- what the index gives from a start on
+-- The entries of the index from a start on.
 abbrev pub from_place : Bound UploadRef → Uploads → List (UploadRef × List ℕ)
 from_place lo m = entries_between ref_cmp lo Unbounded (fin.entries (keyed m))
 
--- the first place at which a key that begins with p can stand
+-- The first place that a key with prefix p can have.
 abbrev pub first_of : List ℕ → Bound UploadRef
 first_of p = Included (record { key = p; upload = 0 })
 
@@ -156,13 +156,13 @@ listed_from : (p : List ℕ) (lo : Bound UploadRef) (after : Option UploadRef) (
     → below p (keys_of (from_place lo m)) ≡ listed p after m
 listed_from p lo after m h = grind (arith, keys_between, same_below, keys_keyed)
 
--- what is left from a start on, where a page of what comes behind `after` begins
+-- The entries that are left at the start of a page after `after`.
 pub record IsRest (p : List ℕ) (after : Option UploadRef) (m : Uploads) (rest : List (UploadRef × List ℕ)) : Type 0 where
   pub follows : Follows p (keys_of rest)
   pub own : AreOwn rest
   pub listed_all : below p (keys_of rest) ≡ listed p after m
 
--- all that begin with p come behind what is less than p
+-- If a key is less than p, all keys that begin with p come after it.
 pub first_after : (p : List ℕ) (a : UploadRef) (m : Uploads) → lt text_cmp a.key p ≡ true → listed p None m ≡ listed p (Some a) m
 first_after p a m l = same_below p (is_behind None) (is_behind (Some a)) (map (λ e. e.0) (fin.entries (refs m)))
     (λ r b. sym (by (text_cmp a.key r.key) (nat_cmp a.upload r.upload) (lt_le text_total a.key p r.key l (from_prefix p r.key b))))
@@ -176,7 +176,7 @@ filter_own f [] h = tt
 filter_own f (e ∷ es) h = (elim (f e) as (λ b. AreOwn (filter f es) → AreOwn (cond b (e ∷ filter f es) (filter f es)))
     [ true ↦ λ ih. (h.0, ih) | false ↦ λ ih. ih ]) (filter_own f es h.1)
 
--- each place from a start on stands with its own key
+-- From a start on, each place is stored with its own key.
 own_from : (lo : Bound UploadRef) (m : Uploads) → AreOwn (from_place lo m)
 own_from lo m = filter_own _ (fin.entries (keyed m)) (keyed_own m)
 

@@ -1,4 +1,4 @@
--- The index against the uploads.
+-- The index agrees with the uploads.
 use Rattle.basics.proofs.Tree.{entries_empty, tied}
 use Rattle.basics.specs.Order.{text_cmp, text_total}
 use Rattle.multipart.specs.Index.{keyed, keyed_of}
@@ -34,7 +34,7 @@ exact_refs a b h = ap (λ (p : List ℕ × ℕ). record { key = p.0; upload = p.
 both_tied : (r s : Ordering) → is_eq (ordering_then r s) ≡ (is_eq r && is_eq s)
 both_tied r s = grind arith
 
--- whether a place ties with an upload's, where the ids tie or not
+-- If the ids are equal, two places are equal exactly if their keys are.
 ties : (r : UploadRef) (i : ℕ) (u : Upload) → is_eq (nat_cmp r.upload i) ≡ true
     → is_eq (ref_cmp r (record { key = u.key; upload = i })) ≡ is_eq (text_cmp r.key u.key)
 ties r i u t = both_tied (text_cmp r.key u.key) (nat_cmp r.upload i) ∙ ap (λ b. is_eq (text_cmp r.key u.key) && b) t ∙ and-true _
@@ -43,7 +43,7 @@ parts : (r : UploadRef) (i : ℕ) (u : Upload) → is_eq (nat_cmp r.upload i) �
     → is_eq (ref_cmp r (record { key = u.key; upload = i })) ≡ false
 parts r i u t = both_tied (text_cmp r.key u.key) (nat_cmp r.upload i) ∙ ap (λ b. is_eq (text_cmp r.key u.key) && b) t ∙ and-false _
 
--- an upload is listed by its own key
+-- The key of an upload, if it is the one at this place.
 abbrev mark : UploadRef → Option Upload → Option (List ℕ)
 mark r None = None
 mark r (Some u) = cond (is_eq (text_cmp r.key u.key)) (Some u.key) None
@@ -81,7 +81,7 @@ keyed_empty = ap (λ es. from_entries (map keyed_of es)) (sym (entries_empty nat
 same : (m n : FinMap ref_cmp (List ℕ)) → ((r : UploadRef) → get m r ≡ get n r) → m ≡ n
 same m n h = same_map refs_total exact_refs m n h
 
--- a new upload
+-- A new upload adds its place to the index.
 pub keyed_insert : (m : Uploads) (i : ℕ) (u : Upload) → get m i ≡ None
     → keyed (insert m i u) ≡ insert (keyed m) (record { key = u.key; upload = i }) u.key
 keyed_insert m i u h = same _ _ (λ r.
@@ -104,7 +104,7 @@ keyed_insert m i u h = same _ _ (λ r.
 no_mark : (b : Bool) (o : Option (List ℕ)) → None ≡ cond b None (cond b o None)
 no_mark b o = grind arith
 
--- an upload that ends
+-- The end of an upload removes its place from the index.
 pub keyed_remove : (m : Uploads) (i : ℕ) (u : Upload) → get m i ≡ Some u
     → keyed (remove m i) ≡ remove (keyed m) (record { key = u.key; upload = i })
 keyed_remove m i u h = same _ _ (λ r.
@@ -125,7 +125,7 @@ keyed_remove m i u h = same _ _ (λ r.
         ap (λ b. mark r (cond b None (get m r.upload))) t
         ∙ sym (ap (λ b. cond b None (mark r (get m r.upload))) (parts r i u t))
 
--- an upload that stays with its key
+-- An upload that keeps its key leaves the index as it is.
 pub keyed_replace : (m : Uploads) (i : ℕ) (u w : Upload) → get m i ≡ Some u → w.key ≡ u.key → keyed (insert m i w) ≡ keyed m
 keyed_replace m i u w h k = same _ _ (λ r. get_keyed (insert m i w) r ∙ ap (mark r) (get-insert nat_cmp_total m i w r.upload) ∙ by r
     (is_eq (nat_cmp r.upload i)) refl ∙ sym (get_keyed m r))
@@ -138,7 +138,7 @@ keyed_replace m i u w h k = same _ _ (λ r. get_keyed (insert m i w) r ∙ ap (m
         ∙ sym (ap (mark r) (ap (get m) (exact_unsigned _ _ (tied _ t)) ∙ h))
     by r false t = ap (λ b. mark r (cond b (Some w) (get m r.upload))) t
 
--- a part put in, or not
+-- A part that is put in, or not, leaves the index as it is.
 pub keyed_part : (r : Result (Unit {0}) AllocError) (m n : Uploads) (i x : ℕ) (b : List ℕ)
     → OnOk r (IsSomeAnd (get m i) (λ u. n ≡ insert m i (with_part u x b))) → OnErr r (n ≡ m) → keyed n ≡ keyed m
 keyed_part (Err e) m n i x b ok err = ap keyed err
@@ -150,7 +150,7 @@ keyed_part (Ok _) m n i x b ok err = by (get m i) refl ok
 
 -- ---- the places of the index
 
--- the entries with other values
+-- The entries with the unit value in place of theirs.
 abbrev bare : List (UploadRef × List ℕ) → List (UploadRef × Unit {0})
 bare es = map (λ e. (e.0, tt)) es
 
@@ -176,7 +176,7 @@ keys_bare : (es : List (UploadRef × List ℕ)) → keys_of es ≡ map (λ e. e.
 keys_bare [] = refl
 keys_bare (e ∷ es) = ap (λ l. e.0 ∷ l) (keys_bare es)
 
--- the index has the places of the listing
+-- The index has the places of the listing.
 pub keys_keyed : (m : Uploads) → keys_of (entries (keyed m)) ≡ map (λ e. e.0) (entries (refs m))
 keys_keyed m = keys_bare (entries (keyed m)) ∙ ap (map (λ e. e.0)) (sym (entries_bare (entries m)))
 
@@ -195,6 +195,6 @@ made_own [] = subst AreOwn (sym (entries_empty ref_cmp)) tt
 made_own (e ∷ es) = subst AreOwn (sym (entries-insert refs_total (from_entries (map keyed_of es)) (keyed_of e).0 e.1.key))
     (put_own (keyed_of e).0 (entries (from_entries (map keyed_of es))) (made_own es))
 
--- each place of the index stands with its own key
+-- Each place of the index is stored with its own key.
 pub keyed_own : (m : Uploads) → AreOwn (entries (keyed m))
 keyed_own m = made_own (entries m)

@@ -1,4 +1,4 @@
--- Part numbers are 1 to 10,000, so that an upload has at most so many parts.
+-- Part numbers are 1 to 10,000, so an upload has at most 10,000 parts.
 use Rattle.basics.proofs.Naturals.{below_is, less_is}
 use Rattle.basics.proofs.Tree.{map_sorted, tied}
 use Rattle.multipart.specs.Numbers.{AreNumbered}
@@ -19,12 +19,12 @@ use Rattle.std.specs.List.Sorted.{IsStrictlySortedBy}
 use Rattle.std.specs.Map.{keys_of}
 use Rattle.std.specs.Ordering.{eq_by_cmp, nat_cmp}
 
--- no part, so no number
+-- Without parts, all parts are numbered so.
 pub numbered_none : (es : List (ℕ × List ℕ)) → es ≡ [] → AreNumbered (from_entries es)
 numbered_none es e n h =
     absurd (false≢true (sym (ap is_some (get-from_entries nat_cmp_total es n ∙ ap (find nat_cmp n) e)) ∙ h))
 
--- a part with a number is put in
+-- After a part with a valid number is put in, all parts are numbered so.
 pub numbered_insert : (m : Parts) (k : ℕ) (v : List ℕ) → AreNumbered m → is_part_number k ≡ true → AreNumbered (insert m k v)
 numbered_insert m k v old new n h = by (eq_by_cmp nat_cmp n k) refl
   where
@@ -32,7 +32,7 @@ numbered_insert m k v old new n h = by (eq_by_cmp nat_cmp n k) refl
     by true e = ap is_part_number (exact_unsigned n k (tied (nat_cmp n k) e)) ∙ new
     by false e = old n (sym (ap is_some (get-insert nat_cmp_total m k v n ∙ ap (λ b. cond b (Some v) (get m n)) e)) ∙ h)
 
--- numbers that rise from n up to 10,000
+-- A list whose numbers rise from n up to 10,000 has at most 10,000 - n members.
 few_from : (n : ℕ) (ns : List NamedPart) → n ≤ 10000 → rises_from n ns ≡ true → list_all (λ p. is_part_number p.number) ns ≡ true
     → length ns + n ≤ 10000
 few_from n [] m r s = omega arith
@@ -47,7 +47,7 @@ few_from n (x ∷ ns) m r s =
     small : (k : ℕ) → is_part_number k ≡ true → k ≤ 10000
     small k h = grind arith
 
--- a list of parts whose numbers rise has at most 10,000
+-- A list of parts whose numbers rise has at most 10,000 members.
 pub few : (ns : List NamedPart) → rises ns ≡ true → list_all (λ p. is_part_number p.number) ns ≡ true → length ns ≤ 10000
 few [] r s = omega arith
 few (x ∷ ns) r s =
@@ -90,7 +90,7 @@ most : (ks : List ℕ) → IsStrictlySortedBy nat_cmp ks → AllByRecursion (λ 
 most [] s a = omega arith
 most (x ∷ ks) s a = let rest : length ks + x ≤ 10000 = rising x ks s a.0 a.1 in let least : 1 ≤ x = (grind arith) in omega arith
 
--- an upload has at most 10,000 parts
+-- An upload has at most 10,000 parts.
 pub few_parts : (m : Parts) → AreNumbered m → len m ≤ 10000
 few_parts m h =
     let e : len m ≡ length (keys_of (entries m)) = len-entries m ∙ sym (length-keys_of (entries m)) in
@@ -98,11 +98,11 @@ few_parts m h =
     (numbers (entries m) (λ n g. h n (ap is_some (get-entries m n) ∙ g))) in
     omega arith
 
--- what holds of each key, entry by entry
+-- What holds of each key holds of each entry's key.
 pub by_keys : {X : Type 0} (P : ℕ → Type 0) (es : List (ℕ × X)) → AllByRecursion P (keys_of es) → AllByRecursion (λ e. P e.0) es
 by_keys P [] a = tt
 by_keys P (e ∷ es) a = (a.0, by_keys P es a.1)
 
--- each part of an upload has a number from 1 to 10,000
+-- Each part of an upload has a number from 1 to 10,000.
 pub all_numbered : (m : Parts) → AreNumbered m → AllByRecursion (λ e. is_part_number e.0 ≡ true) (entries m)
 all_numbered m h = by_keys (λ k. is_part_number k ≡ true) (entries m) (numbers (entries m) (λ n g. h n (ap is_some (get-entries m n) ∙ g)))

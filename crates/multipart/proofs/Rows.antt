@@ -1,4 +1,4 @@
--- A row of entries whose numbers rise, as a finite map.
+-- A vector of entries whose numbers rise, seen as a finite map.
 use Rattle.basics.proofs.Naturals.{greater_is, less_is}
 use Rattle.basics.proofs.Tree.{entries_made, map_sorted}
 use Rattle.multipart.specs.Numbers.{IsPlace, is_number_at}
@@ -49,7 +49,7 @@ module _ {X : Type 0} where
       less_is _ _ ((λ t. nat_cmp (sym (key_of es i d (omega arith)) t) (sym (key_of es j d lt) t)) ∙ Less-from_sorted nat_cmp (keys_of es) i
       j d.0 s less (omega (arith, lt, length-keys_of es)))
 
-  -- what a search by halves asks
+  -- The order that a binary search needs.
   indexed : (n : ℕ) (es : List (ℕ × X)) → IsStrictlySortedBy nat_cmp (keys_of es)
       → IsNonDecreasingBy (λ e. ordering_index (nat_cmp e.0 n)) es
   indexed n es s i j d le lt = elim (cases_lt i j) [
@@ -63,7 +63,7 @@ module _ {X : Type 0} where
       even : (a b : ℕ) → a ≡ b → a ≤ b
       even a b e = omega arith
 
-  -- where it ends with the number
+  -- If the search finds the number, this is its place.
   hit : (n : ℕ) (es : List (ℕ × X)) (i : ℕ) (d : ℕ × X) → IsStrictlySortedBy nat_cmp (keys_of es) → i < length es → (get_or es i d).0 ≡ n
       → IsPlace n es i × (is_number_at es i n ≡ true)
   hit n [] i d s h e = absurd (omega arith)
@@ -76,7 +76,7 @@ module _ {X : Type 0} where
       let up : x.0 < (get_or es i d).0 = rises (x ∷ es) 0 (suc i) d s (omega arith) h in
       ((omega (arith, up, e), more.0), more.1)
 
-  -- and where it ends without
+  -- If the search does not find the number, it would go to this place.
   miss : (n : ℕ) (es : List (ℕ × X)) (i : ℕ) → i ≤ length es → AllWithin (λ e. nat_cmp e.0 n ≡ Less) es 0 i
       → AllWithin (λ e. nat_cmp e.0 n ≡ Greater) es i (length es) → IsPlace n es i × (is_number_at es i n ≡ false)
   miss n [] zero le a b = (tt, refl)
@@ -91,7 +91,7 @@ module _ {X : Type 0} where
       (λ k d l h. b (suc k) d (omega arith) (omega arith)) in
       ((less_is e.0 n (a 0 e (omega arith) (omega arith)), more.0), more.1)
 
-  -- what a search answers
+  -- The result of a search.
   pub record Searched (n : ℕ) (es : List (ℕ × X)) (r : Result ℕ ℕ) : Type 0 where
     pub found : IfOk r (λ i. IsPlace n es i × (is_number_at es i n ≡ true))
     pub absent : IfErr r (λ i. IsPlace n es i × (is_number_at es i n ≡ false))
@@ -109,7 +109,7 @@ module _ {X : Type 0} where
   searched n es d (Err i) s range apart = let p = apart (indexed n es s) in record
       { found = tt; absent = miss n es i range p.0 p.1; within = tt; place = range }
 
-  -- another entry in a place
+  -- Setting the entry at its place puts it into the map.
   pub set_is : (n : ℕ) (v : X) (es : List (ℕ × X)) (i : ℕ) → IsPlace n es i → is_number_at es i n ≡ true
       → set es i (n, v) ≡ put nat_cmp n v es
   set_is n v [] zero p h = absurd (cc)
@@ -122,7 +122,7 @@ module _ {X : Type 0} where
   set_is n v (e ∷ es) (suc i) p h = ap (λ l. e ∷ l) (set_is n v es i p.1 h) ∙ sym
       (ap (λ r. by_order r ((n, v) ∷ e ∷ es) ((e.0, v) ∷ es) (e ∷ put nat_cmp n v es)) (cmp_greater n e.0 p.0))
 
-  -- one more entry at a place
+  -- Inserting an entry at its place puts it into the map.
   pub insert_is : (n : ℕ) (v : X) (es : List (ℕ × X)) (i : ℕ) → IsPlace n es i → is_number_at es i n ≡ false
       → inserted es i (n, v) ≡ put nat_cmp n v es
   insert_is n v [] zero p h = refl
@@ -143,7 +143,7 @@ module _ {X : Type 0} where
     pub put_made : from_entries {R = nat_cmp} fs ≡ insert (from_entries es) n v
     put_made = same_entries_map _ _ (entries_made nat_cmp_total fs put_sorted ∙ sym made)
 
-  -- what is found at a place
+  -- The entry at the number's place is the one that the map has.
   pub found_at : (n : ℕ) (es : List (ℕ × X)) (i : ℕ) (e : ℕ × X) → IsPlace n es i → is_number_at es i n ≡ true → e ≡ get_or es i e
       → find nat_cmp n es ≡ Some e.1
   found_at n [] zero e p h is = absurd (cc)
@@ -168,7 +168,7 @@ module _ {X : Type 0} where
   none_at n (e ∷ es) (suc i) s p h = ap (λ r. cond (is_eq r) (Some e.1) (find nat_cmp n es)) (cmp_greater n e.0 p.0) ∙ none_at n es i
       (sorted_tail nat_cmp e.0 (keys_of es) s) p.1 h
 
-  -- the place behind a number that is there, and behind one that is not
+  -- The place after a number that is there, and after one that is not.
   behind : (n : ℕ) (es : List (ℕ × X)) (i : ℕ) → IsStrictlySortedBy nat_cmp (keys_of es) → IsPlace n es i → is_number_at es i n ≡ true
       → IsPlace (n + 1) es (suc i)
   behind n [] i s p h = absurd (cc)
@@ -196,7 +196,7 @@ module _ {X : Type 0} where
   past n (e ∷ es) zero p h = let up : n < e.0 = apart n e.0 h p in omega (arith, up)
   past n (e ∷ es) (suc i) p h = (omega (arith, p.0), past n es i p.1 h)
 
-  -- the first entry behind a number
+  -- The first entry with a greater number.
   pub next_at : (n : ℕ) (es : List (ℕ × X)) (i : ℕ) → IsPlace (n + 1) es i
       → slice_get es i ≡ slice_get (entries_between nat_cmp (Excluded n) Unbounded es) 0
   next_at n [] zero p = refl

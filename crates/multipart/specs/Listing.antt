@@ -1,4 +1,4 @@
--- The listing of uploads as it is walked.
+-- The listing of uploads, as a walk over the index.
 use Rattle.basics.specs.Order.{text_cmp}
 use Rattle.s3_types.specs.Pages.{begins}
 use Rattle.s3_types.specs.declared.request.UploadRef.{UploadRef}
@@ -6,15 +6,15 @@ use Rattle.std.specs.List.{AllByRecursion, filter}
 use Rattle.std.specs.Ordering.{is_lt}
 use Rattle.std.specs.Prelude.{List, false, ℕ, [], ◌∷◌, ◌≡◌}
 
--- the uploads whose keys begin with p
+-- The uploads whose keys begin with p.
 abbrev pub below : List ℕ → List UploadRef → List UploadRef
 below p rs = filter (λ r. begins p r.key) rs
 
--- the keys never fall, from p on
+-- The keys do not fall, from p on.
 abbrev pub Follows : List ℕ → List UploadRef → Type 0
 Follows p [] = Unit {0}
 Follows p (r ∷ rs) = (is_lt (text_cmp r.key p) ≡ false) × Follows r.key rs
 
--- each place stands with its own key
+-- Each place is stored with its own key.
 abbrev pub AreOwn : List (UploadRef × List ℕ) → Type 0
 AreOwn es = AllByRecursion (λ e. e.1 ≡ e.0.key) es

@@ -5,7 +5,7 @@ use s3_types::Refusal;
 use std::alloc::AllocError;
 use thiserror::Error;
 
-/// Why a call on an upload gave nothing.
+/// Why a call on an upload failed.
 #[derive(Clone, Copy, Debug, PartialEq, Eq, Error)]
 pub enum UploadFault {
     /// S3 refuses the request.

@@ -11,7 +11,7 @@ use s3_types::{Bytes, Key};
 use std::collections::btree_map::Iter;
 use std::marker::Model;
 
-/// A live upload as it is lent: its id, its key and its parts.
+/// A borrowed live upload: its id, its key and its parts.
 #[derive(Clone, Copy)]
 pub struct UploadView<'a> {
     pub upload: u64,
@@ -19,7 +19,8 @@ pub struct UploadView<'a> {
     pub parts: &'a Parts,
 }
 
-/// Live uploads in the order of their ids. Clauses see it as the list of those that are still to come.
+/// Live uploads in the order of their ids. Contracts see it as the list of those that are still to
+/// come.
 #[derive(Drop)]
 pub struct UploadEntries<'a> {
     rest: Iter<'a, u64, Live>,
@@ -56,7 +57,8 @@ impl<'a> Iterator for UploadEntries<'a> {
     }
 }
 
-/// Parts in the order of their numbers. Clauses see it as the list of those that are still to come.
+/// Parts in the order of their numbers. Contracts see it as the list of those that are still to
+/// come.
 #[derive(Drop)]
 pub struct PartEntries<'a> {
     rest: &'a [(u32, Part)],
@@ -87,7 +89,7 @@ impl<'a> Iterator for PartEntries<'a> {
 }
 
 impl Parts {
-    /// All parts in the order of their numbers, which are 1 to 10,000.
+    /// Returns all parts in the order of their numbers, which are 1 to 10,000.
     pub fn iter(&self) -> PartEntries<'_>
         ensures entries { result ≡ fin.entries self.now }
         ensures numbers { AllByRecursion (λ e. is_part_number e.0 ≡ true) result }
@@ -109,7 +111,7 @@ impl Lives {
 }
 
 impl Uploads {
-    /// All live uploads in the order of their ids.
+    /// Returns all live uploads in the order of their ids.
     pub fn iter(&self) -> UploadEntries<'_>
         ensures { result ≡ fin.entries self.now }
     {

@@ -83,7 +83,7 @@ fn all_large(held: &Parts, minimum: u64, parts: &[NamedPart]) -> bool
     true
 }
 
-/// The checks of a completion in their order.
+/// Makes the checks of a completion in their order.
 fn check(live: &Live, parts: &[NamedPart], minimum: u64) -> Result<(), Refusal>
     ensures ok { OnOk result (joined (Some live.now) parts.now minimum
         ≡ Ok (flat_map (bytes_of live.now.parts) parts.now)) }
@@ -117,7 +117,7 @@ fn copied_bytes(alloc: Global, held: &Parts, parts: &[NamedPart]) -> Result<Vec<
     Ok(bytes)
 }
 
-/// The bytes of the named parts, one behind another. Those of a single part are shared.
+/// Returns the bytes of the named parts, joined. A single part's bytes are shared and not copied.
 fn joined_bytes(alloc: Global, held: &Parts, parts: &[NamedPart]) -> Result<Bytes, AllocError>
     ensures { IfOk result (λ bytes. bytes ≡ flat_map (bytes_of held.now) parts.now) }
 {
@@ -136,11 +136,16 @@ fn tags_of(alloc: Global, parts: &[NamedPart]) -> Result<Vec<Tag>, AllocError>
 }
 
 impl Uploads {
-    /// What a completion of these parts makes: their bytes one behind another, in the order of the list,
-    /// and the tag of their joined digests. The upload stays as it is. Refused are, in this order:
-    /// NoSuchUpload where the upload is not live with this key, MalformedList where no part is named,
-    /// InvalidPartOrder where the numbers do not rise, InvalidPart where a part is not there or has
-    /// another tag, and EntityTooSmall where a part that is not the last has fewer bytes than the minimum.
+    /// Returns the object that a completion of these parts makes: their bytes joined in the order
+    /// of the list, and the tag of their joined digests. The upload stays as it is. It is refused,
+    /// in this order:
+    ///
+    /// - with NoSuchUpload if the upload is not live with this key,
+    /// - with MalformedList if no part is named,
+    /// - with InvalidPartOrder if the numbers do not rise,
+    /// - with InvalidPart if a part is missing or has another tag,
+    /// - with EntityTooSmall if a part other than the last has fewer bytes than the minimum.
+    ///
     /// (Amazon S3 API, CompleteMultipartUpload.)
     pub fn join(
         &self,

@@ -1,12 +1,12 @@
-//! The multipart uploads of a bucket that have not ended: their parts, what a completion joins, and
-//! listings. (Amazon S3 API: CreateMultipartUpload, UploadPart, CompleteMultipartUpload,
+//! The live multipart uploads of a bucket: their parts, the object that a completion makes of
+//! them, and listings. (Amazon S3 API: CreateMultipartUpload, UploadPart, CompleteMultipartUpload,
 //! AbortMultipartUpload, ListParts, ListMultipartUploads.)
 //!
 //! # What is proved
 //!
-//! `Uploads`: Every call is an equation on the finite map from ids to live uploads, for both outcomes,
-//! with the checks of a completion in their order; the listing of uploads and of an upload's parts is
-//! the definition's.
+//! `Uploads`: each call does exactly what its definition says on the finite map from ids to live
+//! uploads, whether it succeeds or fails. A completion makes its checks in the defined order. The
+//! listings of uploads and of an upload's parts are those of the definitions.
 #![tactic(auto)]
 
 mod fault;

@@ -11,7 +11,7 @@ use std::alloc::{AllocError, Global};
 use std::collections::btree_map::Range;
 use std::ops::Bound;
 
-/// Some live uploads by key and then by id, and whether more remain.
+/// Some live uploads, ordered by key and then by id, and whether more remain.
 #[derive(Drop)]
 pub struct UploadPage {
     pub entries: UploadList,
@@ -27,7 +27,8 @@ fn add_upload(entries: &mut Vec<UploadRef>, key: &Key, upload: u64) -> Result<()
     Ok(())
 }
 
-/// Adds the uploads that are left whose keys begin with a prefix, and tells whether more remain.
+/// Adds those of the remaining uploads whose keys begin with a prefix, and returns whether more
+/// remain.
 fn add_uploads(
     rest: Range<'_, Place, Key>,
     prefix: &Text,
@@ -53,7 +54,7 @@ fn add_uploads(
     Ok(false)
 }
 
-/// A page of the uploads that are left whose keys begin with a prefix.
+/// Returns a page of those of the remaining uploads whose keys begin with a prefix.
 fn page_of(
     alloc: Global,
     rest: Range<'_, Place, Key>,
@@ -118,9 +119,9 @@ impl Uploads {
         )
     }
 
-    /// A page of the live uploads whose keys begin with a prefix, by key and then by id: at most `limit` of
-    /// them behind `after`, if that is given, in O(log u + k) for k entries. (Amazon S3 API,
-    /// ListMultipartUploads.)
+    /// Returns a page of the live uploads whose keys begin with a prefix, ordered by key and then
+    /// by id: at most `limit` of them, and if `after` is given, only those after it. Takes O(log u
+    /// + k) for k entries. (Amazon S3 API, ListMultipartUploads.)
     pub fn list(
         &self,
         prefix: &Text,

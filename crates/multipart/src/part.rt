@@ -14,7 +14,7 @@ use s3_types::{Bytes, PartSize, PartSizes, Tag, part_digest, tag_of};
 use std::alloc::{AllocError, Global};
 use std::marker::Model;
 
-/// The bytes of a part, and the digest that was made of them when they came.
+/// The bytes of a part, and their digest, which was computed when they arrived.
 #[derive(Drop)]
 pub struct Part {
     bytes: Bytes,
@@ -33,7 +33,7 @@ impl Model for Part {
 }
 
 impl Part {
-    /// A part of these bytes, with their tag.
+    /// A part of these bytes. Computes their digest.
     pub fn new(bytes: Bytes) -> Part
         ensures { result ≡ bytes }
     {
@@ -41,7 +41,7 @@ impl Part {
         Part { bytes, digest }
     }
 
-    /// The tag of the part's bytes.
+    /// Returns the tag of the part's bytes.
     #[tactic(auto, unfolding(s3_types::specs::Tags::plain_tag))]
     pub fn tag(&self) -> Tag
         ensures { result ≡ plain_tag self.now }
@@ -49,7 +49,7 @@ impl Part {
         tag_of(&self.digest)
     }
 
-    /// The part's bytes.
+    /// Returns the part's bytes.
     pub fn bytes(&self) -> &Bytes
         ensures { result.now ≡ self.now }
     {
@@ -57,7 +57,7 @@ impl Part {
     }
 }
 
-/// The same part. The two share the bytes.
+/// Copies the part. The two share the bytes.
 impl Clone for Part {
     ghost is_clone = { λ p copy. copy ≡ p };
 
@@ -69,8 +69,8 @@ impl Clone for Part {
     }
 }
 
-/// The parts of an upload by their numbers, which are 1 to 10,000, in a row that rises: most uploads have one part, and
-/// a tree's least node has room for eleven.
+/// The parts of an upload by their numbers, 1 to 10,000, in a vector with rising numbers. Most
+/// uploads have one part, and the smallest node of a tree has room for eleven.
 #[derive(Drop)]
 pub struct Parts {
     pub(crate) held: Vec<(u32, Part)>,
@@ -95,7 +95,7 @@ impl Model for Parts {
         × AreNumbered (fin.from_entries p.held.items) };
 }
 
-/// The same parts at the same numbers. The two share the bytes.
+/// Copies the parts. The two share the bytes.
 impl Clone for Parts {
     ghost is_clone = { λ p copy. copy ≡ p };
 
@@ -106,7 +106,8 @@ impl Clone for Parts {
     }
 }
 
-/// Where the part of a number is, or where it would go, in O(log n) for n parts.
+/// Returns the place of the part with this number, or the place where it would go, in O(log n) for
+/// n parts.
 fn search(held: &[(u32, Part)], number: u32) -> Result<usize, usize>
     requires { IsStrictlySortedBy nat_cmp (keys_of held.now) }
     ensures found { IfOk result (λ at. IsPlace number held.now at × (is_number_at held.now at number ≡ true)) }
@@ -117,7 +118,7 @@ fn search(held: &[(u32, Part)], number: u32) -> Result<usize, usize>
     held.binary_search_by_key(&number, |entry| entry.0)
 }
 
-/// How many parts have a number up to this one, in O(log n) for n parts.
+/// Returns how many parts have this number or a lower one, in O(log n) for n parts.
 fn place_behind(held: &[(u32, Part)], number: u32) -> usize
     requires { IsStrictlySortedBy nat_cmp (keys_of held.now) }
     ensures { IsPlace (number + 1) held.now result }
@@ -129,7 +130,7 @@ fn place_behind(held: &[(u32, Part)], number: u32) -> usize
 }
 
 impl Parts {
-    /// No parts, and room for one.
+    /// No parts, with room for one.
     pub(crate) fn new(alloc: Global) -> Result<Parts, AllocError>
         ensures { IfOk result (λ parts. parts ≡ fin.empty) }
     {
@@ -163,7 +164,7 @@ impl Parts {
         }
     }
 
-    /// How many parts there are, at most 10,000.
+    /// Returns the number of parts, at most 10,000.
     pub fn count(&self) -> u32
         ensures count { result ≡ fin.len self.now }
         ensures most { result ≤ MOST_PARTS }
@@ -171,7 +172,7 @@ impl Parts {
         self.held.as_slice().len() as u32
     }
 
-    /// The parts by rising number, each with its length and its tag.
+    /// Returns the parts by rising number, each with its length and its tag.
     pub(crate) fn sizes(&self, alloc: Global) -> Result<PartSizes, AllocError>
         ensures { IfOk result (λ made. made ≡ sizes self.now) }
     {
@@ -187,7 +188,7 @@ impl Parts {
         Ok(PartSizes::from_vec(sizes))
     }
 
-    /// The part of the least number that is greater than `after`.
+    /// Returns the part with the least number that is greater than `after`.
     pub(crate) fn next(&self, after: u32) -> Option<(u32, &Part)>
         ensures { option_map (λ p. (p.0, p.1.now)) result ≡ next_of after self.now }
     {

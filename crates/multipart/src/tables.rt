@@ -15,7 +15,7 @@ use std::collections::btree_map::Range;
 use std::marker::Model;
 use std::ops::Bound;
 
-/// A live upload: its key, the same key as the index has it, and its parts.
+/// A live upload: its key, the text of the key that it shares with the index, and its parts.
 #[derive(Drop)]
 pub struct Live {
     key: Key,
@@ -54,21 +54,21 @@ impl Live {
         Ok(Live { key, text, parts })
     }
 
-    /// The key of the upload.
+    /// Returns the key of the upload.
     pub fn key(&self) -> &Key
         ensures { result.now ≡ self.now.key }
     {
         &self.key
     }
 
-    /// The parts that were uploaded.
+    /// Returns the parts that were uploaded.
     pub fn parts(&self) -> &Parts
         ensures { result.now ≡ self.now.parts }
     {
         &self.parts
     }
 
-    /// The text of the upload's key.
+    /// Returns the text of the upload's key.
     pub fn into_text(self) -> Text
         ensures { result ≡ self.key }
     {
@@ -131,7 +131,7 @@ impl Clone for Lives {
 }
 
 impl Lives {
-    /// No live upload.
+    /// No live uploads.
     pub fn new(alloc: Global) -> Lives
         ensures { result ≡ fin.empty }
     {
@@ -140,7 +140,7 @@ impl Lives {
         }
     }
 
-    /// Puts an upload with no parts at this id. After want of memory the uploads are as before.
+    /// Adds an upload with no parts under this id. If memory runs out, the uploads are as before.
     pub fn begin(&mut self, alloc: Global, upload: u64, key: Key) -> Result<(), AllocError>
         ensures ok { OnOk result (self.new ≡ fin.insert self.old upload (record { key = key; parts = fin.empty })) }
         ensures err { OnErr result (self.new ≡ self.old) }
@@ -150,14 +150,14 @@ impl Lives {
         Ok(())
     }
 
-    /// The live upload of this id, if there is one.
+    /// Returns the live upload with this id, if there is one.
     pub fn get(&self, upload: u64) -> Option<&Live>
         ensures { option_copied result ≡ fin.get self.now upload }
     {
         self.held.get(&upload)
     }
 
-    /// Takes away the live upload of this id, and gives it back.
+    /// Removes the live upload with this id, and returns it.
     pub fn remove(&mut self, upload: u64) -> Option<Live>
         ensures value { result ≡ fin.get self.old upload }
         ensures removed { self.new ≡ fin.remove self.old upload }
@@ -165,7 +165,7 @@ impl Lives {
         self.held.remove(&upload)
     }
 
-    /// Puts a part into an upload that is there.
+    /// Puts a part into an existing upload.
     pub fn put_part(&mut self, upload: u64, number: u32, part: Part) -> Result<(), AllocError>
         requires there { IsSome (fin.get self.old upload) }
         requires numbered { is_part_number number ≡ true }
@@ -182,14 +182,14 @@ impl Lives {
         Err(error)
     }
 
-    /// How many uploads are live.
+    /// Returns the number of live uploads.
     pub fn count(&self) -> u64
         ensures { result ≡ fin.len self.now }
     {
         self.held.len() as u64
     }
 
-    /// The upload of the least id that is greater than `after`.
+    /// Returns the upload with the least id that is greater than `after`.
     pub fn next(&self, after: u64) -> Option<(u64, &Live)>
         ensures { option_map (λ p. (p.0, p.1.now)) result ≡ next_of after self.now }
     {
@@ -201,7 +201,8 @@ impl Lives {
     }
 }
 
-/// A place in the listing: by a key's text, and then by an upload's id. Any text has a place.
+/// A place in the listing: first by the text of a key, then by the id of an upload. Any text has a
+/// place.
 #[derive(Drop, PartialEq, Eq, PartialOrd, Ord)]
 pub struct Place {
     pub text: Text,
@@ -232,7 +233,7 @@ impl Clone for Place {
     }
 }
 
-/// The keys of live uploads by their places.
+/// The keys of the live uploads by their places.
 #[derive(Drop)]
 pub struct Index {
     held: BTreeMap<Place, Key>,
@@ -262,7 +263,7 @@ impl Clone for Index {
 }
 
 impl Index {
-    /// An index of no upload.
+    /// An index of no uploads.
     pub fn new(alloc: Global) -> Index
         ensures { result ≡ fin.empty }
     {
@@ -271,7 +272,7 @@ impl Index {
         }
     }
 
-    /// Adds an upload's key and id. After want of memory the index is as before.
+    /// Adds the key and id of an upload. If memory runs out, the index is as before.
     pub fn insert(&mut self, place: Place, key: Key) -> Result<(), AllocError>
         ensures ok { OnOk result (self.new ≡ fin.insert self.old place key) }
         ensures err { OnErr result (self.new ≡ self.old) }
@@ -280,14 +281,14 @@ impl Index {
         Ok(())
     }
 
-    /// Takes away an upload's key and id.
+    /// Removes the key and id of an upload.
     pub fn remove(&mut self, place: &Place)
         ensures { self.new ≡ fin.remove self.old place.now }
     {
         let _ = self.held.remove(place);
     }
 
-    /// The entries from a place on.
+    /// Returns the entries from a place on.
     pub fn from(&self, start: Bound<&Place>) -> Range<'_, Place, Key>
         ensures { result ≡ entries_between ref_cmp (bound_map (λ p. p.now) start.entry) Unbounded
             (fin.entries self.now) }

@@ -19,7 +19,7 @@ use std::collections::btree_map::Range;
 use std::marker::Model;
 use std::ops::Bound;
 
-/// A live upload: its id, its key and how many parts it has, at most 10,000.
+/// A live upload: its id, its key and the number of its parts, at most 10,000.
 #[derive(Clone, Copy)]
 pub struct LiveUpload<'a> {
     pub upload: u64,
@@ -27,9 +27,9 @@ pub struct LiveUpload<'a> {
     pub parts: u32,
 }
 
-/// The live uploads of a bucket, which clauses see as a finite map from their ids. Beside them stands an
-/// index by key and id. In the costs below u is the number of uploads, and no call but a completion of
-/// several parts copies a part's bytes.
+/// The live uploads of a bucket. Contracts see them as a finite map from their ids. An index by
+/// key and id is kept beside them. In the costs below, u is the number of uploads. Only a
+/// completion of several parts copies the bytes of parts.
 #[derive(Drop)]
 pub struct Uploads {
     pub(crate) lives: Lives,
@@ -52,8 +52,8 @@ impl Model for Uploads {
     ghost invariant = { λ u. u.index ≡ keyed u.lives };
 }
 
-/// The same uploads with the same parts, in O(u + p) for p parts. The two share the parts' bytes and
-/// the keys' texts.
+/// Copies the uploads with their parts, in O(u + p) for p parts. The two share the bytes of the
+/// parts and the texts of the keys.
 impl Clone for Uploads {
     ghost is_clone = { λ u copy. copy ≡ u };
 
@@ -78,7 +78,7 @@ struct Indexed {
     key: Key,
 }
 
-/// The entry of an upload of this key.
+/// Returns the index entry of an upload.
 fn entry_of(key: &Key, upload: u64) -> Result<Indexed, AllocError>
     ensures place { IfOk result (λ entry. entry.place ≡ record { key = key.now; upload = upload }) }
     ensures key { IfOk result (λ entry. entry.key ≡ key.now) }
@@ -106,8 +106,8 @@ impl Uploads {
         }
     }
 
-    /// Begins an upload with no parts, in O(log u). Its id is greater than those of the live uploads.
-    /// After an error all is as before. (Amazon S3 API, CreateMultipartUpload.)
+    /// Adds an upload with no parts, in O(log u). Its id must be greater than those of the live
+    /// uploads. After an error everything is as before. (Amazon S3 API, CreateMultipartUpload.)
     pub fn create(&mut self, upload: u64, key: Key) -> Result<(), AllocError>
         requires { (i : ℕ) → upload ≤ i → fin.get self.old i ≡ None }
         ensures ok { OnOk result (self.new ≡ fin.insert self.old upload (record { key = key; parts = fin.empty })) }
@@ -128,7 +128,7 @@ impl Uploads {
         Err(AllocError)
     }
 
-    /// The upload that is live with this key.
+    /// Returns the upload that is live with this key and id.
     pub(crate) fn live(&self, key: &Key, upload: u64) -> Option<&Live>
         ensures { option_copied result ≡ live self.now key.now upload }
     {
@@ -141,7 +141,7 @@ impl Uploads {
         None
     }
 
-    /// The index from a place on.
+    /// Returns the entries of the index from a place on.
     pub(crate) fn from(&self, start: Bound<&Place>) -> Range<'_, Place, Key>
         ensures { result ≡ entries_between ref_cmp (bound_map (λ p. p.now) start.entry) Unbounded
             (fin.entries (keyed self.now)) }
@@ -153,10 +153,11 @@ impl Uploads {
         self.alloc
     }
 
-    /// Sets a part, in place of an earlier one of that number, and gives its tag, in O(log u) and the time to
-    /// move the parts of greater numbers. Refused are, in this order: NoSuchUpload where the upload is not
-    /// live with this key, and BadPartNumber where the number is not 1 to 10,000. After any fault all is as
-    /// before. (Amazon S3 API, UploadPart.)
+    /// Stores a part, replacing an earlier one with that number, and returns its tag. Takes O(log
+    /// u), and the time to move the parts with greater numbers. It is refused first with
+    /// NoSuchUpload, if the upload is not live with this key, and then with BadPartNumber, if the
+    /// number is not 1 to 10,000. After any fault everything is as before. (Amazon S3 API,
+    /// UploadPart.)
     pub fn part(
         &mut self,
         key: &Key,
@@ -184,8 +185,9 @@ impl Uploads {
         }
     }
 
-    /// Ends an upload, in O(log u), and drops its parts. NoSuchUpload comes where it is not live with this
-    /// key, and then all is as before. Takes no memory. (Amazon S3 API, AbortMultipartUpload.)
+    /// Ends an upload and drops its parts, in O(log u). If the upload is not live with this key,
+    /// fails with NoSuchUpload and changes nothing. Takes no memory. (Amazon S3 API,
+    /// AbortMultipartUpload.)
     pub fn remove(&mut self, key: &Key, upload: u64) -> Result<(), Refusal>
         ensures refused { IsErrOf result Refusal.NoSuchUpload ↔ (live self.old key.now upload ≡ None) }
         ensures only { IsOkUnless result Refusal.NoSuchUpload }
@@ -202,15 +204,16 @@ impl Uploads {
         Ok(())
     }
 
-    /// How many uploads are live.
+    /// Returns the number of live uploads.
     pub fn count(&self) -> u64
         ensures { result ≡ fin.len self.now }
     {
         self.lives.count()
     }
 
-    /// An upload's parts by rising number, each with its length in bytes and its tag, in O(log u + k) for
-    /// k parts. NoSuchUpload comes where the upload is not live with this key. (Amazon S3 API, ListParts.)
+    /// Returns the parts of an upload by rising number, each with its length in bytes and its tag,
+    /// in O(log u + k) for k parts. Fails with NoSuchUpload if the upload is not live with this
+    /// key. (Amazon S3 API, ListParts.)
     pub fn parts(&self, key: &Key, upload: u64) -> Result<PartSizes, UploadFault>
         ensures sizes { IfOk result (λ sizes. parts_answer (live self.now key.now upload) ≡ Reply.Parts sizes) }
         ensures refused { IsErrOf result (UploadFault.Refused Refusal.NoSuchUpload)
@@ -226,7 +229,7 @@ impl Uploads {
         }
     }
 
-    /// The live upload of the least id that is greater than `after`, in O(log u).
+    /// Returns the live upload with the least id that is greater than `after`, in O(log u).
     pub fn next(&self, after: u64) -> Option<LiveUpload<'_>>
         ensures { option_map {U = ℕ × List ℕ × ℕ} (λ l. (l.upload, l.key.now, l.parts)) result
             ≡ option_map shown (next_of after self.now) }
@@ -241,8 +244,8 @@ impl Uploads {
         }
     }
 
-    /// The part of the least number that is greater than `after` in a live upload, with its bytes, in
-    /// O(log u).
+    /// Returns the part with the least number that is greater than `after` in a live upload, with
+    /// its bytes, in O(log u).
     pub fn next_part(&self, upload: u64, after: u32) -> Option<(u32, &Bytes)>
         ensures { option_map (λ p. (p.0, p.1.now)) result ≡ option_and_then (λ u. next_of after u.parts)
             (fin.get self.now upload) }

@@ -1,4 +1,4 @@
--- Pages of keys that are not folded, walked from the start on.
+-- Pages without a delimiter, walked from the start on.
 use Rattle.basics.proofs.Bools.{contrary}
 use Rattle.basics.proofs.Naturals.{no_less}
 use Rattle.basics.proofs.Viewed.{entries_viewed, filter_map_same, viewed_sorted}
@@ -39,7 +39,7 @@ none_after p k (e ∷ es) g n h =
     ap (λ b. map (λ (e : List ℕ × Held). single e.0 e.1) (cond b (e ∷ filter (λ e. begins p e.0) es) (filter (λ e. begins p e.0) es))) m
     ∙ none_after p e.0 es (le_le p k e.0 g h.0) m h.1
 
--- behind a key that does not begin with p there is none that does
+-- After a key that does not begin with p, no key begins with p.
 pub none_left : (p : List ℕ) (rest es : List (List ℕ × Held)) (e : List ℕ × Held) → rest ≡ e ∷ es → Follows p rest → begins p e.0 ≡ false
     → below p rest ≡ []
 none_left p rest es e h g f = grind (arith, none_after)
@@ -48,7 +48,7 @@ pub follows_rest : (p : List ℕ) (e : List ℕ × Held) (es : List (List ℕ ×
 follows_rest p e [] h = tt
 follows_rest p e (f ∷ es) h = (le_le p e.0 f.0 h.0 h.1.0, h.1.1)
 
--- the page is whole
+-- The page is whole.
 whole : (xs rest all : List PageEntry) → xs ++ rest ≡ all → rest ≡ [] → xs ≡ all
 whole xs rest all told none = sym (append-nil xs) ∙ ap (λ l. xs ++ l) (sym none) ∙ told
 
@@ -60,7 +60,7 @@ no_more n xs rest all told none l = no_less n (length xs) l ∙ ap (λ l. nat_lt
 
 -- ---- from the start on
 
--- those that begin with p come after a
+-- The keys that begin with p are greater than a.
 abbrev Later : List ℕ → List ℕ → List (List ℕ × Object) → Type 0
 Later p a es = AllByRecursion (λ e. begins p e.0 ≡ true → lt a e.0 ≡ true) es
 
@@ -71,7 +71,7 @@ later_head p a (e ∷ es) h = (λ t. ap is_lt h.0, later_head p a es h.1)
 abbrev entries_below : List ℕ → List (List ℕ × Object) → List PageEntry
 entries_below p es = map (entry_of p false) (filter (λ e. begins p e.0) es)
 
--- each of them is walked
+-- Each of these entries is walked.
 each : (p a : List ℕ) (es : List (List ℕ × Object)) → IsStrictlySortedBy text_cmp (keys_of es) → Later p a es
     → walked p false a es ≡ entries_below p es
 each p a [] s l = refl
@@ -84,7 +84,7 @@ each p a (e ∷ es) s l =
         → walked p false a (e ∷ es) ≡ entries_below p (e ∷ es)
     by h g b e = grind arith
 
--- as the tree holds them
+-- The same, for the entries as the tree stores them.
 seen : (p : List ℕ) (es : List (List ℕ × Held)) → entries_below p (contents es) ≡ below p es
 seen p [] = refl
 seen p (e ∷ es) = by (begins p e.0) (seen p es)
@@ -95,7 +95,7 @@ seen p (e ∷ es) = by (begins p e.0) (seen p es)
         ≡ map (λ (e : List ℕ × Held). single e.0 e.1) (cond b (e ∷ filter (λ e. begins p e.0) es) (filter (λ e. begins p e.0) es))
     by b h = grind arith
 
--- what is left from the start on
+-- The entries from the start on.
 from : {V : Type 0} → List ℕ → List ℕ → List (List ℕ × V) → List (List ℕ × V)
 from p a es = entries_between text_cmp (start p false a) Unbounded es
 
@@ -151,7 +151,7 @@ not_before : (p a : List ℕ) (es : List (List ℕ × Held)) → AllByRecursion 
 not_before p a [] h = tt
 not_before p a (e ∷ es) h = (start_ge p false a e.0 h.0, not_before p a es h.1)
 
--- what is left, where a page of what comes behind `after` begins
+-- The entries that are left at the start of a page after `after`.
 pub record IsRest (p a : List ℕ) (m : Objects) (rest : List (List ℕ × Held)) : Type 0 where
   pub follows : Follows p rest
   pub own : AreOwn rest

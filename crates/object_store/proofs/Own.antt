@@ -1,4 +1,4 @@
--- Entries whose keys have the texts that they stand at.
+-- Entries whose keys have the texts at which they are stored.
 use Rattle.basics.proofs.Viewed.{first_between, first_map, get_viewed}
 use Rattle.basics.specs.Order.{text_cmp, text_total}
 use Rattle.object_store.specs.Held.{AreOwn, contents, lent}
@@ -35,16 +35,16 @@ own_filter p [] own = tt
 own_filter p (e ∷ es) own = (elim (p e) as (λ b. AreOwn (filter p es) → AreOwn (cond b (e ∷ filter p es) (filter p es)))
     [ true ↦ λ ih. (own.0, ih) | false ↦ λ ih. ih ]) (own_filter p es own.1)
 
--- an entry by its own key
+-- The entry, with its own key.
 abbrev pub by_own_key : List ℕ × Held → List ℕ × Object
 by_own_key e = (e.1.key, e.1.object)
 
--- the objects by their own keys are the objects by the texts that they stand at
+-- The objects by their own keys are the objects by the texts at which they are stored.
 pub own_contents : (es : List (List ℕ × Held)) → AreOwn es → lent es ≡ contents es
 own_contents [] own = refl
 own_contents (e ∷ es) own = λ i. (own.0 i, e.1.object) ∷ own_contents es own.1 i
 
--- the first entry between two bounds
+-- The first entry between two bounds is the same in both.
 pub first_lent : (es : List (List ℕ × Held)) (lo hi : Bound (List ℕ)) → AreOwn es
     → option_map by_own_key (slice_get (entries_between text_cmp lo hi es) 0) ≡ slice_get (entries_between text_cmp lo hi (contents es)) 0
 first_lent es lo hi own =
@@ -54,7 +54,7 @@ first_lent es lo hi own =
     ∙ first_map (λ e. (e.0, e.1.object)) fs
     ∙ sym (first_between (λ h. h.object) text_cmp lo hi es)
 
--- what is found at a text is the map's
+-- A lookup in the tree returns what the map has at the text.
 pub got : (es : List (List ℕ × Held)) (o : Option Held) (k : List ℕ) → o ≡ lookup (is_at (text_cmp k)) es
     → option_map (λ (h : Held). h.object) o ≡ get (from_entries {R = text_cmp} (contents es)) k
 got es o k h = ap (option_map (λ (h : Held). h.object)) h ∙ sym (get_viewed (λ (h : Held). h.object) text_total es k)

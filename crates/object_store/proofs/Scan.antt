@@ -1,4 +1,4 @@
--- What the walk over a text finds.
+-- The result of the walk over a text.
 use Rattle.s3_types.specs.Pages.{before_slash, begins, stem}
 use Rattle.std.proofs.Common.{Bool, List, None, Option, Some, ap, append-nil, append_assoc, arith, cond, drop, false, get_or, length}
 use Rattle.std.proofs.Common.{nat_eq, refl, sym, take, true, ℕ, [], ◌&&◌, ◌++◌, ◌+◌, ◌<◌, ◌∙◌, ◌∷◌, ◌≡◌, ◌≢◌}
@@ -36,7 +36,7 @@ map_step : (xs : List ℕ) (y : ℕ) (o : Option (List ℕ))
 map_step xs y None = refl
 map_step xs y (Some s) = ap Some (sym (append_assoc xs (y ∷ []) s))
 
--- what is found from i on
+-- The stem that is found from i on.
 abbrev pub from : List ℕ → ℕ → Option (List ℕ)
 from q i = option_map (λ s. take i q ++ s) (before_slash (drop i q))
 

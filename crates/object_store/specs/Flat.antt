@@ -1,4 +1,4 @@
--- Pages of keys that are not folded.
+-- Pages without a delimiter, in which each key is its own entry.
 use Rattle.basics.specs.Order.{text_cmp}
 use Rattle.object_store.specs.declared.objects.Held.{Held}
 use Rattle.s3_types.specs.Pages.{begins}
@@ -8,15 +8,15 @@ use Rattle.std.specs.List.{filter}
 use Rattle.std.specs.Ordering.{is_lt}
 use Rattle.std.specs.Prelude.{List, false, length, map, ℕ, [], ◌∷◌, ◌≡◌}
 
--- a key by itself, with the length of the bytes that it holds
+-- The entry of a single key, with the length of its object in bytes.
 abbrev pub single : List ℕ → Held → PageEntry
 single key held = Single key (length held.object.bytes)
 
--- the entries of the keys that begin with p
+-- The entries of the keys that begin with p.
 abbrev pub below : List ℕ → List (List ℕ × Held) → List PageEntry
 below p es = map (λ e. single e.0 e.1) (filter (λ e. begins p e.0) es)
 
--- the keys never fall, from p on
+-- The keys do not fall, from p on.
 abbrev pub Follows : List ℕ → List (List ℕ × Held) → Type 0
 Follows p [] = Unit {0}
 Follows p (e ∷ es) = (is_lt (text_cmp e.0 p) ≡ false) × Follows e.0 es

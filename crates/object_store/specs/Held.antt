@@ -1,17 +1,17 @@
--- What the tree of a bucket's objects holds.
+-- What the tree of a bucket's objects stores.
 use Rattle.object_store.specs.declared.objects.Held.{Held}
 use Rattle.s3_types.specs.declared.object.Object.{Object}
 use Rattle.std.specs.List.{AllByRecursion}
 use Rattle.std.specs.Prelude.{List, map, ℕ, ◌≡◌}
 
--- the objects by the texts of their keys
+-- The objects by the texts of their keys.
 abbrev pub contents : List (List ℕ × Held) → List (List ℕ × Object)
 contents es = map (λ e. (e.0, e.1.object)) es
 
--- the key that is held at a text has that text
+-- The key stored at each text has that text.
 abbrev pub AreOwn : List (List ℕ × Held) → Type 0
 AreOwn es = AllByRecursion (λ e. e.1.key ≡ e.0) es
 
--- the keys that are held, with their objects
+-- The stored keys with their objects.
 abbrev pub lent : List (List ℕ × Held) → List (List ℕ × Object)
 lent es = map (λ e. (e.1.key, e.1.object)) es

@@ -18,7 +18,7 @@ impl Clone for Held {
     }
 }
 
-/// The same objects at the same keys, in O(n). The two share the bytes and the keys' texts.
+/// Copies the objects, in O(n). The two share the bytes and the texts of the keys.
 impl Clone for Objects {
     ghost is_clone = { λ o copy. copy ≡ o };
 

@@ -7,7 +7,7 @@ use s3_types::{Key, Object, Text};
 use std::collections::btree_map::Iter;
 use std::marker::Model;
 
-/// Keys with what stands at them, in the order of the keys. Clauses see it as the list of those that
+/// Keys with their objects, in the order of the keys. Contracts see it as the list of those that
 /// are still to come.
 #[derive(Drop)]
 pub struct Entries<'a> {

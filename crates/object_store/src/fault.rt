@@ -4,10 +4,10 @@ ghost use Rattle.object_store.specs.declared.fault.CopyFault.TheVariants.{NoMemo
 use std::alloc::AllocError;
 use thiserror::Error;
 
-/// Why a copy was not made.
+/// Why CopyObject failed.
 #[derive(Clone, Copy, Debug, PartialEq, Eq, Error)]
 pub enum CopyFault {
-    /// Nothing stands at the source. (Amazon S3 API, CopyObject: NoSuchKey.)
+    /// The source does not exist. (Amazon S3 API, CopyObject: NoSuchKey.)
     #[error("nothing stands at the source")]
     NoSuchKey,
     #[error("no memory")]

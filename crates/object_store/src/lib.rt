@@ -2,8 +2,9 @@
 //!
 //! # What is proved
 //!
-//! `Objects`: Every call is an equation on the finite map from keys to objects, for both outcomes;
-//! `list_page` is the definition of a page over the whole map, with and without the delimiter.
+//! `Objects`: each call does exactly what its definition says on the finite map from keys to
+//! objects, whether it succeeds or fails. `list_page` returns the defined page of the whole map,
+//! with and without the delimiter.
 #![tactic(auto)]
 
 mod clones;

@@ -18,15 +18,16 @@ use std::collections::BTreeMap;
 use std::marker::Model;
 use std::ops::Bound;
 
-/// What the tree has at a key's text.
+/// What the tree stores at the text of a key.
 #[derive(Drop)]
 pub(crate) struct Held {
     pub(crate) key: Key,
     pub(crate) object: Object,
 }
 
-/// The objects of a bucket by their keys, which clauses see as a finite map. The keys are ordered by
-/// their bytes. In the costs below n is the number of objects; no call copies an object's bytes.
+/// The objects of a bucket by their keys. Contracts see them as a finite map. The keys are ordered
+/// by their bytes. In the costs below, n is the number of objects. No call copies the bytes of an
+/// object.
 #[derive(Drop)]
 pub struct Objects {
     pub(crate) alloc: Global,
@@ -59,8 +60,8 @@ impl Objects {
         }
     }
 
-    /// Puts an object at a key, in place of what stands there, in O(log n). After an error all is as
-    /// before. (Amazon S3 API, PutObject.)
+    /// Puts an object at a key, replacing the one that is there, in O(log n). After an error
+    /// everything is as before. (Amazon S3 API, PutObject.)
     pub fn put(
         &mut self,
         key: Key,
@@ -76,7 +77,7 @@ impl Objects {
         Ok(())
     }
 
-    /// What stands at a key, in O(log n). (Amazon S3 API, GetObject.)
+    /// Returns the object at a key, in O(log n). (Amazon S3 API, GetObject.)
     pub fn get(&self, key: &Key) -> Option<&Object>
         ensures { option_copied result ≡ map.get self.now key.now }
     {
@@ -86,8 +87,8 @@ impl Objects {
         }
     }
 
-    /// The length in bytes of what stands at a key and its length header, in O(log n). (Amazon S3 API,
-    /// HeadObject.)
+    /// Returns the length in bytes and the length header of the object at a key, in O(log n).
+    /// (Amazon S3 API, HeadObject.)
     pub fn head(&self, key: &Key) -> Option<Head>
         ensures { result ≡ option_map head_of (map.get self.now key.now) }
     {
@@ -100,15 +101,15 @@ impl Objects {
         }
     }
 
-    /// Removes what stands at a key, if anything does, in O(log n). (Amazon S3 API, DeleteObject.)
+    /// Removes the object at a key, if there is one, in O(log n). (Amazon S3 API, DeleteObject.)
     pub fn delete(&mut self, key: &Key)
         ensures { self.new ≡ map.remove self.old key.now }
     {
         let _ = self.held.remove(key.as_text());
     }
 
-    /// Removes what stands at these keys, in O(log n) for each of them. TooManyKeys comes where there
-    /// are more than 1,000, and then nothing is removed. (Amazon S3 API, DeleteObjects.)
+    /// Removes the objects at these keys, in O(log n) for each. If there are more than 1,000 keys,
+    /// fails with TooManyKeys and removes nothing. (Amazon S3 API, DeleteObjects.)
     pub fn delete_many(&mut self, keys: &[Key]) -> Result<(), Refusal>
         ensures many { IsErrOf result Refusal.TooManyKeys ↔ (MOST_ENTRIES < length keys.now) }
         ensures only { IsOkUnless result Refusal.TooManyKeys }
@@ -124,9 +125,9 @@ impl Objects {
         Ok(())
     }
 
-    /// Puts what stands at the source at the target too, bytes and header, in O(log n). The two share
-    /// the bytes. NoSuchKey comes where nothing stands at the source. After an error all is as before.
-    /// (Amazon S3 API, CopyObject.)
+    /// Copies the source's object to the target, bytes and header, in O(log n). The two share the
+    /// bytes. Fails with NoSuchKey if the source does not exist. After an error everything is as
+    /// before. (Amazon S3 API, CopyObject.)
     pub fn copy(&mut self, source: &Key, target: &Key) -> Result<(), CopyFault>
         ensures ok { OnOk result (self.new ≡ copied self.old target.now (map.get self.old source.now)) }
         ensures there { OnOk result (IsSome (map.get self.old source.now)) }
@@ -142,18 +143,18 @@ impl Objects {
         Ok(())
     }
 
-    /// How many objects there are.
+    /// Returns the number of objects.
     pub fn count(&self) -> u64
         ensures { result ≡ map.len self.now }
     {
         self.held.len() as u64
     }
 
-    /// A page of the entries whose keys begin with the prefix: the first `limit` of those that are
-    /// greater than `after`, in the order of their bytes, and whether more remain. Where it is
-    /// delimited, keys with a common text up to the first `/` after the prefix are one entry, that
-    /// text, and a page of k entries takes O((k + 1) log n); else it takes O(k + log n). (Amazon S3 API,
-    /// ListObjectsV2.)
+    /// Returns a page of the entries whose keys begin with the prefix: the first `limit` that are
+    /// greater than `after`, in the order of their bytes, and whether more remain. If `delimited`
+    /// is true, keys with the same text up to the first `/` after the prefix are one entry, which
+    /// is that text. A page of k entries then takes O((k + 1) log n), else O(k + log n). (Amazon
+    /// S3 API, ListObjectsV2.)
     pub fn list_page(
         &self,
         prefix: &Text,
@@ -173,7 +174,7 @@ impl Objects {
         self.list_flat(prefix, after, limit)
     }
 
-    /// The first entry from a bound on.
+    /// Returns the first entry from a bound on.
     pub(crate) fn first_from(&self, start: Bound<&Text>) -> Option<(&Key, &Object)>
         ensures { option_map (λ p. (p.0.now, p.1.now)) result ≡ slice_get
             (entries_between text_cmp (bound_map (λ x. x.now) start.entry) Unbounded (map.entries self.now)) 0 }
@@ -184,8 +185,8 @@ impl Objects {
         }
     }
 
-    /// The entry with the least key that is greater than `after`, or with the least of all where that
-    /// is None, in O(log n).
+    /// Returns the entry with the least key that is greater than `after`, or the first entry if
+    /// `after` is None, in O(log n).
     pub fn next(&self, after: Option<&Key>) -> Option<(&Key, &Object)>
         ensures next { option_map (λ p. (p.0.now, p.1.now)) result ≡ next_of (option_copied after.entry) self.now }
         ensures rest { IsNext (option_copied after.entry) self.now (option_map (λ p. (p.0.now, p.1.now)) result) }
@@ -196,7 +197,7 @@ impl Objects {
         }
     }
 
-    /// All entries in the order of their keys.
+    /// Returns all entries in the order of their keys.
     pub fn iter(&self) -> Entries<'_>
         ensures { result ≡ map.entries self.now }
     {

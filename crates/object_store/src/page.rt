@@ -33,7 +33,7 @@ fn page_of(entries: Vec<PageEntry>, more: bool) -> Page
     }
 }
 
-/// What stands before the first `/` after the prefix, in a text that begins with the prefix.
+/// Returns the part of a text before the first `/` after the prefix, if it begins with the prefix.
 fn stem_of<'a>(prefix: &Text, text: &'a Text) -> Option<&'a str>
     ensures { option_map (λ s. s.now) result ≡ stem prefix.now text.now }
 {
@@ -50,7 +50,7 @@ fn stem_of<'a>(prefix: &Text, text: &'a Text) -> Option<&'a str>
     None
 }
 
-/// The two texts joined.
+/// Returns the two texts joined.
 fn joined(alloc: Global, stem: &str, end: &str) -> Result<Text, AllocError>
     ensures { IfOk result (λ text. text ≡ stem.now ++ end.now) }
 {
@@ -59,7 +59,7 @@ fn joined(alloc: Global, stem: &str, end: &str) -> Result<Text, AllocError>
     Text::new(alloc, text)
 }
 
-/// A key's entry where keys are folded, and the entry's text.
+/// Returns the entry of a key in a listing with the delimiter, and the entry's text.
 fn entry_at(
     alloc: Global,
     prefix: &Text,
@@ -83,7 +83,7 @@ fn entry_at(
     }
 }
 
-/// The entry of a key by itself.
+/// Returns the entry of a single key.
 fn single(held: &Held) -> Result<PageEntry, AllocError>
     ensures { IfOk result (λ entry. entry ≡ single held.now.key held.now) }
 {
@@ -93,7 +93,8 @@ fn single(held: &Held) -> Result<PageEntry, AllocError>
     })
 }
 
-/// Where to look for the keys after a text that begin with a prefix, each by itself.
+/// Returns where to look for the keys with a prefix after a text, in a listing without the
+/// delimiter.
 fn flat_start<'a>(prefix: &'a Text, after: &'a Text) -> Bound<&'a Text>
     ensures { bound_map (λ x. x.now) result ≡ start prefix.now false after.now }
 {
@@ -104,7 +105,7 @@ fn flat_start<'a>(prefix: &'a Text, after: &'a Text) -> Bound<&'a Text>
     }
 }
 
-/// A page of what is left, each by itself, as far as the keys begin with the prefix.
+/// Returns a page of the entries that are left, as far as the keys begin with the prefix.
 fn flat_page(
     alloc: Global,
     rest: Range<'_, Text, Held>,
@@ -131,7 +132,8 @@ fn flat_page(
 }
 
 impl Objects {
-    /// At most so many entries after a text, each key by itself, in O(log n) and O(1) for each.
+    /// Returns at most `limit` entries after a text, without the delimiter, in O(log n) and O(1)
+    /// for each.
     pub(crate) fn list_flat(
         &self,
         prefix: &Text,
@@ -147,7 +149,8 @@ impl Objects {
         flat_page(self.alloc, self.held.range(range), prefix, limit)
     }
 
-    /// The first entry from where the folded entries after a text may stand.
+    /// Returns the first entry from the place on where the entries after a text can be, with the
+    /// delimiter.
     fn first_after(&self, prefix: &Text, last: &Text) -> Result<Option<(&Key, &Object)>, AllocError>
         ensures { IfOk result (λ r. option_map (λ p. (p.0.now, p.1.now)) r ≡ slice_get
             (entries_between text_cmp (start prefix.now true last.now) Unbounded (map.entries self.now)) 0) }
@@ -166,7 +169,7 @@ impl Objects {
         }
     }
 
-    /// The folded entry that is listed next after a text.
+    /// Returns the key whose entry comes next after a text, with the delimiter.
     fn next_listed(&self, prefix: &Text, last: &Text) -> Result<Option<(&Key, &Object)>, AllocError>
         ensures { IfOk result (λ r. ComesNext prefix.now true last.now (map.entries self.now)
             (option_map (λ p. (p.0.now, p.1.now)) r)) }
@@ -182,7 +185,8 @@ impl Objects {
         }
     }
 
-    /// At most so many folded entries after a text, each of them sought.
+    /// Returns at most `limit` entries after a text, with the delimiter. Each of them is searched
+    /// for.
     pub(crate) fn walk(&self, prefix: &Text, after: &Text, limit: u16) -> Result<Page, AllocError>
         requires { 0 < limit }
         ensures entries { IfOk result (λ page. page.entries

@@ -1,4 +1,4 @@
--- The laws of a machine, for any operation that is a course.
+-- The laws of a machine, for every operation that is a course.
 use Rattle.machine.proofs.Keeping.{Keeps}
 use Rattle.machine.specs.Laws.{Laws}
 use Rattle.machine.specs.Standing.{Fine}
@@ -98,6 +98,6 @@ module _ {P A : Type 0} {starts : P → Type 0} {asks : P → Request} {goes : P
     goes_on = λ m r a b w h. standing_on m r a b w;
   }
 
-  -- it gives no more where each sending was answered
+  -- If each send was answered, it gives nothing more than `gives`.
   pub calm_of : IsCalm starts asks goes (unlost holds) gives
   calm_of = record { begin = c.begin; goes_on = λ o z p s h. c.goes_on o z p s false h }

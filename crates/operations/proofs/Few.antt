@@ -1,4 +1,4 @@
--- How many requests an operation sends that is alone: each of its phases asks one, and each is sent at most so many times.
+-- How many requests an operation that is alone sends: one for each phase, each at most `retries + 1` times.
 use Rattle.machine.proofs.Keeps.{kept_run}
 use Rattle.machine.specs.Turns.{retried}
 use Rattle.machine.specs.declared.retrying.Retrying.{Retrying}
@@ -29,14 +29,14 @@ module _ {P A : Type 0} {starts : P → Type 0} {asks : P → Request} {goes : P
   abbrev K : Stage P A → Scene → Bool → Type 0
   K m s b = Kept (holds o z) (gives o z) (always o z) m s b
 
-  -- the most sendings that are to come
+  -- The most sends that are to come.
   abbrev most : Retried (Stage P A) → Scene → ℕ
   most t s = left more t.operation s * (retries + 1) - (retries - t.spare)
 
   room : (a b : ℕ) → a ≤ b → a * (retries + 1) ≤ b * (retries + 1)
   room a b h = mul-le-mul_right (retries + 1) h
 
-  -- one that got no answer
+  -- A send without an answer.
   unanswered_most : (m : Stage P A) (spare : ℕ) (s u : Scene) (b : Bool) (n : ℕ) → 0 < left more m s → left more m u ≤ left more m s
       → spare ≤ retries
       → n ≤ most (unanswered_by retries (after goes) m b spare) u → suc n ≤ left more m s * (retries + 1) - (retries - spare)
@@ -76,7 +76,7 @@ module _ {P A : Type 0} {starts : P → Type 0} {asks : P → Request} {goes : P
       (few_sent (step retries (after goes) t e.outcome) (effect s e.request e.outcome) es f.1 h.1
       (kept_run (keeps course o z) retries t s (e ∷ []) (f.0, tt) (h.0, tt) k) (spare_still t e.outcome few))
 
-  -- from its beginning
+  -- From the start of the operation.
   pub few_of : (m : Stage P A) → m ≡ On o → starts o → (t : Retried (Stage P A)) → t ≡ fresh retries m → (all : List Entry)
       → Follows (wants_of (wanted asks)) (step retries (after goes)) t all → AreHonest z all
       → (old new part : List Entry) → new ≡ old ++ all → new ≡ old ++ part → length part ≤ (more o z + 1) * (retries + 1)
@@ -88,6 +88,6 @@ module _ {P A : Type 0} {starts : P → Type 0} {asks : P → Request} {goes : P
       let one : length part ≡ length all = ap length (append_cancel_left old part all (sym same ∙ appended)) in
       omega (arith, most_all, one)
 
--- where nothing was sent
+-- No send was made.
 pub none_few : (n : ℕ) (part old : List Entry) → old ≡ old ++ part → length part ≤ n
 none_few n part old e = let l = ap length e in omega (arith, l, length-append old part)

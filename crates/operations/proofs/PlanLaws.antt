@@ -18,7 +18,7 @@ module _ {P A : Type 0} {starts : P → Type 0} {asks : P → Request} {goes : P
     always_led (Next p) s h = plan.during o z p s h
     always_led (End a) s h = plan.at_end o z a s h
 
-    -- the reply and the scene are as if the request had not had its effect before
+    -- The reply and the scene are the same as if the request had had no effect before.
     same_reply : (p : P) (s : Scene) (h : Reached asks (holds o z) p s) → answer s (asks p) ≡ answer h.settled (asks p)
     same_reply p s h = elim h.seen as (λ _. answer s (asks p) ≡ answer h.settled (asks p)) [
       | inl e ↦ ap (λ v. answer v (asks p)) e
@@ -69,7 +69,7 @@ module _ {P A : Type 0} {starts : P → Type 0} {asks : P → Request} {goes : P
     still : (p : P) (s : Scene) (h : Reached asks (holds o z) p s) → more p (apply s (asks p)) ≤ more p s
     still p s h = let e = ap (more p) (same_effect p s h) ∙ plan.stays o z p h.settled h.phase ∙ sym (same_left p s h) in omega (arith, e)
 
-  -- the laws of a course, for it
+  -- The laws of a course hold of it.
   pub course_of : IsCourse starts asks (once goes) (reached asks holds) gives always more
   course_of = record {
     begin = λ p s h. record { settled = s; phase = plan.begin p s h; seen = inl refl };
@@ -82,7 +82,7 @@ module _ {P A : Type 0} {starts : P → Type 0} {asks : P → Request} {goes : P
     at_end = plan.at_end;
   }
 
--- and it may send what its phases ask
+-- It may send the requests of its phases.
 pub sends_of : {P : Type 0} (asks : P → Request) (holds : P → Scene → P → Scene → Type 0) (sends : P → Scene → Request → Type 0)
     → ((o : P) (z : Scene) (p : P) (s : Scene) → holds o z p s → sends o z (asks p)) → MaySend asks (reached asks holds) sends
 sends_of asks holds sends f o z p s b h = f o z p h.settled h.phase

@@ -1,4 +1,4 @@
--- What an operation keeps, a run of it that is alone keeps at every moment.
+-- A run of an operation that is alone keeps at every point what the operation keeps.
 use Rattle.machine.proofs.Counts.{counted_none}
 use Rattle.machine.proofs.Keeps.{kept_run}
 use Rattle.machine.specs.Counted.{AreAnswered, Counted}
@@ -37,7 +37,7 @@ use Rattle.std.proofs.lemmas.List.{append_cancel_left, take_all}
 use Rattle.std.specs.List.{AllByRecursion}
 use Rattle.std.specs.Prelude.{Err, Ok, Result, length, ◌+◌}
 
--- a store of this scene, requests, losses and fates beside these entries
+-- A store with this scene and these counts, and the journal beside it.
 abbrev at : Scene → ℕ → ℕ → (ℕ → Option Fate) → List Entry → Seen
 at scene requests losses foretold entries = record {
   scene = scene;
@@ -57,7 +57,7 @@ honest_take zero s part h = tt
 honest_take (suc m) s [] h = tt
 honest_take (suc m) s (e ∷ es) h = (h.0, honest_take m (effect s e.request e.outcome) es h.1)
 
--- how a run was tried, told by an answer in place of the end
+-- The tries of a run are the same for a result with another value.
 pub tried_ok : {T U : Type 0} (retries spare : ℕ) (part : List Entry) (r : Result T DriveStop) (x : T) (y : U) → r ≡ Ok x
     → Tried retries spare part r → Tried {T = U} retries spare part (Ok y)
 tried_ok retries spare part r x y e h = record {
@@ -91,7 +91,7 @@ tried_err retries spare part r NoRoom e h = record {
   fault = λ s. tt;
 }
 
--- and which request wore out by the entries alone
+-- The entries alone say the same for a result with another value.
 pub literal_ok : {T U : Type 0} (retries : ℕ) (part : List Entry) (r : Result T DriveStop) (x : T) (y : U) → r ≡ Ok x
     → IsFaultBy retries part r → IsFaultBy retries part (Ok y)
 literal_ok retries part r x y e h = subst (λ v. IsFaultBy retries part v) e h
@@ -113,7 +113,7 @@ module _ {P A : Type 0} {starts : P → Type 0} {asks : P → Request} {goes : P
       (subst (λ s. IsReady holds gives always (On o) s b) (sym f)
       (subst (λ b. IsReady holds gives always (On o) z b) (sym q) (record { first = o; opening = z; kept = kept_start h })))
 
-  -- what a run leads to
+  -- The operation after these entries.
   abbrev Led : Retrying (Stage P A) → List Entry → Retried (Stage P A)
   Led t part = run (step t.retries (after goes)) (retried t) part
 
@@ -137,7 +137,7 @@ module _ {P A : Type 0} {starts : P → Type 0} {asks : P → Request} {goes : P
   moments t e q h part f a m = at_any plan o z _ _ _ (kept_all t e q h (take m part)
       (follows_take (wants_of (wanted asks)) (step t.retries (after goes)) m (retried t) part f) (honest_take m z part a))
 
-  -- ---- what is sent
+  -- ---- the requests that are sent
 
   module _ (sends : Request → Type 0) (may : (p : P) (s : Scene) (b : Bool) → holds o z p s b → sends (asks p)) where
     sent_now : (m : Stage P A) (s : Scene) (b : Bool) (r : Request) → wanted asks m ≡ Some r
@@ -145,7 +145,7 @@ module _ {P A : Type 0} {starts : P → Type 0} {asks : P → Request} {goes : P
     sent_now (On p) s b r w k = let e : asks p ≡ r = cc in subst sends e (may p s b k)
     sent_now _ s b r w k = absurd (cc)
 
-    -- each request that is sent is one that the phases may send
+    -- Each request that is sent is one that the phases may send.
     all_sent : (retries : ℕ) (t : Retried (Stage P A)) (s : Scene) (part : List Entry)
         → Follows (wants_of (wanted asks)) (step retries (after goes)) t part → AreHonest s part
         → Kept (holds o z) (gives o z) (always o z) t.operation s t.repeated → AllByRecursion (λ e. sends e.request) part
@@ -203,7 +203,7 @@ module _ {P A : Type 0} {starts : P → Type 0} {asks : P → Request} {goes : P
     counts = counted_none es es first first before before told told refl refl refl (λ n. refl);
   }
 
--- ---- where each sending was answered
+-- ---- if each send was answered
 
 module _ {P A : Type 0} {starts : P → Type 0} {asks : P → Request} {goes : P → Reply → Bool → Step P A}
     {calm : P → Scene → P → Scene → Type 0} {leaves : P → Scene → A → Scene → Type 0} (k : IsCalm starts asks goes calm leaves) (o : P)
@@ -253,7 +253,7 @@ module _ {P A : Type 0} {starts : P → Type 0} {asks : P → Request} {goes : P
       (subst (λ m. InCalm m (after_all z all)) (sym (ap (λ (t : Retried (Stage P A)). t.operation) there) ∙ over)
       (calm_all t.retries (retried t) z all q f honest each first))
 
--- what is so always is so at the end
+-- What holds always holds at the end.
 pub always_after : {A : Type 0} {actor : Actor} {event retries : ℕ} {always : Scene → Type 0} {sends : Request → Type 0} {old new : Seen}
     {result : Result A DriveStop}
     → Performed actor event retries always sends old new result → always new.scene

@@ -1,4 +1,4 @@
--- What performing an operation has done.
+-- What has happened after an operation was performed.
 use Rattle.machine.specs.Counted.{Counted}
 use Rattle.machine.specs.Tries.{IsFaultBy, Tried}
 use Rattle.machine.specs.Turns.{AreBy}
@@ -13,7 +13,7 @@ use Rattle.s3_types.specs.declared.request.Request.{Request}
 use Rattle.std.specs.List.{AllByRecursion}
 use Rattle.std.specs.Prelude.{List, Option, Result, take, ℕ, ◌++◌, ◌+◌, ◌≡◌}
 
--- a store and the journal beside it
+-- A store and the journal beside it.
 pub record Seen : Type 0 where
   pub scene : Scene
   pub requests : ℕ
@@ -21,7 +21,7 @@ pub record Seen : Type 0 where
   pub foretold : ℕ → Option Fate
   pub entries : List Entry
 
--- as what a kind of store shows of one has it
+-- A store, as the functions of its type show it, and the journal beside it.
 abbrev pub seen : {S : Type 0} → (S → Scene) → (S → ℕ) → (S → ℕ) → (S → ℕ → Option Fate) → S → List Entry → Seen
 seen scene requests losses foretold store entries = record {
   scene = scene store;
@@ -31,22 +31,22 @@ seen scene requests losses foretold store entries = record {
   entries = entries;
 }
 
--- a journal gained entries of this actor and event, which lead from one scene to the other
+-- The journal gained entries of this actor and event, which lead from the old scene to the new one.
 pub record Performed {A : Type 0} (actor : Actor) (event retries : ℕ) (always : Scene → Type 0) (sends : Request → Type 0) (old new : Seen)
     (result : Result A DriveStop) : Type 0 where
   pub part : List Entry
   pub appended : new.entries ≡ old.entries ++ part
   pub by : AreBy actor event part
-  -- each answer is the one that was due
+  -- Each answer is the one that the store gives.
   pub honest : AreHonest old.scene part
   pub scene : new.scene ≡ after_all old.scene part
-  -- this was so before the first of them and after each
+  -- `always` holds before the first send and after each.
   pub moments : (m : ℕ) → always (after_all old.scene (take m part))
-  -- each request is one that may be sent
+  -- Each request is one that may be sent.
   pub sent : AllByRecursion (λ e. sends e.request) part
-  -- each request is sent at most `retries + 1` times, and StoreFault comes exactly where one wore out
+  -- Each request is sent at most `retries + 1` times, and StoreFault comes exactly if one exhausted its retries.
   pub tried : Tried retries retries part result
-  -- and where one wore out by the entries alone
+  -- The entries alone say whether one did.
   pub literal : IsFaultBy retries part result
   pub foretold : AreForetold old.foretold (old.requests + 1) part
   pub counts : Counted old.entries new.entries old.requests new.requests old.losses new.losses old.foretold new.foretold

@@ -1,17 +1,17 @@
-//! Operations that are told by their phases, each of which asks one request: as machines, and performed
-//! alone.
+//! Operations that are described by their phases, each of which sends one request. An operation
+//! can be used as a machine, or performed alone.
 //!
 //! # What is proved
 //!
-//! `Operation`: An operation that is told by its phases is a machine, for every plan that keeps
-//! `IsCourse`; where each of its requests may be made twice it is proved as if nothing were ever lost
-//! (`IsPlan`).
-//!
-//! `perform`: Alone: the answer means what the plan gives (`given`), what the plan keeps holds before
-//! and after each sending, each request is one that the plan may send (`sends`), and the entries, tries
-//! and counts are as with `drive` (`Performed`); no more requests are sent than there are phases that it may come to, each
-//! at most `retries + 1` times (`few`). Where each sending was answered, what is left is told
-//! apart (`answered`).
+//! - `Operation`: an operation that is described by its phases is a machine, for every plan that
+//!   keeps `IsCourse`. If each of its requests may be made twice, its proof may assume that
+//!   nothing is ever lost (`IsPlan`).
+//! - `perform`: performs an operation alone. It returns what the plan gives (`given`). What the
+//!   plan keeps holds before and after each send (one try of a request). Each request is one that
+//!   the plan may send (`sends`). The entries, tries and counts are as with `drive` (`Performed`).
+//!   It makes at most one request more than there are phases to come, each in at most `retries +
+//!   1` sends (`few`). A clause of its own says what is left if each send was answered
+//!   (`answered`).
 #![tactic(auto)]
 
 mod operation;

@@ -8,12 +8,12 @@ use std::alloc::AllocError;
 use std::marker::Model;
 use std::mem;
 
-/// Where an operation stands.
+/// The stage of an operation: in a phase, ended with an answer, or stopped.
 #[derive(Drop)]
 pub enum Stage<P, A> {
     On(P),
     Over(A),
-    /// A request wore out.
+    /// A request exhausted its retries.
     StoreFault,
     NoMemory,
 }
@@ -38,7 +38,7 @@ impl<P: Plan> Model for Operation<P> {
 }
 
 impl<P: Plan> Operation<P> {
-    /// An operation of which nothing was sent yet.
+    /// An operation before anything was sent.
     pub fn new(plan: P) -> Result<Operation<P>, AllocError>
         ensures { IfOk result (λ operation. operation ≡ Stage.On plan) }
     {
@@ -49,14 +49,14 @@ impl<P: Plan> Operation<P> {
         })
     }
 
-    /// Where it stands. Takes no memory.
+    /// Returns its stage. Takes no memory.
     pub fn stage(&self) -> &Stage<P, P::Answer>
         ensures { result.now ≡ self.now }
     {
         &self.stage
     }
 
-    /// Gives up where it stands. Takes no memory.
+    /// Gives its stage up. Takes no memory.
     pub fn into_stage(self) -> Stage<P, P::Answer>
         ensures { result ≡ self }
     {
@@ -96,7 +96,7 @@ impl<P: Plan> Operation<P> {
         Ok(())
     }
 
-    /// Takes the stage out, and leaves the want of memory in its place.
+    /// Takes the stage out, and leaves NoMemory in its place.
     fn taken(&mut self) -> Stage<P, P::Answer>
         ensures result { result ≡ self.old }
         ensures rest { self.new ≡ Stage.NoMemory }

@@ -9,7 +9,7 @@ use machine::{DriveStop, Retrying, drive};
 use s3_types::{Actor, Journal, ObjectStore};
 use std::alloc::Global;
 
-/// The answer of an operation that was driven to its end.
+/// Returns the answer of an operation that was driven to its end.
 fn answer_of<P: Drop, A: Drop>(
     driven: Result<(), DriveStop>,
     stage: Stage<P, A>,
@@ -27,10 +27,10 @@ fn answer_of<P: Drop, A: Drop>(
     }
 }
 
-/// Performs an operation that is alone, whatever the store loses: each request is sent at most
-/// `retries + 1` times. StoreFault comes exactly where a request wore out. The journal gains an entry for
-/// each sending, at most `retries + 1` for each phase that it may come to. What it leaves where each was answered, is told
-/// apart.
+/// Performs an operation that is alone, whatever the store loses. Each request is sent at most
+/// `retries + 1` times. Fails with StoreFault exactly if a request exhausted its retries. The
+/// journal gains an entry for each send, at most `retries + 1` for the first phase and for each
+/// phase to come. The clause `answered` says what it leaves if each send was answered.
 pub fn perform<P: Plan, S: ObjectStore>(
     alloc: Global,
     plan: P,

@@ -15,51 +15,52 @@ pub enum Step<P, A> {
     End(A),
 }
 
-/// An operation by its phases. Each phase asks one request, and its reply leads on.
+/// An operation, described by its phases. Each phase has one request, and the reply leads on.
 pub trait Plan: Drop {
-    /// What the operation answers.
+    /// The answer of the operation.
     type Answer: Drop;
 
-    /// The first phase of an operation.
+    /// This is a first phase of an operation.
     ghost starts: { Self → Type 0 };
 
     /// The request of a phase.
     ghost asks: { Self → Request };
 
-    /// Where a reply leads, where an earlier sending of the request was lost or not.
+    /// Where a reply leads; the Bool says whether an earlier send of the request was lost.
     ghost goes: { Self → Reply → Bool → Step Self Self.Answer };
 
-    /// Begun so in that scene, the operation may be in this phase in this scene, where a sending of its
-    /// request was lost or not.
+    /// Started with that plan in that scene, the operation may be in this phase in this scene; the
+    /// Bool says whether an earlier send of the request was lost.
     ghost holds: { Self → Scene → Self → Scene → Bool → Type 0 };
 
-    /// Begun so in that scene, it may give this answer and leave this scene.
+    /// Started so, it may give this answer and leave this scene.
     ghost gives: { Self → Scene → Self.Answer → Scene → Type 0 };
 
-    /// Begun so in that scene, this may be the scene at any moment.
+    /// Started so, this may be the scene at any point between two requests.
     ghost always: { Self → Scene → Scene → Type 0 };
 
-    /// Begun so in that scene, it may send this request.
+    /// Started so, it may send this request.
     ghost sends: { Self → Scene → Request → Type 0 };
 
-    /// Begun so in that scene, this holds where every sending so far was answered.
+    /// Started so, this holds if every send so far was answered.
     ghost calm: { Self → Scene → Self → Scene → Type 0 };
 
-    /// Begun so in that scene, it gives this answer and leaves this scene where every sending was answered.
+    /// Started so, it gives this answer and leaves this scene if every send was answered.
     ghost leaves: { Self → Scene → Self.Answer → Scene → Type 0 };
 
-    /// At most so many phases are to come.
+    /// At most this many phases are to come.
     ghost left: { Self → Scene → ℕ };
 
-    /// The request of this phase.
+    /// Returns the request of this phase.
     fn ask(&self) -> Result<Request, AllocError>
         ensures { IfOk result (λ request. request ≡ asks self.now) };
 
-    /// Where the reply leads.
+    /// Returns where the reply leads.
     fn next(self, reply: &Reply, repeated: bool) -> Result<Step<Self, Self::Answer>, AllocError>
         ensures { IfOk result (λ step. step ≡ goes self reply.now repeated) };
 
-    /// What holds of these; its phases ask no request but those that it may send. Does nothing.
+    /// The laws of these definitions; its phases have only requests that it may send. Does
+    /// nothing.
     fn laws()
         ensures course { IsCourse starts asks goes holds gives always left }
         ensures asked { MaySend asks holds sends }

@@ -1,4 +1,4 @@
--- Texts behind a key and a `/`.
+-- Texts after a key and a `/`.
 use Rattle.basics.proofs.Bools.{all_three}
 use Rattle.basics.proofs.Lists.{drop_front}
 use Rattle.basics.proofs.Pieces.{parts_append}
@@ -16,7 +16,7 @@ use Rattle.std.proofs.lemmas.List.Folds.{list_all-append}
 use Rattle.std.proofs.lemmas.Slice.Eq.{starts_is}
 use Rattle.std.specs.List.{list_all, starts_with}
 
--- elements, a `/` and elements
+-- Elements, a `/` and elements are elements.
 pub elements_append : (front back : List ℕ) → are_elements front ≡ true → are_elements back ≡ true
     → are_elements (front ++ 47 ∷ back) ≡ true
 elements_append front back f b =
@@ -39,7 +39,7 @@ no_empty_end path front h e =
     (parts_of 47 [])) ∙ h in
     absurd (false≢true (and_parts (are_elements front) (are_elements []) all).1)
 
--- elements of few bytes are an object's key
+-- Elements of at most 1,024 bytes are the path of an object's key.
 pub key_path_from : (path : List ℕ) → are_elements path ≡ true → length path ≤ 1024 → is_key_path path ≡ true
 unfolding parts_from
 key_path_from [] h short = absurd (false≢true h)

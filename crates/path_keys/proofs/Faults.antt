@@ -18,7 +18,7 @@ picked true sound other h = absurd (cc)
 picked false true other h = (refl, h)
 picked false false other h = absurd (cc)
 
--- where no element has a fault, all are elements
+-- If no part has a fault, all are elements.
 pub no_fault : (es : List (List ℕ)) → first_fault es ≡ None → list_all is_element es ≡ true
 no_fault [] h = refl
 no_fault (e ∷ es) h = let first = picked (length e == 0) (is_element e) (first_fault es) h in rw first.0 (no_fault es first.1)
@@ -29,7 +29,7 @@ too_long key h = grind arith
 fits : (key : List ℕ) → length key ≤ 1023 → checked None key ≡ Ok key
 fits key h = grind arith
 
--- the key of a text's parts is the text
+-- The key of a text's parts is the text, checked for its first fault.
 pub key_of_text : (key : List ℕ) (f : Option PathFault) → f ≡ first_fault (parts_of 47 key) → key_of (parts_of 47 key) ≡ checked f key
 key_of_text key f h = ap (checked (first_fault (parts_of 47 key))) (join_parts 47 key) ∙ ap (λ g. checked g key) (sym h)
 

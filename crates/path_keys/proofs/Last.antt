@@ -22,7 +22,7 @@ without_last-append (p ∷ q ∷ parts) part = ap (λ (l : List (List ℕ)). p �
 pub no_slash : (text : List ℕ) → NoCharPasses (λ d. d == 47) text → list_all (is_other 47) text ≡ true
 no_slash text h = others_from_bytes 47 text (λ i lt. NoCharPasses-char 47 text i h (omega arith) lt)
 
--- the last part of a text, and the parts before it
+-- The parts of a text are those before its last `/`, and the last one.
 pub parts_round : (text front back : List ℕ) → text ≡ front ++ 47 ∷ back → list_all (is_other 47) back ≡ true
     → parts_of 47 text ≡ parts_of 47 front ++ back ∷ []
 parts_round text front back e h = ap (parts_of 47) e ∙ parts_append 47 front back ∙ ap (λ (l : List (List ℕ)). parts_of 47 front ++ l)

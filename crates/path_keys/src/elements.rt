@@ -18,7 +18,7 @@ fn element_fault(element: &[u8]) -> Option<PathFault>
     }
 }
 
-/// The fault of the first element between the `/` of a text that may not stand in a key.
+/// Returns the fault of the first element of a text that may not be in a key.
 pub fn first_fault(path: &[u8]) -> Option<PathFault>
     ensures { result ≡ first_fault (parts_of 47 path.now) }
 {

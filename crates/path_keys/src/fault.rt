@@ -4,19 +4,19 @@ ghost use Rattle.path_keys.specs.declared.fault.PathFault.TheVariants.{NoMemory}
 use std::alloc::AllocError;
 use thiserror::Error;
 
-/// Why a text is not a path, in the order in which it is looked at.
+/// Why a text is not a path, in the order of the checks.
 #[derive(Clone, Copy, Debug, PartialEq, Eq, Error)]
 pub enum PathFault {
     /// It does not begin with `s3a://`.
     #[error("the path does not begin with s3a://")]
     BadScheme,
-    /// What stands behind that, up to the first `/`, is not a bucket's name.
+    /// The text after that, up to the first `/`, is not a bucket's name.
     #[error("the path names no bucket")]
     BadBucket,
-    /// The first element that may not stand in a key is empty.
+    /// The first element that may not be in a key is empty.
     #[error("the path has an empty element")]
     EmptyElement,
-    /// The first element that may not stand in a key is `.` or `..`.
+    /// The first element that may not be in a key is `.` or `..`.
     #[error("the path has an element . or ..")]
     DotElement,
     /// The key has more than 1,023 bytes.

@@ -2,8 +2,8 @@
 //!
 //! # What is proved
 //!
-//! `S3Path`: `read`, `join`, `parent` and `relative` give what their definitions give, with each fault
-//! in the order of the checks.
+//! `S3Path`: `read`, `join`, `parent` and `relative` return what their definitions say. If a text
+//! has several faults, they report the first in the order of the checks.
 #![tactic(auto)]
 
 mod elements;

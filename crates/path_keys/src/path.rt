@@ -10,9 +10,9 @@ use s3_types::{Bucket, NameFault, Text};
 use std::alloc::{AllocError, Global};
 use std::marker::Model;
 
-/// A path `s3a://BUCKET/KEY`: a bucket, and a key of at most 1,023 bytes without a `/` at its end,
-/// which is empty at the bucket's root. What stands between the `/` of a key is neither empty nor `.`
-/// nor `..`. (Hadoop FileSystem specification, paths; Amazon S3, object key names.)
+/// A path `s3a://BUCKET/KEY`: a bucket, and a key of at most 1,023 bytes without a `/` at its end.
+/// The key is empty at the bucket's root. No element of a key is empty, `.` or `..`. (Hadoop
+/// FileSystem specification, paths; Amazon S3, object key names.)
 #[derive(Drop)]
 pub struct S3Path {
     bucket: Bucket,
@@ -64,7 +64,7 @@ fn key_in(alloc: Global, behind: Option<&str>) -> Result<Text, PathFault>
 }
 
 impl S3Path {
-    /// A path of a bucket and a key. Takes no memory.
+    /// The path of a bucket and a key. Takes no memory.
     pub fn new(bucket: Bucket, key: Text) -> S3Path
         requires { is_key key ≡ true }
         ensures { result ≡ record { bucket = bucket; key = key } }
@@ -72,8 +72,8 @@ impl S3Path {
         S3Path { bucket, key }
     }
 
-    /// Reads `s3a://`, a bucket's name, and elements each after a `/`; one `/` at the end is dropped.
-    /// Which fault comes where is `path_in`.
+    /// Reads `s3a://`, a bucket's name, and elements, each after a `/`. One `/` at the end is
+    /// dropped. `path_in` says which fault a text gets.
     pub fn read(alloc: Global, text: &str) -> Result<S3Path, PathFault>
         ensures { Gives result (path_in text.now) }
     {
@@ -86,14 +86,14 @@ impl S3Path {
         Ok(S3Path { bucket, key })
     }
 
-    /// The bucket of the path.
+    /// Returns the bucket of the path.
     pub fn bucket(&self) -> &Bucket
         ensures { result.now ≡ self.now.bucket }
     {
         &self.bucket
     }
 
-    /// The key, empty at the root.
+    /// Returns the key, empty at the root.
     pub fn key(&self) -> &Text
         ensures text { result.now ≡ self.now.key }
         ensures key { is_key result.now ≡ true }
@@ -101,7 +101,7 @@ impl S3Path {
         &self.key
     }
 
-    /// Whether this is a bucket's root.
+    /// Whether this is the root of a bucket.
     pub fn is_root(&self) -> bool
         ensures { result ≡ (length self.now.key == 0) }
     {

@@ -48,7 +48,7 @@ fn before_last(key: &str) -> &str
     }
 }
 
-/// What follows a key and a `/` in a text that begins so.
+/// Returns the rest of a text after a key and a `/`, if it begins so.
 fn behind<'a>(key: &[u8], text: &'a [u8]) -> Option<&'a [u8]>
     requires { 0 < length key.now }
     ensures { option_map (λ r. r.now) result ≡ relative_in key.now text.now }
@@ -60,7 +60,7 @@ fn behind<'a>(key: &[u8], text: &'a [u8]) -> Option<&'a [u8]>
 }
 
 impl S3Path {
-    /// The path without its last element, and None exactly at a bucket's root.
+    /// Returns the path without its last element. Returns None exactly at a bucket's root.
     pub fn parent(&self, alloc: Global) -> Result<Option<S3Path>, AllocError>
         ensures { IfOk result (λ p. p ≡ parent_of self.now) }
     {
@@ -71,9 +71,9 @@ impl S3Path {
         Ok(Some(S3Path::new(self.bucket().clone()?, key)))
     }
 
-    /// The path of this one's key, a `/`, and the relative text; at the root, of the text alone. The
-    /// faults are those of `read`: EmptyElement and DotElement by the first bad element of the text,
-    /// and TooLong where the whole key has more than 1,023 bytes.
+    /// Returns the path whose key is this path's key, a `/`, and the relative text; at the root,
+    /// the text alone. Fails as `read` does: with EmptyElement or DotElement for the first bad
+    /// element of the text, and with TooLong if the whole key has more than 1,023 bytes.
     pub fn join(&self, alloc: Global, relative: &str) -> Result<S3Path, PathFault>
         ensures { Gives result (joined self.now relative.now) }
     {
@@ -81,7 +81,7 @@ impl S3Path {
         Ok(S3Path::new(self.bucket().clone()?, key))
     }
 
-    /// The text of this path's key, a `/`, and a relative text; at the root, of that text alone.
+    /// Returns this path's key, a `/`, and a relative text; at the root, the relative text alone.
     pub fn text_below(&self, alloc: Global, relative: &str) -> Result<String, AllocError>
         ensures text { IfOk result (λ text. string_bytes text ≡ below self.now.key relative.now) }
         ensures key { is_key self.now.key ≡ true }
@@ -89,8 +89,8 @@ impl S3Path {
         below(alloc, self.key().as_str(), relative)
     }
 
-    /// What follows this path's key and a `/` in another key; at the root, all of the other key. None
-    /// exactly where the other key does not begin so.
+    /// Returns the rest of another key after this path's key and a `/`; at the root, the whole
+    /// other key. Returns None exactly if the other key does not begin so.
     pub fn relative<'a>(&self, key: &'a [u8]) -> Option<&'a [u8]>
         ensures { option_map (λ r. r.now) result ≡ relative_in self.now.key key.now }
     {

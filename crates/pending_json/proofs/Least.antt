@@ -1,4 +1,4 @@
--- The first name that a table has not is the least, where names rise.
+-- If names rise, the first name that a table does not have is the least.
 use Rattle.pending_json.proofs.Members.{Above, Rising, above_next, at_first, itself, none_above, same, some_none, turned}
 use Rattle.pending_json.proofs.Ordered.{ItemsOrdered, Ordered, field_ordered, tree_ordered}
 use Rattle.pending_json.specs.Fields.{only_fields}
@@ -26,7 +26,7 @@ passes k l e ms apart = passes_at k l e ms apart _ refl
 apart_by : (known : List ℕ → Bool) (k l : List ℕ) → known k ≡ false → known l ≡ true → k ≡ l → ⊥
 apart_by known k l out inside is = true≢false (sym inside ∙ sym (ap known is) ∙ out)
 
--- no name that is there is less than the first
+-- No name of the object is less than the first.
 first_least : (l : List ℕ) (e : Data) (ms : Members) → Above l ms → (k : List ℕ) (v : Data) → get_member k (member l e ms) ≡ Some v
     → (o : Ordering) → slice_cmp nat_cmp k l ≡ o → is_le (slice_cmp nat_cmp l k) ≡ true
 first_least l e ms a k v h Less is = some_none v (sym h ∙ none_above k (member l e ms) (is, above_next k l ms is a))

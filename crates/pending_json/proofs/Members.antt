@@ -16,7 +16,7 @@ use Rattle.std.specs.List.{AllByRecursion}
 use Rattle.std.specs.Ordering.{is_lt, match_ordering, ordering_reverse}
 use Rattle.std.specs.Prelude.{⊤}
 
--- every name is above this one
+-- Holds if every name is above this one.
 abbrev pub Above : List ℕ → Members → Type 0
 Above k no_members = ⊤
 Above k (member l e ms) = (slice_cmp nat_cmp k l ≡ Less) × Above k ms
@@ -68,12 +68,12 @@ pub put_rising : (k : List ℕ) (d : Data) (ms : Members) → Rising ms → Risi
 put_rising k d no_members r = (tt, tt)
 put_rising k d (member l e ms) r = put_rising_at k l d e ms r (put_rising k d ms r.1) _ refl
 
--- ---- the same members are the same list
+-- ---- equal members make equal lists
 
 pub some_none : {A P : Type 0} (x : A) → Some x ≡ None → P
 some_none x e = absurd cc
 
--- the rest of two lists with one first name
+-- The rests of two lists with the same first name agree.
 rest_agrees_at : (k m : List ℕ) (d e : Data) (cs bs : Members) → Above k cs → Above k bs
     → get_member m (member k d cs) ≡ get_member m (member k e bs) → (o : Ordering) → slice_cmp nat_cmp m k ≡ o
     → get_member m cs ≡ get_member m bs
@@ -111,7 +111,7 @@ same_members no_members (member l e bs) r s h = some_none e (sym (at_first l e b
 same_members (member k d cs) no_members r s h = some_none d (sym (at_first k d cs) ∙ h k)
 same_members (member k d cs) (member l e bs) r s h = same_at k l d e cs bs r.0 s.0 h (same_members cs bs r.1 s.1) _ refl
 
--- ---- the members of one table
+-- ---- members with the names of one table
 
 name_at : (names : List (List ℕ)) (k l : List ℕ) (ms : Members) (b : Bool) → is_one_of names l ≡ b
     → cond b (only_fields (is_one_of names) ms) (Err (ExtraField l)) ≡ Ok tt → (is_one_of names l ≡ true)
@@ -124,7 +124,7 @@ skipped : (names : List (List ℕ)) (k l : List ℕ) (e : Data) (ms : Members) �
 skipped names k l e ms out inside later Equal is = absurd (true≢false (sym inside ∙ sym (ap (is_one_of names) (same k l is)) ∙ out))
 skipped names k l e ms out inside later _ is = rw is later
 
--- a name of no table is not there
+-- An object that has only names of the table has no other name.
 pub no_other : (names : List (List ℕ)) (k : List ℕ) (ms : Members) → only_fields (is_one_of names) ms ≡ Ok tt → is_one_of names k ≡ false
     → get_member k ms ≡ None
 no_other names k no_members only out = refl
@@ -143,7 +143,7 @@ agree_in : (k : List ℕ) (a b : Members) (names : List (List ℕ)) → AllByRec
 agree_in k a b [] all h = absurd cc
 agree_in k a b (name ∷ names) all h = agree_at k name a b names all.0 (agree_in k a b names all.1) _ refl h
 
--- two lists of rising members of one table that agree at its names are one
+-- Two lists of rising members with names of one table are the same, if they agree at these names.
 pub one_table : (names : List (List ℕ)) (a b : Members) → Rising a → Rising b → only_fields (is_one_of names) a ≡ Ok tt
     → only_fields (is_one_of names) b ≡ Ok tt
     → AllByRecursion (λ name. get_member name a ≡ get_member name b) names → a ≡ b
@@ -153,7 +153,7 @@ one_table names a b r s only_a only_b all = same_members a b r s (λ k. by k (is
     by k true is = agree_in k a b names all is
     by k false is = no_other names k a only_a is ∙ sym (no_other names k b only_b is)
 
--- ---- whether names rise, by computing
+-- ---- the test whether names rise
 
 abbrev below : List ℕ → Members → Bool
 below k no_members = true
@@ -171,7 +171,7 @@ pub rising_by : (ms : Members) → rises ms ≡ true → Rising ms
 rising_by no_members h = tt
 rising_by (member k d ms) h = let p = and_parts _ _ h in (above_by k ms p.0, rising_by ms p.1)
 
--- the members of an object
+-- The members of an object.
 abbrev pub inside : Data → Members
 inside null = no_members
 inside (boolean b) = no_members

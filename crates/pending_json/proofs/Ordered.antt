@@ -1,4 +1,4 @@
--- In a tree that serde_json reads, each object's names rise.
+-- In a tree that serde_json reads, the names of each object rise.
 use Rattle.json.specs.Lex.{tokens}
 use Rattle.pending_json.proofs.Members.{Rising, put_rising}
 use Rattle.pending_json.specs.Reading.{tree_read}
@@ -90,7 +90,7 @@ member_ordered : (k : List ℕ) (ms : Members) (v : Data) → MembersOrdered ms 
 member_ordered k no_members v o h = absurd cc
 member_ordered k (member l e ms) v o h = member_ordered_at (slice_cmp nat_cmp k l) k l e v ms o.0 (member_ordered k ms v o.1) h
 
--- a field's value of such a tree is such a tree
+-- The value of a field of such a tree is such a tree.
 pub field_ordered : (name : List ℕ) (d v : Data) → Ordered d → get name d ≡ Some v → Ordered v
 field_ordered name null v o h = absurd cc
 field_ordered name (boolean b) v o h = absurd cc

@@ -1,4 +1,4 @@
--- What serde_json reads as a tree, and what it refuses.
+-- The trees that serde_json reads, and the texts that it refuses.
 use Rattle.pending_json.specs.Reading.{parsed, tree_read}
 use Rattle.pending_json.specs.declared.fault.RecordFault.TheVariants.{NotJson}
 use Rattle.serde_json.specs.Data.{Data}
@@ -7,7 +7,7 @@ use Rattle.std.proofs.Common.{Bool, Err, List, None, Ok, Option, Some, ap, cond,
 use Rattle.std.proofs.lemmas.Str.{IsUtf8-from_is_utf8, is_utf8-from_IsUtf8}
 use Rattle.std.specs.Str.{IsUtf8, is_utf8}
 
--- what is read of UTF-8 text
+-- The tree of a text in UTF-8.
 pub tree_is : (bytes : List ℕ) (d : Data) → IsUtf8 bytes → read bytes ≡ Some d → tree_read bytes ≡ Some d
 tree_is bytes d utf8 e = rw (is_utf8-from_IsUtf8 bytes utf8, e) refl
 

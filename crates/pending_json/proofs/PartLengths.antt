@@ -5,12 +5,12 @@ use Rattle.std.proofs.Common.{List, arith, length, true, ℕ, [], ◌<◌, ◌==
 use Rattle.std.proofs.lemmas.Bool.{and_parts, eqb-true}
 use Rattle.std.specs.List.{AllByRecursion, sum}
 
--- none is more than what all are at most
+-- No number is above a bound on the sum of all.
 below_all : (ns : List ℕ) (most : ℕ) → sum ns ≤ most → most < 2 ^ 64 → AllByRecursion (λ n. n < 2 ^ 64) ns
 below_all [] most h k = tt
 below_all (n ∷ ns) most h k = let s = sum_first n ns in (omega (arith, s, h, k), below_all ns most (omega (arith, s, h)) k)
 
--- each length of a file is below 2^64
+-- The length of each part of a file is below 2^64.
 pub each_below : (ns : List ℕ) (count total : ℕ) → fit ns count total ≡ true → total < 2 ^ 64 → AllByRecursion (λ n. n < 2 ^ 64) ns
 each_below ns count total h k =
     let e = eqb-true (sum ns) total (and_parts (length ns == count) _ h).1 in

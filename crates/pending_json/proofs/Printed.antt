@@ -1,4 +1,4 @@
--- What is printed of a tree of numbers and texts is read as that tree.
+-- Reading the printed text of a tree of numbers and texts gives the tree.
 use Rattle.json.proofs.Printed.Decimals.{IsNumber-decimal}
 use Rattle.json.proofs.Printed.Tokens.{tokens-print}
 use Rattle.json.proofs.Printed.Trees.{ArePrintable-json_tokens, value-json_tokens}
@@ -21,7 +21,7 @@ use Rattle.std.specs.Str.{IsUtf8}
 use Rattle.json.specs.Json as js
 use Rattle.json.specs.Tree as tr
 
--- whole numbers of 64 bits and texts alone
+-- Holds if the tree has only texts and whole numbers below 2^64.
 abbrev mutual
   pub Plain : Data → Type 0
   Plain null = ⊥

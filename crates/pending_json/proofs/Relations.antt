@@ -1,4 +1,4 @@
--- What is read is the one tree of its value, and the tree of a value is read as that value.
+-- The tree that is read is the one tree of its value, and reading the tree of a value gives the value.
 use Rattle.basics.proofs.Reading.{needed, parted, same_ok}
 use Rattle.basics.specs.Reading.{◌>>=◌}
 use Rattle.pending_json.proofs.Members.{Rising, inside, one_table, rising_by}
@@ -28,13 +28,13 @@ use Rattle.std.proofs.lemmas.Bool.{lt-ltb}
 use Rattle.std.specs.List.{AllByRecursion}
 use Rattle.pending_json.specs.declared.table.Table.TheVariants as tables
 
--- a field of an object
+-- A field of an object.
 at : (name : List ℕ) (d : Data) (ms : Members) (v w : Data) → d ≡ object ms → get name d ≡ Some v → v ≡ w → get_member name ms ≡ Some w
 at name d ms v w is h same = ap (get name) (sym is) ∙ h ∙ ap Some same
 
 -- ---- pending uploads
 
--- an upload's members, whose lengths of parts are these
+-- The members of an upload with these lengths of its parts.
 abbrev uploaded : Pending → Option (List ℕ) → Members
 uploaded p sizes = inside (pending_tree (record p { sizes = sizes }))
 
@@ -210,9 +210,9 @@ pub set_again : (s : PendingSet) → IsSet s → set_in (set_tree s) ≡ Ok s
 unfolding set_in version_in
 set_again s f = rw (lt-ltb s.attempt (2 ^ 32) f.attempt, pendings_again s.commits f.commits, lt-ltb s.task (2 ^ 32) f.task) refl
 
--- ---- markers
+-- ---- `_SUCCESS`
 
--- a stamp, where there is one
+-- A stamp, if there is one.
 stamp_at : (o : Option Data) (stamp : Option ℕ) → of_kind_if as_whole (codes "stamp") o ≡ Ok stamp → o ≡ option_map whole stamp
 stamp_at None stamp e = let same : None ≡ stamp = cc in ap (option_map whole) same
 stamp_at (Some v) stamp e =
@@ -279,9 +279,9 @@ success_again_at m (Some n) is = rw (is, committer_again m.committer, texts_agai
 pub success_again : (m : SuccessMark) → success_in (success_tree m) ≡ Ok m
 success_again m = success_again_at m m.stamp refl
 
--- ---- of bytes
+-- ---- bytes
 
--- a value that is read is what the bytes spell
+-- The bytes spell a value that is read.
 spelled : {A : Type 0} (reads : Data → Result A RecordFault) (tree : A → Data)
     → ((d : Data) (x : A) → Ordered d → reads d ≡ Ok x → d ≡ tree x)
     → (bytes : List ℕ) (x : A) → (parsed (tree_read bytes) >>= reads) ≡ Ok x → Spell bytes (tree x)
@@ -302,7 +302,7 @@ pub success_found : (bytes : List ℕ) (m : SuccessMark) → success_of bytes �
 unfolding success_of
 success_found bytes m e = spelled success_in success_tree success_is bytes m e
 
--- what the bytes spell is read
+-- A value that the bytes spell is read.
 pub pending_only : (bytes : List ℕ) (p : Pending) → IsPending p → Spell bytes (pending_tree p) → pending_of bytes ≡ Ok p
 unfolding pending_of
 pending_only bytes p f e = rw e (pending_again p f)

@@ -1,4 +1,4 @@
--- What is printed of a record is read as that record.
+-- Reading the printed text of a record gives the record.
 use Rattle.json.proofs.Printed.Utf8.{IsUtf8-are_ascii, are_ascii}
 use Rattle.pending_json.proofs.PartLengths.{each_below}
 use Rattle.pending_json.proofs.Printed.{Plain, PlainItems, PlainMembers, printed_is_read}
@@ -72,7 +72,7 @@ wholes_plain (n ∷ ns) h = (h.0, wholes_plain ns h.1)
 key : (k : List ℕ) → are_ascii k ≡ true → IsUtf8 k
 key k h = IsUtf8-are_ascii k h
 
--- the members after a file's length
+-- The members after a file's length.
 abbrev later : Pending → Option (List ℕ) → Members
 later p sizes = with_sizes sizes (member (codes "task") (whole p.task) (member (codes "upload") (whole p.upload)
     (member (codes "version") (whole (version_of (is_some sizes))) no_members)))
@@ -211,12 +211,12 @@ set_back s f = rw (
 pub set_text : (s : PendingSet) → IsSet s → set_of (compact_text (set_tree s)) ≡ Ok s
 set_text s f = set_only _ s f (printed_is_read (set_tree s) (set_plain s f) (set_depth s s.commits refl) (set_back s f))
 
--- ---- markers
+-- ---- `_SUCCESS`
 
 committer_plain : (c : Committer) → IsUtf8 (committer_word c)
 committer_plain c = key (committer_word c) (elim c as (λ c. are_ascii (committer_word c) ≡ true) [ Magic ↦ refl | _ ↦ refl ])
 
--- the last members of a marker
+-- The last members of `_SUCCESS`.
 stamp_plain : (stamp : Option ℕ) → IsStamp stamp → PlainMembers (with_stamp stamp (member (codes "version") (whole 1) no_members))
 stamp_plain None h = (key (codes "version") refl, lit< tt, tt)
 stamp_plain (Some n) h = (key (codes "stamp") refl, h, (key (codes "version") refl, lit< tt, tt))

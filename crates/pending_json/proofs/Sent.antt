@@ -1,4 +1,4 @@
--- What a record sends to a writer is its tree, and the text of that is the tree's.
+-- A record sends its tree to a writer, and its text is that of the tree.
 use Rattle.pending_json.proofs.Floats.{pending_has_none, set_has_none, success_has_none}
 use Rattle.pending_json.specs.Committers.{committer_word}
 use Rattle.pending_json.specs.Pending.{Pending}
@@ -40,7 +40,7 @@ module _ {A : Type 0} (w : A → Log → Log → Type 0) (f : A → Data) (each 
           h.4,
     )
 
--- the digits of a tag are a text
+-- Holds if the digits of a tag are written as a text.
 abbrev pub WritesTag : Spelled → Log → Log → Type 0
 WritesTag tag old new = Logs old new (text (tag_digits tag))
 

@@ -1,4 +1,4 @@
--- What a value of a kind is, and that it is read as such.
+-- The tree of a value of each kind, and how reading it gives the value.
 use Rattle.basics.proofs.Options.{end_of}
 use Rattle.basics.proofs.Reading.{parted, passed, same_ok}
 use Rattle.pending_json.specs.Committers.{committer_among, committer_of, committer_word, committers}
@@ -21,7 +21,7 @@ use Rattle.std.proofs.lemmas.Option.{cond_some, option_and_then_some, same_Some}
 use Rattle.std.proofs.lemmas.Slice.Eq.{bytes_eq-Decides}
 use Rattle.std.specs.List.{list_all}
 
--- ---- steps that gave something
+-- ---- steps that gave a value
 
 pub of_kind_ok : {A : Type 0} (name : List ℕ) (o : Option A) (x : A) → of_kind name o ≡ Ok x → o ≡ Some x
 of_kind_ok name None x e = absurd cc
@@ -89,7 +89,7 @@ is_committer v c e = option_and_then_some committer_of (as_str v) c e (λ s e1 e
 
 -- ---- lists
 
--- items of a kind whose values stand for one tree each
+-- Items of a kind, each of whose values has one tree.
 items_are : {A : Type 0} (kind : Data → Option A) (shown : A → Data) → ((d : Data) (x : A) → kind d ≡ Some x → d ≡ shown x)
     → (ds : Items) (xs : List A) → all_of kind ds ≡ Some xs → ds ≡ items_of (map shown xs)
 items_are kind shown is no_items xs e = let h : [] ≡ xs = cc in subst (λ x. no_items ≡ items_of (map shown x)) h refl
@@ -121,7 +121,7 @@ counted true true c h k = k
 counted true false c h k = absurd cc
 counted false b c h k = absurd cc
 
--- so many tags of parts
+-- 1 to 10,000 tags of parts.
 pub tags_pass : (ds : Items) (ts : List Spelled) → all_of as_tag ds ≡ Some ts → is_count ts ≡ true → are_tags ts ≡ true
 tags_pass ds ts e h = counted (leb 1 (length ts)) (leb (length ts) 10000) _ h
     (items_pass as_tag is_plain_tag (λ d t k. (is_tag d t k).1) ds ts e)
@@ -150,7 +150,7 @@ is_sizes count total v ns e = option_and_then_some (λ ds. option_and_then (kept
     (λ us e3 e4. let q = kept_ok (λ x. fit x count total) us ns e4 in
     is_array v ds e1 ∙ ap array (items_are as_whole whole is_number ds ns (e3 ∙ ap Some q.0))))
 
--- ---- and back
+-- ---- from values to trees
 
 abbrev spelled : List ℕ → ℕ → Option Spelled
 spelled digits parts = Some (record { digits = digits; parts = parts })
@@ -190,7 +190,7 @@ version_ok d e =
     let f = field_ok as_whole (codes "version") d a.value a.first in
     f.1 ∙ ap Some (is_number f.0 1 (f.2 ∙ ap Some (eqb-true a.value 1 (passed (a.value == 1) (WrongVersion a.value) tt tt a.next).0)))
 
--- the versions of a pending upload's form
+-- The versions of a pending upload's form.
 versions : (n : ℕ) (sized : Bool) (r : Result Bool RecordFault)
     → cond (n == 1) (Ok false) (cond (n == 2) (Ok true) (Err (WrongVersion n))) ≡ r → r ≡ Ok sized → n ≡ version_of sized
 versions n sized r e is = by (n == 1) refl (n == 2) refl (e ∙ is)
@@ -208,7 +208,7 @@ sized_ok d sized e =
     let f = field_ok as_whole (codes "version") d a.value a.first in
     f.1 ∙ ap Some (is_number f.0 (version_of sized) (f.2 ∙ ap Some (versions a.value sized _ refl a.next)))
 
--- the lengths of parts are told where the version says so, and are there
+-- The lengths of parts exist exactly if the version has them.
 pub sizes_ok : (sized : Bool) (count total : ℕ) (d : Data) (sizes : Option (List ℕ)) → sizes_in sized count total d ≡ Ok sizes
     → (is_some sizes ≡ sized) × ((ns : List ℕ) → sizes ≡ Some ns → get (codes "sizes") d ≡ Some (array (wholes ns)))
 sizes_ok false count total d sizes e = let s : None ≡ sizes = same_ok None sizes e in

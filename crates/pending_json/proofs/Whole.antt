@@ -1,4 +1,4 @@
--- A record that is read in groups of fields is what reading it whole gives.
+-- Reading a record in groups of fields gives the same as reading it as a whole.
 use Rattle.basics.specs.Reading.{◌>>=◌}
 use Rattle.pending_json.specs.Fields.{as_bucket, as_committer, as_key, as_tags, as_texts, as_u32, as_whole, as_word, field, is_sized}
 use Rattle.pending_json.specs.Fields.{members_in, of_kind_if, sizes_in, version_in}
@@ -9,12 +9,12 @@ use Rattle.serde_json.specs.Data.{Data}
 use Rattle.serde_json.specs.Find.{as_array, as_str, get}
 use Rattle.std.proofs.Common.{Err, Ok, Result, codes, length, refl, ◌∙◌, ◌≡◌}
 
--- what follows a group follows its last step
+-- Steps after a group are steps after its last step.
 regrouped : {F A B C : Type 0} (r : Result A F) (f : A → Result B F) (g : B → Result C F) → ((r >>= f) >>= g) ≡ (r >>= λ x. f x >>= g)
 regrouped (Ok x) f g = refl
 regrouped (Err fault) f g = refl
 
--- the same steps behind one
+-- The same steps after one step.
 behind : {F A B : Type 0} (r : Result A F) (f g : A → Result B F) → ((x : A) → f x ≡ g x) → (r >>= f) ≡ (r >>= g)
 behind (Ok x) f g h = h x
 behind (Err fault) f g h = refl
@@ -47,7 +47,7 @@ pending_whole d = behind (members_in d) _ _ (λ members. behind (is_sized d) _ _
     (λ kind. behind (field as_whole (codes "length") d) _ _ (λ total. behind (sizes_in sized (length tags) total d) _ _ (λ sizes.
     three (field as_u32 (codes "task") d) (field as_whole (codes "upload") d) _ _ _)))))))))
 
--- four steps and what follows them
+-- Four steps, and what follows them.
 steps : {F A B C D T U : Type 0} (a : Result A F) (b : Result B F) (c : Result C F) (d : Result D F) (make : A → C → T) (k : T → Result U F)
     → ((a >>= λ x. b >>= λ y. c >>= λ z. d >>= λ w. Ok (make x z)) >>= k) ≡ (a >>= λ x. b >>= λ y. c >>= λ z. d >>= λ w. k (make x z))
 steps (Ok x) (Ok y) (Ok z) d make k = regrouped d (λ w. Ok (make x z)) k

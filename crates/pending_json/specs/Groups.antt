@@ -1,5 +1,4 @@
--- Reading a record in groups of fields, as the code does: each group ends at its first fault. What `Reading` says of the whole record is
--- the same.
+-- Reading a record in groups of fields, as the code does. Each group ends at its first fault. The result is the same as that of `Reading`.
 use Rattle.basics.specs.Reading.{◌>>=◌}
 use Rattle.pending_json.specs.Fields.{as_bucket, as_committer, as_key, as_tags, as_texts, as_u32, as_whole, as_word, field, is_sized}
 use Rattle.pending_json.specs.Fields.{members_in, of_kind_if, only_fields, sizes_in, version_in}
@@ -16,7 +15,7 @@ use Rattle.serde_json.specs.Find.{as_array, as_str, get}
 use Rattle.std.specs.Prelude.{Bool, List, Ok, Option, Result, codes, length, ℕ}
 use Rattle.pending_json.specs.declared.table.Table.TheVariants as tables
 
--- whose a pending upload is, and where its file will be
+-- The attempt of a pending upload, and the place of its file.
 unfoldable pub target_in : Data → Result Target RecordFault
 target_in d = do
   attempt ← field as_u32 (codes "attempt") d
@@ -24,7 +23,7 @@ target_in d = do
   destination ← field as_key (codes "destination") d
   Ok (record { attempt = attempt; bucket = bucket; destination = destination })
 
--- what completes a pending upload
+-- The data that completes a pending upload.
 unfoldable pub parts_in : Bool → Data → Result Parts RecordFault
 parts_in sized d = do
   tags ← field as_tags (codes "etags") d
@@ -33,7 +32,7 @@ parts_in sized d = do
   sizes ← sizes_in sized (length tags) total d
   Ok (record { length = total; tags = tags; sizes = sizes })
 
--- a pending upload's task and id, where it has no other fields
+-- The task and the id of a pending upload, which must have no other fields.
 unfoldable pub numbers_in : Bool → Members → Data → Result Numbers RecordFault
 numbers_in sized members d = do
   task ← field as_u32 (codes "task") d
@@ -41,7 +40,7 @@ numbers_in sized members d = do
   others ← only_fields (is_field_of (pending_table sized)) members
   Ok (record { task = task; upload = upload })
 
--- a pending upload
+-- The pending upload in a JSON tree, or its first fault.
 unfoldable pub pending_by : Data → Result Pending RecordFault
 pending_by d = do
   members ← members_in d
@@ -61,19 +60,19 @@ pending_by d = do
     sizes = parts.sizes;
   })
 
--- a set's version, and its attempt
+-- The attempt of a set, whose version must be known.
 unfoldable pub attempt_in : Data → Result ℕ RecordFault
 attempt_in d = do
   version ← version_in d
   field as_u32 (codes "attempt") d
 
--- the pending uploads of a set
+-- The pending uploads of a set.
 unfoldable pub commits_in : Data → Result (List Pending) RecordFault
 commits_in d = do
   items ← field as_array (codes "commits") d
   pendings_in items
 
--- a set's job and its task, where it is a set and has no other fields
+-- The job and the task of a set, which must have no other fields.
 unfoldable pub set_end_in : Members → Data → Result (List ℕ × ℕ) RecordFault
 set_end_in members d = do
   job ← field as_str (codes "job") d
@@ -82,7 +81,7 @@ set_end_in members d = do
   others ← only_fields (is_field_of tables.Set) members
   Ok (job, task)
 
--- a task's set of pending uploads
+-- The set in a JSON tree, or its first fault.
 unfoldable pub set_by : Data → Result PendingSet RecordFault
 set_by d = do
   members ← members_in d
@@ -91,7 +90,7 @@ set_by d = do
   end ← set_end_in members d
   Ok (record { job = end.0; task = end.1; attempt = attempt; commits = commits })
 
--- a marker's job and its stamp, where it is a marker and has no other fields
+-- The job and the stamp of `_SUCCESS`, which must have no other fields.
 unfoldable pub mark_end_in : Members → Data → Result (List ℕ × Option ℕ) RecordFault
 mark_end_in members d = do
   job ← field as_str (codes "job") d
@@ -100,7 +99,7 @@ mark_end_in members d = do
   others ← only_fields (is_field_of tables.Success) members
   Ok (job, stamp)
 
--- the marker of a committed job
+-- The contents of `_SUCCESS` in a JSON tree, or its first fault.
 unfoldable pub success_by : Data → Result SuccessMark RecordFault
 success_by d = do
   members ← members_in d

@@ -4,7 +4,7 @@ use Rattle.s3_types.specs.declared.limits.TheConstants.{MOST_PARTS}
 use Rattle.std.specs.List.{list_all, sum}
 use Rattle.std.specs.Prelude.{Bool, List, None, Option, Some, length, nat_le, true, ℕ, ◌&&◌, ◌==◌}
 
--- whose upload it is, where its file will be, what completes it, and the lengths of its parts where they are told
+-- A pending upload: its task and attempt, the place of its file, the data that completes it, and the lengths of its parts if it has them.
 pub record Pending : Type 0 where
   pub task : ℕ
   pub attempt : ℕ
@@ -15,15 +15,15 @@ pub record Pending : Type 0 where
   pub tags : List Spelled
   pub sizes : Option (List ℕ)
 
--- the tags of 1 to 10,000 parts
+-- True if these are the tags of 1 to 10,000 parts.
 abbrev pub are_tags : List Spelled → Bool
 are_tags tags = nat_le 1 (length tags) && nat_le (length tags) MOST_PARTS && list_all is_plain_tag tags
 
--- so many lengths, which are together a file's
+-- True if there are `count` lengths with the sum `total`.
 abbrev pub fit : List ℕ → ℕ → ℕ → Bool
 fit sizes count total = length sizes == count && sum sizes == total
 
--- the lengths of the parts with these tags, where they are told, of a file of this length
+-- True if these are the lengths of the parts with these tags, of a file of this length, or if there are no lengths.
 abbrev pub are_sizes : Option (List ℕ) → List Spelled → ℕ → Bool
 are_sizes None tags total = true
 are_sizes (Some sizes) tags total = fit sizes (length tags) total

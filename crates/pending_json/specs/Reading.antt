@@ -1,4 +1,4 @@
--- Reading a JSON tree as a record: the first fault in the order of the checks, or the record.
+-- Reading a JSON tree as a record. The result is the record, or the first fault in the order of the checks.
 use Rattle.basics.specs.Reading.{need, ◌>>=◌}
 use Rattle.pending_json.specs.Fields.{as_bucket, as_committer, as_key, as_tags, as_texts, as_u32, as_whole, as_word, field, is_one_of}
 use Rattle.pending_json.specs.Fields.{is_sized, members_in, of_kind_if, only_fields, sizes_in, version_in}
@@ -15,7 +15,7 @@ use Rattle.std.specs.Str.{is_utf8}
 use Rattle.serde_json.specs.Read as json
 use Rattle.pending_json.specs.declared.table.Table.TheVariants as tables
 
--- the names of each record's fields
+-- The names of the fields of each kind of object.
 abbrev pub field_names : Table → List (List ℕ)
 field_names tables.Pending = codes "attempt" ∷ codes "bucket" ∷ codes "destination" ∷ codes "etags" ∷ codes "kind" ∷ codes "length" ∷ codes
     "task" ∷ codes "upload" ∷ codes "version" ∷ []
@@ -24,16 +24,16 @@ field_names tables.SizedPending = codes "attempt" ∷ codes "bucket" ∷ codes "
 field_names tables.Set = codes "attempt" ∷ codes "commits" ∷ codes "job" ∷ codes "kind" ∷ codes "task" ∷ codes "version" ∷ []
 field_names tables.Success = codes "committer" ∷ codes "files" ∷ codes "job" ∷ codes "kind" ∷ codes "stamp" ∷ codes "version" ∷ []
 
--- a name of a record's table
+-- True if a kind of object has a field of this name.
 abbrev pub is_field_of : Table → List ℕ → Bool
 is_field_of table name = is_one_of (field_names table) name
 
--- the table of a pending upload that tells the lengths of its parts or does not
+-- The kind of a pending upload with the lengths of its parts, if `true`, or without them.
 abbrev pub pending_table : Bool → Table
 pending_table false = tables.Pending
 pending_table true = tables.SizedPending
 
--- a pending upload
+-- The pending upload in a JSON tree, or its first fault.
 unfoldable pub pending_in : Data → Result Pending RecordFault
 pending_in d = do
   members ← members_in d
@@ -59,7 +59,7 @@ pending_in d = do
     sizes = sizes;
   })
 
--- pending uploads, of which the first with a fault gives it
+-- The pending uploads of a list, or the fault of the first faulty one.
 unfoldable pub pendings_in : Items → Result (List Pending) RecordFault
 pendings_in no_items = Ok []
 pendings_in (item d ds) = do
@@ -67,7 +67,7 @@ pendings_in (item d ds) = do
   others ← pendings_in ds
   Ok (first ∷ others)
 
--- a task's set of pending uploads
+-- The set in a JSON tree, or its first fault.
 unfoldable pub set_in : Data → Result PendingSet RecordFault
 set_in d = do
   members ← members_in d
@@ -81,7 +81,7 @@ set_in d = do
   others ← only_fields (is_field_of tables.Set) members
   Ok (record { job = job; task = task; attempt = attempt; commits = commits })
 
--- the marker of a committed job
+-- The contents of `_SUCCESS` in a JSON tree, or its first fault.
 unfoldable pub success_in : Data → Result SuccessMark RecordFault
 success_in d = do
   members ← members_in d
@@ -94,27 +94,27 @@ success_in d = do
   others ← only_fields (is_field_of tables.Success) members
   Ok (record { job = job; committer = committer; files = files; stamp = stamp })
 
--- the tree that serde_json reads from bytes, where it reads one
+-- The tree that serde_json reads from bytes, or none.
 abbrev pub tree_read : List ℕ → Option Data
 tree_read bytes = if is_utf8 bytes then json.read bytes else None
 
--- a text that is JSON
+-- The tree, or NotJson if there is none.
 abbrev pub parsed : Option Data → Result Data RecordFault
 parsed tree = need tree NotJson
 
--- the pending upload that bytes spell
+-- The pending upload in a text, or its first fault.
 unfoldable pub pending_of : List ℕ → Result Pending RecordFault
 pending_of bytes = do
   d ← parsed (tree_read bytes)
   pending_in d
 
--- the set that bytes spell
+-- The set in a text, or its first fault.
 unfoldable pub set_of : List ℕ → Result PendingSet RecordFault
 set_of bytes = do
   d ← parsed (tree_read bytes)
   set_in d
 
--- the marker that bytes spell
+-- The contents of `_SUCCESS` in a text, or its first fault.
 unfoldable pub success_of : List ℕ → Result SuccessMark RecordFault
 success_of bytes = do
   d ← parsed (tree_read bytes)

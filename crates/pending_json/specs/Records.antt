@@ -1,4 +1,4 @@
--- What records may hold, and what bytes spell one.
+-- The bounds of records, and the bytes that spell one.
 use Rattle.basics.specs.Order.{text_cmp}
 use Rattle.pending_json.specs.Pending.{Pending, are_sizes, are_tags}
 use Rattle.pending_json.specs.Reading.{is_field_of, tree_read}
@@ -13,7 +13,7 @@ use Rattle.std.specs.Ordering.{is_le}
 use Rattle.std.specs.Prelude.{List, None, Option, Some, false, true, ℕ, ⊤, ◌<◌, ◌^◌, ◌≡◌}
 use Rattle.std.specs.Str.{is_utf8}
 
--- a pending upload whose numbers have their widths, whose names and tags are such, and whose parts' lengths fit
+-- Holds if the numbers, names, tags and lengths of a pending upload keep their bounds.
 pub record IsPending (p : Pending) : Type 0 where
   pub task : p.task < 2 ^ 32
   pub attempt : p.attempt < 2 ^ 32
@@ -24,31 +24,31 @@ pub record IsPending (p : Pending) : Type 0 where
   pub tags : are_tags p.tags ≡ true
   pub sizes : are_sizes p.sizes p.tags p.length ≡ true
 
--- a set whose numbers have their widths, and whose texts and uploads are such
+-- Holds if the numbers, the job's id and the uploads of a set keep their bounds.
 pub record IsSet (s : PendingSet) : Type 0 where
   pub job : is_utf8 s.job ≡ true
   pub task : s.task < 2 ^ 32
   pub attempt : s.attempt < 2 ^ 32
   pub commits : AllByRecursion IsPending s.commits
 
--- a stamp of 64 bits, where there is one
+-- Holds if the stamp is below 2^64, or if there is none.
 abbrev pub IsStamp : Option ℕ → Type 0
 IsStamp None = ⊤
 IsStamp (Some stamp) = stamp < 2 ^ 64
 
--- a marker whose texts are UTF-8 and whose stamp has 64 bits
+-- Holds if the texts of `_SUCCESS` are UTF-8 and its stamp is below 2^64.
 pub record IsMark (m : SuccessMark) : Type 0 where
   pub job : is_utf8 m.job ≡ true
   pub files : AllByRecursion (λ file. is_utf8 file ≡ true) m.files
   pub stamp : IsStamp m.stamp
 
--- of an object's fields that its record's table has not, the least by its bytes
+-- Holds if the name is the least by its bytes of the object's fields that such records do not have.
 pub record IsLeastOther (table : Table) (d : Data) (name : List ℕ) : Type 0 where
   pub value : Data
   pub there : get name d ≡ Some value
   pub other : is_field_of table name ≡ false
   pub least : (k : List ℕ) (v : Data) → get k d ≡ Some v → is_field_of table k ≡ false → is_le (text_cmp name k) ≡ true
 
--- bytes spell a tree: it is what serde_json reads from them
+-- Holds if the bytes spell the tree: serde_json reads it from them.
 abbrev pub Spell : List ℕ → Data → Type 0
 Spell bytes tree = tree_read bytes ≡ Some tree

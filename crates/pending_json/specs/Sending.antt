@@ -6,16 +6,16 @@ use Rattle.serde_json.specs.Data.{Data, array}
 use Rattle.serde_json.specs.Events.{SendsValue}
 use Rattle.pending_json.specs.Trees.{whole, wholes}
 
--- a member of this name
+-- Holds if a member of this name with this value is sent.
 abbrev pub SendsMember : List ℕ → Data → Log → Log → Type 0
 SendsMember name d old new = (named : Log) × Logs old named (field_key name AsIs) × SendsValue d named new
 
--- the lengths of parts, where they are told
+-- Holds if the lengths of parts are sent, if there are any.
 abbrev pub SendsSizes : Option (List ℕ) → Log → Log → Type 0
 SendsSizes None old new = new ≡ old
 SendsSizes (Some sizes) old new = SendsMember (codes "sizes") (array (wholes sizes)) old new
 
--- a stamp, where there is one
+-- Holds if the stamp is sent, if there is one.
 abbrev pub SendsStamp : Option ℕ → Log → Log → Type 0
 SendsStamp None old new = new ≡ old
 SendsStamp (Some stamp) old new = SendsMember (codes "stamp") (whole stamp) old new

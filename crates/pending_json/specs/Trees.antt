@@ -1,4 +1,4 @@
--- The records as JSON, each object's members in the byte order of their names (Hadoop, S3A committer architecture).
+-- The records as JSON. The members of each object are in the byte order of their names (Hadoop, S3A committer architecture).
 use Rattle.pending_json.specs.Committers.{committer_word}
 use Rattle.pending_json.specs.Pending.{Pending}
 use Rattle.pending_json.specs.declared.records.PendingSet.{PendingSet}
@@ -8,33 +8,33 @@ use Rattle.serde_json.specs.Data.{Data, Items, Members, array, member, no_member
 use Rattle.serde_json.specs.View.{items_of}
 use Rattle.std.specs.Prelude.{Bool, List, None, Option, Some, codes, false, is_some, map, true, ℕ}
 
--- a number as JSON
+-- A whole number as JSON.
 abbrev pub whole : ℕ → Data
 whole n = number (unsigned n)
 
--- a list of whole numbers
+-- A list of whole numbers as JSON.
 abbrev pub wholes : List ℕ → Items
 wholes all = items_of (map whole all)
 
--- a list of strings
+-- A list of strings as JSON.
 abbrev pub texts : List (List ℕ) → Items
 texts all = items_of (map string all)
 
--- the digits of a part's tag
+-- The digits of a part's tag.
 abbrev pub tag_digits : Spelled → List ℕ
 tag_digits tag = tag.digits
 
--- the lengths of parts, where they are told, before other members
+-- The lengths of parts, if there are any, before other members.
 abbrev pub with_sizes : Option (List ℕ) → Members → Members
 with_sizes None others = others
 with_sizes (Some sizes) others = member (codes "sizes") (array (wholes sizes)) others
 
--- the version of a pending upload's form: the second tells the lengths of the parts
+-- The version of a pending upload's form: version 2 has the lengths of the parts.
 abbrev pub version_of : Bool → ℕ
 version_of false = 1
 version_of true = 2
 
--- a pending upload whose parts have these lengths, where they are told
+-- A pending upload as JSON, with these lengths of its parts, if there are any.
 abbrev pub upload_tree : Pending → Option (List ℕ) → Data
 upload_tree p sizes = object
     (member (codes "attempt") (whole p.attempt)
@@ -48,11 +48,11 @@ upload_tree p sizes = object
     (member (codes "upload") (whole p.upload)
     (member (codes "version") (whole (version_of (is_some sizes))) no_members))))))))))
 
--- a pending upload
+-- A pending upload as JSON.
 abbrev pub pending_tree : Pending → Data
 pending_tree p = upload_tree p p.sizes
 
--- a task's set of pending uploads
+-- A task's set of pending uploads as JSON.
 abbrev pub set_tree : PendingSet → Data
 set_tree s = object
     (member (codes "attempt") (whole s.attempt)
@@ -62,12 +62,12 @@ set_tree s = object
     (member (codes "task") (whole s.task)
     (member (codes "version") (whole 1) no_members))))))
 
--- a stamp, where there is one, before other members
+-- The stamp, if there is one, before other members.
 abbrev pub with_stamp : Option ℕ → Members → Members
 with_stamp None others = others
 with_stamp (Some stamp) others = member (codes "stamp") (whole stamp) others
 
--- a marker that has this stamp, where it has one
+-- The contents of `_SUCCESS` as JSON, with this stamp, if there is one.
 abbrev pub mark_tree : SuccessMark → Option ℕ → Data
 mark_tree m stamp = object
     (member (codes "committer") (string (committer_word m.committer))
@@ -77,6 +77,6 @@ mark_tree m stamp = object
     (with_stamp stamp
     (member (codes "version") (whole 1) no_members))))))
 
--- the marker of a committed job
+-- The contents of `_SUCCESS` as JSON.
 abbrev pub success_tree : SuccessMark → Data
 success_tree m = mark_tree m m.stamp

@@ -3,7 +3,7 @@ ghost use Rattle.pending_json.specs.Committers.{committer_of, committer_word};
 
 use s3_types::Committer;
 
-/// The name of a committer, as scripts and the marker of a committed job spell it. Takes no memory.
+/// The name of a committer, as scripts and `_SUCCESS` spell it. Takes no memory.
 pub fn committer_word(committer: Committer) -> &'static str
     ensures { result.now ≡ committer_word committer }
 {
@@ -14,7 +14,7 @@ pub fn committer_word(committer: Committer) -> &'static str
     }
 }
 
-/// The committer of this name, if there is one. Takes no memory.
+/// The committer with this name, or none. Takes no memory.
 pub fn committer_of(word: &str) -> Option<Committer>
     ensures { result ≡ committer_of word.now }
 {

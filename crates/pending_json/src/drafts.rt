@@ -1,9 +1,9 @@
-//! What the printed texts of the records say, with names and lists as they are spelled, by a quick look.
+//! A quick look at the printed texts of records, which leaves names and lists as they are spelled.
 ghost use Rattle.std.specs.Prelude.{◌<◌, length, IfSome};
 
 use crate::scanning::{behind, between, number, small_number, without_comma};
 
-/// What the text of a pending upload says, with no sizes where it tells none.
+/// The contents of a pending upload's text. The sizes are empty if the text has none.
 #[derive(Clone, Copy)]
 pub struct UploadDraft<'a> {
     pub attempt: u32,
@@ -16,14 +16,14 @@ pub struct UploadDraft<'a> {
     pub upload: u64,
 }
 
-/// What the text of a set says behind its uploads.
+/// The contents of a set's text after its uploads.
 #[derive(Clone, Copy)]
 pub struct SetEnd<'a> {
     pub job: &'a [u8],
     pub task: u32,
 }
 
-/// What a text that begins with a pending upload's says of it, and what is left behind that.
+/// The contents of a pending upload at the beginning of a text, and the rest of the text.
 pub fn upload_draft(text: &[u8]) -> Option<(UploadDraft<'_>, &[u8])>
     ensures { IfSome result (λ r. length r.1.now < length text.now) }
 {
@@ -50,14 +50,14 @@ pub fn upload_draft(text: &[u8]) -> Option<(UploadDraft<'_>, &[u8])>
     Some((draft, text))
 }
 
-/// The attempt that a set's text says, and the list of its uploads with all that follows it.
+/// The attempt in a set's text, and the text from the list of its uploads on.
 pub fn set_start(text: &[u8]) -> Option<(u32, &[u8])> {
     let (attempt, text) = between(text, b"{\"attempt\":", b',');
     let list = behind(text, b"\"commits\":[")?;
     Some((small_number(attempt), list))
 }
 
-/// What a set's text says behind its uploads.
+/// The contents of a set's text after its uploads.
 pub fn set_end(text: &[u8]) -> SetEnd<'_> {
     let (job, text) = between(text, b"],\"job\":\"", b'"');
     let (task, _) = between(text, b",\"kind\":\"pendingset\",\"task\":", b',');

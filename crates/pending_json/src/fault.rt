@@ -7,21 +7,21 @@ use std::alloc::{AllocError, AllocFailed, Global};
 use std::fmt;
 use thiserror::Error;
 
-/// Why bytes could not be read as a record. Where several hold, the first check of these decides: that the
-/// text is JSON, that it is an object, its version, the other fields in the byte order of their names, and
-/// last the fields that no such record has.
+/// Why bytes could not be read as a record. If there are several faults, the first check in this
+/// order decides: the text is JSON, it is an object, its version, the other fields in the byte
+/// order of their names, and last the fields that no such record has.
 #[derive(Drop, Error)]
 pub enum RecordFault {
-    /// The bytes are no JSON text (RFC 8259), or one that nests deeper than 127.
+    /// The bytes are no JSON text (RFC 8259), or a text that nests deeper than 127.
     NotJson,
-    /// A field of this name is wanted and absent.
+    /// A required field of this name is absent.
     MissingField(Text),
-    /// The field of this name has a value that is not of its kind or out of its range; with no name, the
-    /// value that should be the record is not an object.
+    /// The field of this name has a value of a wrong kind or out of its range. With an empty name:
+    /// the value that should be the record is no object.
     WrongKind(Text),
     /// The record has this version, which no such record has.
     WrongVersion(u64),
-    /// No such record has a field of this name, the least of these by its bytes.
+    /// No such record has a field of this name. It is the least of these names by its bytes.
     ExtraField(Text),
     /// Memory ran out.
     NoMemory,
@@ -71,7 +71,7 @@ impl<T: Drop> From<AllocFailed<T>> for RecordFault {
     }
 }
 
-/// That a field is absent.
+/// MissingField of this name.
 pub fn missing(alloc: Global, name: &str) -> RecordFault
     ensures { IsFault result (MissingField name.now) }
 {
@@ -81,7 +81,7 @@ pub fn missing(alloc: Global, name: &str) -> RecordFault
     }
 }
 
-/// That a field is of a wrong kind.
+/// WrongKind of this name.
 pub fn wrong_kind(alloc: Global, name: &str) -> RecordFault
     ensures { IsFault result (WrongKind name.now) }
 {

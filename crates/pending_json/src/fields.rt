@@ -9,7 +9,7 @@ use s3_types::{Bucket, Key, NameFault};
 use serde_json::{Map, Value};
 use std::alloc::Global;
 
-/// The value as an object. Else WrongKind with no name.
+/// The value as an object. The error is WrongKind with an empty name.
 pub fn members_of<'v>(
     alloc: Global,
     value: &'v Value,
@@ -22,7 +22,7 @@ pub fn members_of<'v>(
     }
 }
 
-/// A field's value, which is there. Else MissingField.
+/// The value of a field. The error is MissingField.
 pub fn present_field<'v>(
     alloc: Global,
     value: &'v Value,
@@ -36,7 +36,7 @@ pub fn present_field<'v>(
     }
 }
 
-/// An unsigned whole number below 2^64.
+/// A field that is an unsigned whole number below 2^64.
 pub fn whole_field(alloc: Global, value: &Value, name: &str) -> Result<u64, RecordFault>
     ensures { Gives result (field as_whole name.now (view value.now)) }
 {
@@ -47,7 +47,7 @@ pub fn whole_field(alloc: Global, value: &Value, name: &str) -> Result<u64, Reco
     }
 }
 
-/// An unsigned whole number below 2^32.
+/// A field that is an unsigned whole number below 2^32.
 pub fn u32_field(alloc: Global, value: &Value, name: &str) -> Result<u32, RecordFault>
     ensures { Gives result (field as_u32 name.now (view value.now)) }
 {
@@ -59,7 +59,7 @@ pub fn u32_field(alloc: Global, value: &Value, name: &str) -> Result<u32, Record
     }
 }
 
-/// A text, which is lent.
+/// A field that is a text. The text is borrowed.
 pub fn str_field<'v>(alloc: Global, value: &'v Value, name: &str) -> Result<&'v str, RecordFault>
     ensures { GivesBy (λ t. t.now) result (field as_str name.now (view value.now)) }
 {
@@ -70,7 +70,7 @@ pub fn str_field<'v>(alloc: Global, value: &'v Value, name: &str) -> Result<&'v 
     }
 }
 
-/// A certain text.
+/// Checks that a field is this text.
 pub fn word_field(alloc: Global, value: &Value, name: &str, word: &str) -> Result<(), RecordFault>
     ensures { Gives result (field (as_word word.now) name.now (view value.now)) }
 {
@@ -82,7 +82,7 @@ pub fn word_field(alloc: Global, value: &Value, name: &str, word: &str) -> Resul
     }
 }
 
-/// A bucket's name.
+/// A field that is a bucket's name.
 pub fn bucket_field(alloc: Global, value: &Value, name: &str) -> Result<Bucket, RecordFault>
     ensures { Gives result (field as_bucket name.now (view value.now)) }
 {
@@ -94,7 +94,7 @@ pub fn bucket_field(alloc: Global, value: &Value, name: &str) -> Result<Bucket, 
     }
 }
 
-/// An object's key.
+/// A field that is an object's key.
 pub fn key_field(alloc: Global, value: &Value, name: &str) -> Result<Key, RecordFault>
     ensures { Gives result (field as_key name.now (view value.now)) }
 {
@@ -106,7 +106,7 @@ pub fn key_field(alloc: Global, value: &Value, name: &str) -> Result<Key, Record
     }
 }
 
-/// The items of a list.
+/// The items of a field that is a list.
 pub fn list_field<'v>(
     alloc: Global,
     value: &'v Value,
@@ -121,7 +121,7 @@ pub fn list_field<'v>(
     }
 }
 
-/// The version, which is 1. Else WrongVersion.
+/// Checks that the version is 1. The error is WrongVersion.
 #[tactic(auto, unfolding(crate::specs::Fields::version_in))]
 pub fn version_field(alloc: Global, value: &Value) -> Result<(), RecordFault>
     ensures { Gives result (version_in (view value.now)) }
@@ -134,8 +134,8 @@ pub fn version_field(alloc: Global, value: &Value) -> Result<(), RecordFault>
     }
 }
 
-/// Whether a pending upload tells the lengths of its parts: not at version 1, and at version 2. Else
-/// WrongVersion.
+/// True if a pending upload has the lengths of its parts: false for version 1, true for version 2.
+/// The error for another version is WrongVersion.
 #[tactic(auto, unfolding(crate::specs::Fields::is_sized))]
 pub fn is_sized(alloc: Global, value: &Value) -> Result<bool, RecordFault>
     ensures { Gives result (is_sized (view value.now)) }

@@ -1,5 +1,5 @@
-//! The fields of the records in groups, each read by a call of its own: what is read so is let go of in
-//! few places, and each group is a fact of its own.
+//! The fields of the records in groups. A call of its own reads each group. So values are dropped
+//! in few places, and each group has its own contract.
 ghost use Rattle.std.specs.Prelude.{◌≡◌, IfOk, true};
 ghost use Rattle.serde_json.specs.View.{view, members_view};
 ghost use Rattle.pending_json.specs.Fault.{Gives};
@@ -18,7 +18,7 @@ use s3_types::{Bucket, Key, SizeList, TagList, Text, let_go};
 use serde_json::{Map, Value};
 use std::alloc::Global;
 
-/// Of which attempt a pending upload is, and where its file will be.
+/// The attempt of a pending upload, and the place of its file.
 #[derive(Drop)]
 pub struct Target {
     pub attempt: u32,
@@ -26,7 +26,8 @@ pub struct Target {
     pub destination: Key,
 }
 
-/// What completes a pending upload: the file's length, the tags of its parts and their lengths.
+/// The data that completes a pending upload: the file's length, the tags of its parts and their
+/// lengths.
 #[derive(Drop)]
 pub struct Parts {
     pub length: u64,
@@ -34,14 +35,14 @@ pub struct Parts {
     pub sizes: Option<SizeList>,
 }
 
-/// A pending upload's task and id.
+/// The task and the id of a pending upload.
 #[derive(Clone, Copy)]
 pub struct Numbers {
     pub task: u32,
     pub upload: u64,
 }
 
-/// A pending upload of these groups.
+/// The pending upload with these groups.
 pub fn joined(target: Target, parts: Parts, numbers: Numbers) -> PendingUpload
     requires tags { are_tags parts.tags ≡ true }
     requires sizes { are_sizes parts.sizes parts.tags parts.length ≡ true }
@@ -68,7 +69,7 @@ pub fn joined(target: Target, parts: Parts, numbers: Numbers) -> PendingUpload
     )
 }
 
-/// Whose upload it is and where its file will be, or the first fault of these fields.
+/// The attempt of a pending upload and the place of its file, or the first fault of these fields.
 #[tactic(auto, unfolding(crate::specs::Groups::target_in))]
 pub fn target_of(alloc: Global, value: &Value) -> Result<Target, RecordFault>
     ensures { Gives result (target_in (view value.now)) }
@@ -88,7 +89,8 @@ pub fn target_of(alloc: Global, value: &Value) -> Result<Target, RecordFault>
     }
 }
 
-/// The tags and, where `sized`, the sizes of the parts, or the first fault of these fields.
+/// The length, the tags and, if `sized`, the sizes of the parts, or the first fault of these
+/// fields.
 #[tactic(auto, unfolding(crate::specs::Groups::parts_in))]
 pub fn parts_of(alloc: Global, value: &Value, sized: bool) -> Result<Parts, RecordFault>
     ensures read { Gives result (parts_in sized (view value.now)) }
@@ -106,7 +108,7 @@ pub fn parts_of(alloc: Global, value: &Value, sized: bool) -> Result<Parts, Reco
     })
 }
 
-/// The task and the id of an upload that has no other fields.
+/// The task and the id of a pending upload. It must have no other fields.
 #[tactic(auto, unfolding(crate::specs::Groups::numbers_in))]
 pub fn numbers_of(
     alloc: Global,
@@ -122,7 +124,7 @@ pub fn numbers_of(
     Ok(Numbers { task, upload })
 }
 
-/// A set's attempt, where its version is known.
+/// The attempt of a set. Its version must be known.
 #[tactic(auto, unfolding(crate::specs::Groups::attempt_in))]
 pub fn attempt_of(alloc: Global, value: &Value) -> Result<u32, RecordFault>
     ensures { Gives result (attempt_in (view value.now)) }
@@ -131,7 +133,7 @@ pub fn attempt_of(alloc: Global, value: &Value) -> Result<u32, RecordFault>
     u32_field(alloc, value, "attempt")
 }
 
-/// The job and the task of a set that has no other fields.
+/// The job and the task of a set. It must have no other fields.
 #[tactic(auto, unfolding(crate::specs::Groups::set_end_in))]
 pub fn set_end_of(
     alloc: Global,

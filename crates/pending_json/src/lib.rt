@@ -1,14 +1,18 @@
-//! The records that a committer keeps as JSON: a pending upload, a task's set of them, and the marker
-//! of a committed job. (Hadoop, S3A committer architecture: `SinglePendingCommit`, `PendingSet` and
-//! `SuccessData`; the fields are this profile's.)
+//! The records that a committer stores as JSON: a pending upload, a task's set of these, and
+//! `_SUCCESS`. (Hadoop, S3A committer architecture: `SinglePendingCommit`, `PendingSet` and
+//! `SuccessData`; the fields are those of this project.)
 //!
 //! # What is proved
 //!
-//! the three records' `print` and `read`: `print` is the one JSON text of the record's tree, a pending
-//! upload's in version 2 exactly where it tells the lengths of its parts. `read` gives a record whose
-//! tree is what `serde_json` reads from the bytes (`found`), gives every record of which that is the
-//! tree (`only`), and else the first fault in the order of the checks (`exact`). What a record prints
-//! is read as that record; the field that ExtraField names is the least of its kind.
+//! the three records' `print` and `read`:
+//!
+//! - `print` returns the one JSON text of the record's tree. A pending upload has version 2 exactly
+//!   if it has the lengths of its parts.
+//! - `read` returns a record whose tree `serde_json` reads from the bytes (`found`), and returns
+//!   each record whose tree that is (`only`). Otherwise its error is the first fault in the order
+//!   of the checks (`exact`).
+//! - Reading the text of a record gives that record.
+//! - ExtraField names the least of the fields that no such record has.
 #![tactic(auto)]
 
 ghost use Rattle.std.specs.Prelude.{◌≡◌, ℕ, List, Ok, Err, Some};
@@ -50,16 +54,16 @@ pub use fault::RecordFault;
 pub use pending::PendingUpload;
 pub use records::{PendingList, PendingSet, SuccessMark};
 
-/// The text that each record prints is read as that record: a fact of what the texts mean, whatever
-/// memory there is.
+/// Reading the text that a record prints gives that record. This is a law of the texts, independent
+/// of memory.
 pub fn read_again()
     ensures uploads { (p : Pending) → IsPending p → pending_of (compact_text (pending_tree p)) ≡ Ok p }
     ensures sets { (s : PendingSet) → IsSet s → set_of (compact_text (set_tree s)) ≡ Ok s }
     ensures marks { (m : SuccessMark) → IsMark m → success_of (compact_text (success_tree m)) ≡ Ok m }
 {}
 
-/// The field that ExtraField names is the least by its bytes of those that no such record has: of a
-/// text that is an object, and of an object in a list that is a field of it.
+/// ExtraField names the field that is least by its bytes, of those that no such record has. This
+/// holds for a text that is an object, and for an object in a list that is a field of it.
 pub fn extra_field_is_least()
     ensures whole { (table : Table) (bytes : List ℕ) (ms : Members) (name : List ℕ) → Spell bytes (object ms)
         → only_fields (is_field_of table) ms ≡ Err (ExtraField name) → IsLeastOther table (object ms) name }

@@ -7,7 +7,7 @@ use crate::fault::RecordFault;
 use serde_json::Value;
 use std::alloc::Global;
 
-/// The JSON tree of a text. Else NotJson.
+/// The JSON tree of a text. The error is NotJson.
 pub fn tree(alloc: Global, bytes: &[u8]) -> Result<Value, RecordFault>
     ensures { GivesBy view result (parsed (tree_read bytes.now)) }
 {

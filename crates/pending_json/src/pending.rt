@@ -4,10 +4,10 @@ ghost use Rattle.pending_json.specs.Pending.{are_tags, are_sizes};
 use s3_types::{Bucket, Key, SizeList, TagList};
 use std::marker::Model;
 
-/// A finished upload that its job's commit will complete: of which task and attempt it is, the bucket
-/// and the key where the file will be, the upload's id, the file's length in bytes, the tags of the parts
-/// in their order, 1 to 10,000 of them, each of a part, and, where they are told, the lengths of the parts
-/// in bytes: as many as the tags, and together the file's length.
+/// A finished upload that its job's commit will complete: its task and attempt, the bucket and the
+/// key of the file to be, the upload's id, the file's length in bytes, and the tags of the parts in
+/// their order. There are 1 to 10,000 tags, each of one part. It may have the lengths of the parts
+/// in bytes: as many as tags, with the file's length as their sum.
 #[derive(Drop)]
 pub struct PendingUpload {
     task: u32,
@@ -41,7 +41,7 @@ impl Model for PendingUpload {
 }
 
 impl PendingUpload {
-    /// A pending upload. Takes no memory.
+    /// A pending upload with these values. Takes no memory.
     pub fn new(
         task: u32,
         attempt: u32,
@@ -98,7 +98,7 @@ impl PendingUpload {
         &self.bucket
     }
 
-    /// The key where the file will be.
+    /// The key of the file to be.
     pub fn destination(&self) -> &Key
         ensures { result.now ≡ self.now.destination }
     {
@@ -127,7 +127,7 @@ impl PendingUpload {
         &self.tags
     }
 
-    /// The lengths of the parts in bytes, in their order, where they are told.
+    /// The lengths of the parts in bytes, in their order, if the upload has them.
     pub fn sizes(&self) -> Option<&SizeList>
         ensures value { option_map (λ s. s.now) result ≡ self.now.sizes }
         ensures told { are_sizes self.now.sizes self.now.tags self.now.length ≡ true }

@@ -41,7 +41,7 @@ fn pending_by(alloc: Global, value: &Value) -> Result<PendingUpload, RecordFault
     }
 }
 
-/// The pending upload that a value spells, or its first fault.
+/// The pending upload in a JSON value, or its first fault.
 pub fn pending_in(alloc: Global, value: &Value) -> Result<PendingUpload, RecordFault>
     ensures { Gives result (pending_in (view value.now)) }
 {
@@ -56,7 +56,7 @@ fn pending_by_tree(alloc: Global, bytes: &[u8]) -> Result<PendingUpload, RecordF
     pending_in(alloc, &value)
 }
 
-/// A pending upload, quickly where its text is the printed one, and else by its tree.
+/// The pending upload in a text. The printed text is read quickly, any other one by its tree.
 fn pending_of(alloc: Global, bytes: &[u8]) -> Result<PendingUpload, RecordFault>
     ensures { Gives result (pending_of bytes.now) }
 {
@@ -67,23 +67,30 @@ fn pending_of(alloc: Global, bytes: &[u8]) -> Result<PendingUpload, RecordFault>
 }
 
 impl PendingUpload {
-    /// Reads a pending upload from its JSON text, of which the members may stand in any order, with blanks
-    /// and escapes as JSON has them (RFC 8259); of members of one name the last counts.
+    /// Reads a pending upload from its JSON text. The members may be in any order, with blanks and
+    /// escapes as JSON has them (RFC 8259). Of members with the same name the last one counts.
     ///
-    /// The first of these that holds is the error: NotJson, where the bytes are not UTF-8, not JSON or
-    /// nest deeper than 127; WrongKind of no name, where the text is not an object; MissingField,
-    /// WrongKind or WrongVersion of `version`; MissingField or WrongKind of the other fields, in the byte
-    /// order of their names; ExtraField, with the least name that no pending upload has. A field is of
-    /// its kind where `attempt` and `task` are whole numbers below 2^32, `length` and `upload` below 2^64,
-    /// `bucket` is a bucket's name, `destination` a key, `etags` a list of 1 to 10,000 tags of 32
-    /// lower-case hex digits, and `kind` is `pending`. The version is 1 or 2; version 2 alone has `sizes`, a
-    /// list of as many whole numbers as `etags`, whose sum is `length`. NoMemory can come at any time.
+    /// The error is the first of these that applies:
+    ///
+    /// 1. NotJson: the bytes are not UTF-8, not JSON, or nest deeper than 127
+    /// 2. WrongKind with an empty name: the text is no object
+    /// 3. MissingField, WrongKind or WrongVersion of `version`
+    /// 4. MissingField or WrongKind of the other fields, in the byte order of their names
+    /// 5. ExtraField with the least name that no pending upload has
+    ///
+    /// NoMemory can come at any time. The kinds of the fields are:
+    ///
+    /// - `attempt` and `task` are whole numbers below 2^32, `length` and `upload` below 2^64
+    /// - `bucket` is a bucket's name, `destination` a key, and `kind` is `pending`
+    /// - `etags` is a list of 1 to 10,000 tags of 32 lower-case hex digits
+    /// - `version` is 1 or 2; version 2 alone has `sizes`, a list of as many whole numbers as
+    ///   `etags`, whose sum is `length`
     pub fn read(alloc: Global, bytes: &[u8]) -> Result<PendingUpload, RecordFault>
-        // What is read is spelled so.
+        // The bytes spell each record that is read.
         ensures found { IfOk result (λ p. Spell bytes.now (pending_tree p)) }
-        // What is spelled so is read.
+        // Each record that the bytes spell is read.
         ensures only { (p : Pending) → IsPending p → Spell bytes.now (pending_tree p) → Gives result (Ok p) }
-        // Which fault it is.
+        // The error is the first fault.
         ensures exact { Gives result (pending_of bytes.now) }
     {
         pending_of(alloc, bytes)

@@ -10,7 +10,7 @@ use s3_types::Bytes;
 use serde::Serialize;
 use std::alloc::{AllocError, Global};
 
-/// Whether what a record sends has this text, where there is memory to know it.
+/// True if the record prints as this text. False also if memory runs out.
 pub fn prints<T: Serialize>(alloc: Global, item: &T, bytes: &[u8]) -> bool
     ensures { result ≡ true → (log : Log) × T.writes item.now (Some []) log × IsTextOf log bytes.now }
 {
@@ -20,7 +20,7 @@ pub fn prints<T: Serialize>(alloc: Global, item: &T, bytes: &[u8]) -> bool
     }
 }
 
-/// The text of what a record sends, in no more room than it needs, since stores and journals keep it.
+/// The text of the record. It uses no more memory than it needs, since stores and journals keep it.
 fn written<T: Serialize>(alloc: Global, value: &T) -> Result<Bytes, AllocError>
     ensures { IfOk result (λ b. (log : Log) × T.writes value.now (Some []) log × IsTextOf log b) }
 {
@@ -34,7 +34,8 @@ fn written<T: Serialize>(alloc: Global, value: &T) -> Result<Bytes, AllocError>
 }
 
 impl PendingUpload {
-    /// The record's one text: JSON without blanks, its members in the byte order of their names.
+    /// The one text of the record: JSON without blanks, its members in the byte order of their
+    /// names.
     pub fn print(&self, alloc: Global) -> Result<Bytes, AllocError>
         ensures { IfOk result (λ b. b ≡ compact_text (pending_tree self.now)) }
     {
@@ -43,7 +44,8 @@ impl PendingUpload {
 }
 
 impl PendingSet {
-    /// The record's one text: JSON without blanks, its members in the byte order of their names.
+    /// The one text of the record: JSON without blanks, its members in the byte order of their
+    /// names.
     pub fn print(&self, alloc: Global) -> Result<Bytes, AllocError>
         ensures { IfOk result (λ b. b ≡ compact_text (set_tree self.now)) }
     {
@@ -52,7 +54,8 @@ impl PendingSet {
 }
 
 impl SuccessMark {
-    /// The record's one text: JSON without blanks, its members in the byte order of their names.
+    /// The one text of the record: JSON without blanks, its members in the byte order of their
+    /// names.
     pub fn print(&self, alloc: Global) -> Result<Bytes, AllocError>
         ensures { IfOk result (λ b. b ≡ compact_text (success_tree self.now)) }
     {

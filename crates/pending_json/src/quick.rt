@@ -1,6 +1,6 @@
-//! Records that are read quickly where their text is the printed one: a candidate is made of what a quick
-//! look finds, and its own text is compared with the one that is read. None is found where the text is not
-//! as it is printed, or where memory runs out.
+//! Reads a record quickly if its text is the printed one. A quick look makes a candidate, and the
+//! candidate's own text is compared with the input. The result is none if the text is not as it is
+//! printed, or if memory runs out.
 ghost use Rattle.std.specs.Prelude.{◌≡◌, true, IfSome, Ok};
 ghost use Rattle.std.specs.List.{AllByRecursion, list_all};
 ghost use Rattle.std.specs.Str.{is_utf8};
@@ -21,7 +21,8 @@ use crate::tags::{is_count, tag_of};
 use s3_types::{Bucket, Key, Sequence, SizeList, TagList, Text, let_go};
 use std::alloc::Global;
 
-/// The bucket of this name, shared with an upload before where that is in it.
+/// The bucket with this name. It shares the memory of the bucket of the upload before, if that is
+/// the same.
 fn bucket(alloc: Global, before: Option<&PendingUpload>, name: &[u8]) -> Option<Bucket>
     ensures { IfSome result (λ bucket. is_bucket bucket ≡ true) }
 {
@@ -34,7 +35,7 @@ fn bucket(alloc: Global, before: Option<&PendingUpload>, name: &[u8]) -> Option<
     Bucket::read(alloc, name).ok()
 }
 
-/// Where a draft's file will be.
+/// The place of a draft's file.
 fn target(alloc: Global, before: Option<&PendingUpload>, draft: &UploadDraft<'_>) -> Option<Target>
     ensures bucket { IfSome result (λ target. is_bucket target.bucket ≡ true) }
     ensures destination { IfSome result (λ target. is_key target.destination ≡ true) }
@@ -83,7 +84,7 @@ fn wholes(alloc: Global, list: &[u8]) -> Option<SizeList> {
     Some(wholes)
 }
 
-/// The lengths of the parts with these tags, where they are told, of a file of this length.
+/// The lengths of the parts with these tags, if the text has them, of a file of this length.
 fn sizes(alloc: Global, list: &[u8], tags: &TagList, total: u64) -> Option<Option<SizeList>>
     ensures { IfSome result (λ sizes. are_sizes sizes tags.now total ≡ true) }
 {
@@ -98,7 +99,7 @@ fn sizes(alloc: Global, list: &[u8], tags: &TagList, total: u64) -> Option<Optio
     }
 }
 
-/// What completes a draft's upload.
+/// The data that completes a draft's upload.
 fn parts(alloc: Global, draft: &UploadDraft<'_>) -> Option<Parts>
     ensures tags { IfSome result (λ parts. are_tags parts.tags ≡ true) }
     ensures fit { IfSome result (λ parts. are_sizes parts.sizes parts.tags parts.length ≡ true) }
@@ -118,7 +119,7 @@ fn parts(alloc: Global, draft: &UploadDraft<'_>) -> Option<Parts>
     }
 }
 
-/// The pending upload that a draft says, behind another one.
+/// The pending upload of a draft, after another one.
 fn upload(
     alloc: Global,
     before: Option<&PendingUpload>,
@@ -142,7 +143,7 @@ fn upload(
     }
 }
 
-/// Adds the pending upload that a draft says.
+/// Adds the pending upload of a draft.
 fn push_upload(alloc: Global, uploads: &mut PendingList, draft: &UploadDraft<'_>) -> Option<()>
     requires { AllByRecursion IsPending uploads.old }
     ensures { IfSome result (λ _. AllByRecursion IsPending uploads.new) }
@@ -151,7 +152,7 @@ fn push_upload(alloc: Global, uploads: &mut PendingList, draft: &UploadDraft<'_>
     uploads.push(next).ok()
 }
 
-/// Adds the pending uploads of a list, and gives what is left behind them.
+/// Adds the pending uploads of a list, and returns the text after them.
 fn push_uploads<'a>(alloc: Global, uploads: &mut PendingList, list: &'a [u8]) -> Option<&'a [u8]>
     requires { AllByRecursion IsPending uploads.old }
     ensures { IfSome result (λ _. AllByRecursion IsPending uploads.new) }
@@ -174,7 +175,7 @@ fn text(alloc: Global, bytes: &[u8]) -> Option<Text>
     }
 }
 
-/// The job and the task of a set, whose uploads are added.
+/// Adds the uploads of a set, and returns its job and task.
 fn set_rest(alloc: Global, uploads: &mut PendingList, list: &[u8]) -> Option<(Text, u32)>
     requires { AllByRecursion IsPending uploads.old }
     ensures uploads { IfSome result (λ _. AllByRecursion IsPending uploads.new) }
@@ -186,7 +187,7 @@ fn set_rest(alloc: Global, uploads: &mut PendingList, list: &[u8]) -> Option<(Te
     Some((job, end.task))
 }
 
-/// The set that a text says to a quick look.
+/// The set that a quick look finds in a text.
 fn quick_set(alloc: Global, bytes: &[u8]) -> Option<PendingSet>
     ensures { IfSome result (λ set. IsSet set) }
 {

@@ -4,7 +4,7 @@ use s3_types::{Committer, Sequence, Text, TextList};
 /// A list of pending uploads.
 pub type PendingList = Sequence<PendingUpload>;
 
-/// What a committed task leaves for its job's commit: the job's id, which task and which attempt of it,
+/// The set that a committed task leaves for its job's commit: the job's id, the task, its attempt,
 /// and its pending uploads.
 #[derive(Drop)]
 pub struct PendingSet {
@@ -14,8 +14,8 @@ pub struct PendingSet {
     pub commits: PendingList,
 }
 
-/// What the marker of a committed job says: the job's id, its committer, the paths of its files below
-/// the destination, and a stamp where the job has one.
+/// The contents of `_SUCCESS`: the job's id, its committer, the paths of its files below the
+/// destination, and the job's stamp if it has one.
 #[derive(Drop)]
 pub struct SuccessMark {
     pub job: Text,

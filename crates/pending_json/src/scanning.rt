@@ -1,15 +1,15 @@
-//! A quick look at the pieces of a record's printed text. Nothing is said of what is found: whether a text
-//! is the printed one, the record that is made of it decides.
+//! A quick look at the pieces of a record's printed text. Its results have no contract: the record
+//! made of them decides whether a text is the printed one.
 ghost use Rattle.std.specs.Prelude.{◌-◌, ◌<◌, ◌≤◌, length, IfSome};
 
-/// What is left of a text behind a piece that it begins with.
+/// The rest of a text after a piece at its beginning, or none.
 pub fn behind<'a>(text: &'a [u8], piece: &[u8]) -> Option<&'a [u8]>
     ensures { IfSome result (λ rest. length rest.now ≤ length text.now) }
 {
     text.strip_prefix(piece)
 }
 
-/// What stands before the next such byte, or all where there is none, and what is left behind it.
+/// The text before the next byte `end` and that after it, or all of the text and nothing.
 fn until(text: &[u8], end: u8) -> (&[u8], &[u8])
     ensures { length result.1.now ≤ length text.now - 1 }
 {
@@ -23,8 +23,8 @@ fn until(text: &[u8], end: u8) -> (&[u8], &[u8])
     text.split_at(text.len())
 }
 
-/// What stands between a piece and the next such byte, and what is left behind that: nothing and all of it
-/// where the text does not begin with the piece.
+/// The text between a piece and the next byte `end`, and the text after that. If the text does not
+/// begin with the piece: nothing, and all of the text.
 pub fn between<'a>(text: &'a [u8], piece: &[u8], end: u8) -> (&'a [u8], &'a [u8])
     ensures { length result.1.now ≤ length text.now }
 {
@@ -34,7 +34,7 @@ pub fn between<'a>(text: &'a [u8], piece: &[u8], end: u8) -> (&'a [u8], &'a [u8]
     }
 }
 
-/// A text without the comma that it may begin with.
+/// The text without a comma at its beginning.
 pub fn without_comma(text: &[u8]) -> &[u8]
     ensures { length result.now ≤ length text.now }
 {
@@ -44,7 +44,7 @@ pub fn without_comma(text: &[u8]) -> &[u8]
     }
 }
 
-/// The next item of a list, and what is left behind its comma.
+/// The next item of a list, and the text after its comma.
 pub fn next_item(list: &[u8]) -> Option<(&[u8], &[u8])>
     ensures { IfSome result (λ r. length r.1.now < length list.now) }
 {
@@ -55,7 +55,7 @@ pub fn next_item(list: &[u8]) -> Option<(&[u8], &[u8])>
     }
 }
 
-/// The number below 2^64 that digits are; of others, some number.
+/// The number below 2^64 with these digits. For any other bytes it is some number.
 pub fn number(digits: &[u8]) -> u64 {
     let mut n = 0u64;
     for digit in digits {
@@ -65,7 +65,7 @@ pub fn number(digits: &[u8]) -> u64 {
     n
 }
 
-/// The number below 2^32 that digits are; of others, some number.
+/// The number below 2^32 with these digits. For any other bytes it is some number.
 pub fn small_number(digits: &[u8]) -> u32 {
     let n = number(digits);
     if n < 0x1_0000_0000 { n as u32 } else { 0 }

@@ -1,4 +1,4 @@
-//! The records as they are sent to a writer of JSON, member by member in the byte order of the names.
+//! Sends the records to a writer of JSON, member by member in the byte order of the names.
 ghost use Rattle.std.specs.Prelude.{◌≡◌, ◌+◌, ◌<◌, codes, map, cond, OnOk};
 ghost use Rattle.std.specs.Option.{option_copied};
 ghost use Rattle.serde_json.specs.Data.{array, string};
@@ -12,7 +12,7 @@ use crate::records::{PendingSet, SuccessMark};
 use s3_types::{SizeList, Tag, Text};
 use serde::{Described, Serialize, Serializer};
 
-/// The version of the form of a set and of a marker.
+/// The version of the form of sets and of `_SUCCESS`.
 const VERSION: u64 = 1;
 
 fn send_whole<S: Serializer>(out: &mut S, name: &str, n: u64) -> Result<(), S::Error>
@@ -71,7 +71,7 @@ fn send_uploads<S: Serializer>(
     all.serialize(out)
 }
 
-/// The lengths of parts, where they are told.
+/// Sends the lengths of parts, if there are any.
 fn send_sizes<S: Serializer>(out: &mut S, sizes: Option<&SizeList>) -> Result<(), S::Error>
     ensures { OnOk result (SendsSizes (option_copied sizes.entry) (S.written out.old) (S.written out.new)) }
 {
@@ -81,7 +81,7 @@ fn send_sizes<S: Serializer>(out: &mut S, sizes: Option<&SizeList>) -> Result<()
     }
 }
 
-/// A stamp, where there is one.
+/// Sends the stamp, if there is one.
 fn send_stamp<S: Serializer>(out: &mut S, stamp: Option<u64>) -> Result<(), S::Error>
     ensures { OnOk result (SendsStamp stamp (S.written out.old) (S.written out.new)) }
 {
@@ -91,7 +91,7 @@ fn send_stamp<S: Serializer>(out: &mut S, stamp: Option<u64>) -> Result<(), S::E
     }
 }
 
-/// How many members there are, with one more where it is told.
+/// The number of members, with one more if `told`.
 fn count(others: usize, told: bool) -> usize
     requires { others < 100 }
     ensures { result ≡ cond told (others + 1) others }
@@ -99,7 +99,7 @@ fn count(others: usize, told: bool) -> usize
     if told { others + 1 } else { others }
 }
 
-/// The version of a pending upload's form, which tells the lengths of the parts or does not.
+/// The version of a pending upload's form: version 2 has the lengths of the parts.
 fn upload_version(sized: bool) -> u64
     ensures { result ≡ version_of sized }
 {

@@ -18,7 +18,7 @@ use s3_types::{Sequence, let_go};
 use serde_json::Value;
 use std::alloc::Global;
 
-/// The pending uploads of a list. The first that has a fault gives it.
+/// The pending uploads of a list, or the fault of the first faulty one.
 #[tactic(auto, unfolding(crate::specs::Reading::pendings_in))]
 fn pendings_in(alloc: Global, list: &[Value]) -> Result<PendingList, RecordFault>
     ensures { Gives result (pendings_in (items_view list.now)) }
@@ -68,7 +68,7 @@ fn set_by_tree(alloc: Global, bytes: &[u8]) -> Result<PendingSet, RecordFault>
     set_by(alloc, &value)
 }
 
-/// A task's set, quickly where its text is the printed one, and else by its tree.
+/// The set in a text. The printed text is read quickly, any other one by its tree.
 fn set_of(alloc: Global, bytes: &[u8]) -> Result<PendingSet, RecordFault>
     ensures { Gives result (set_of bytes.now) }
 {
@@ -79,17 +79,19 @@ fn set_of(alloc: Global, bytes: &[u8]) -> Result<PendingSet, RecordFault>
 }
 
 impl PendingSet {
-    /// Reads a task's set from its JSON text, as `PendingUpload::read` does, with the same order of
-    /// checks. A fault within an object of `commits` is that object's own fault, as if it were read
-    /// alone, and the first such object of the list gives it. A field is of its kind where `attempt` and
-    /// `task` are whole numbers below 2^32, `job` is a text, `commits` a list of such objects, and `kind`
-    /// is `pendingset`.
+    /// Reads a task's set from its JSON text, like `PendingUpload::read` and with the same order of
+    /// checks. A fault in an object of `commits` is the fault that reading this object alone would
+    /// give, and the first faulty object of the list decides. The kinds of the fields are:
+    ///
+    /// - `attempt` and `task` are whole numbers below 2^32
+    /// - `job` is a text, and `kind` is `pendingset`
+    /// - `commits` is a list of such objects
     pub fn read(alloc: Global, bytes: &[u8]) -> Result<PendingSet, RecordFault>
-        // What is read is spelled so.
+        // The bytes spell each record that is read.
         ensures found { IfOk result (λ s. Spell bytes.now (set_tree s)) }
-        // What is spelled so is read.
+        // Each record that the bytes spell is read.
         ensures only { (s : PendingSet) → IsSet s → Spell bytes.now (set_tree s) → Gives result (Ok s) }
-        // Which fault it is.
+        // The error is the first fault.
         ensures exact { Gives result (set_of bytes.now) }
     {
         set_of(alloc, bytes)

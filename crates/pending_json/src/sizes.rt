@@ -23,7 +23,7 @@ fn sizes(alloc: Global, list: &[Value]) -> Result<Option<SizeList>, AllocError>
     Ok(Some(sizes))
 }
 
-/// Whether lengths are so many and together a file's.
+/// True if there are `count` lengths, with the sum `total`.
 pub fn fit(sizes: &[u64], count: usize, total: u64) -> bool
     ensures { result ≡ fit sizes.now count total }
 {
@@ -37,7 +37,7 @@ pub fn fit(sizes: &[u64], count: usize, total: u64) -> bool
     sizes.len() == count && left == 0
 }
 
-/// The lengths of so many parts, together a file's.
+/// A field that is a list of `count` lengths with the sum `total`.
 fn told(alloc: Global, value: &Value, count: usize, total: u64) -> Result<SizeList, RecordFault>
     ensures read { Gives result (field (as_sizes count total) (codes "sizes") (view value.now)) }
     ensures fit { IfOk result (λ sizes. fit sizes count total ≡ true) }
@@ -53,7 +53,7 @@ fn told(alloc: Global, value: &Value, count: usize, total: u64) -> Result<SizeLi
     }
 }
 
-/// The lengths of the parts with these tags, where they are told, of a file of this length.
+/// The lengths of the parts with these tags, if `sized`, of a file of this length.
 pub fn sizes_field(
     alloc: Global,
     value: &Value,

@@ -20,7 +20,7 @@ use s3_types::{Committer, Text, let_go};
 use serde_json::{Map, Value};
 use std::alloc::Global;
 
-/// A committer's word.
+/// A field that is a committer's word.
 fn committer_field(alloc: Global, value: &Value, name: &str) -> Result<Committer, RecordFault>
     ensures { Gives result (field as_committer name.now (view value.now)) }
 {
@@ -31,7 +31,7 @@ fn committer_field(alloc: Global, value: &Value, name: &str) -> Result<Committer
     }
 }
 
-/// An unsigned whole number below 2^64, or no such field.
+/// A field that is an unsigned whole number below 2^64, or that is absent.
 fn whole_field_if(alloc: Global, value: &Value, name: &str) -> Result<Option<u64>, RecordFault>
     ensures { Gives result (of_kind_if as_whole name.now (get name.now (view value.now))) }
 {
@@ -44,7 +44,7 @@ fn whole_field_if(alloc: Global, value: &Value, name: &str) -> Result<Option<u64
     }
 }
 
-/// The job and the stamp of a marker that has no other fields.
+/// The job and the stamp of `_SUCCESS`. It must have no other fields.
 #[tactic(auto, unfolding(crate::specs::Groups::mark_end_in))]
 fn mark_end_of(
     alloc: Global,
@@ -91,16 +91,19 @@ fn success_of(alloc: Global, bytes: &[u8]) -> Result<SuccessMark, RecordFault>
 }
 
 impl SuccessMark {
-    /// Reads a committed job's marker from its JSON text, as `PendingUpload::read` does, with the same
-    /// order of checks. A field is of its kind where `committer` is one of the committers' words, `files`
-    /// a list of texts, in any order, `job` a text, `stamp`, which may be absent, a whole number below
-    /// 2^64, and `kind` is `success`.
+    /// Reads `_SUCCESS` from its JSON text, like `PendingUpload::read` and with the same order of
+    /// checks. The kinds of the fields are:
+    ///
+    /// - `committer` is the word of a committer
+    /// - `files` is a list of texts, in any order
+    /// - `job` is a text, and `kind` is `success`
+    /// - `stamp` is a whole number below 2^64, and may be absent
     pub fn read(alloc: Global, bytes: &[u8]) -> Result<SuccessMark, RecordFault>
-        // What is read is spelled so.
+        // The bytes spell each record that is read.
         ensures found { IfOk result (λ m. Spell bytes.now (success_tree m)) }
-        // What is spelled so is read.
+        // Each record that the bytes spell is read.
         ensures only { (m : SuccessMark) → Spell bytes.now (success_tree m) → Gives result (Ok m) }
-        // Which fault it is.
+        // The error is the first fault.
         ensures exact { Gives result (success_of bytes.now) }
     {
         success_of(alloc, bytes)

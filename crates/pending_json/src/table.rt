@@ -9,7 +9,7 @@ use s3_types::Text;
 use serde_json::{Map, Value};
 use std::alloc::Global;
 
-/// Whose fields.
+/// The kinds of objects, each with its own fields.
 #[derive(Clone, Copy)]
 pub enum Table {
     Pending,
@@ -58,7 +58,7 @@ fn is_field_of(table: Table, name: &str) -> bool
     }
 }
 
-/// The fields of a pending upload that tells the lengths of its parts or does not.
+/// The fields of a pending upload with the lengths of its parts, if `sized`, or without them.
 pub fn pending_table(sized: bool) -> Table
     ensures { result ≡ pending_table sized }
 {
@@ -69,7 +69,8 @@ pub fn pending_table(sized: bool) -> Table
     }
 }
 
-/// That an object has no fields but those of a table. Else ExtraField with the least other name.
+/// Checks that an object has only the fields of a table. The error is ExtraField with the least
+/// other name.
 pub fn no_others(
     alloc: Global,
     members: &Map<String, Value>,

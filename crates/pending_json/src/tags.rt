@@ -10,7 +10,7 @@ use s3_types::{MOST_PARTS, Sequence, Tag, TagList, are_hex_digits};
 use serde_json::Value;
 use std::alloc::{AllocError, Global};
 
-/// The tag of a part that a text spells.
+/// The tag of a part with this text, or none.
 pub fn tag_of(bytes: &[u8]) -> Option<Tag>
     ensures { result ≡ tag_of bytes.now }
 {
@@ -46,14 +46,14 @@ fn tags(alloc: Global, list: &[Value]) -> Result<Option<TagList>, AllocError>
     Ok(Some(tags))
 }
 
-/// Whether these are 1 to 10,000.
+/// True if there are 1 to 10,000 tags.
 pub fn is_count(tags: &TagList) -> bool
     ensures { result ≡ is_count tags.now }
 {
     1 <= tags.len() && tags.len() <= MOST_PARTS as usize
 }
 
-/// The tags of 1 to 10,000 parts.
+/// A field that is a list of the tags of 1 to 10,000 parts.
 pub fn tags_field(alloc: Global, value: &Value, name: &str) -> Result<TagList, RecordFault>
     ensures read { Gives result (field as_tags name.now (view value.now)) }
     ensures tags { IfOk result (λ tags. are_tags tags ≡ true) }

@@ -10,7 +10,7 @@ use s3_types::{Sequence, Text, TextList, let_go};
 use serde_json::Value;
 use std::alloc::{AllocError, Global};
 
-/// Adds the texts of a list, and gives whether all its values are such.
+/// Adds the texts of a list. Returns true if all its values are texts.
 fn add_texts(alloc: Global, texts: &mut TextList, list: &[Value]) -> Result<bool, AllocError>
     requires { texts.old ≡ [] }
     ensures { IfOk result (λ all. all_of as_str (items_view list.now) ≡ if all then Some texts.new else None) }
@@ -24,7 +24,7 @@ fn add_texts(alloc: Global, texts: &mut TextList, list: &[Value]) -> Result<bool
     Ok(true)
 }
 
-/// A list of texts, in any order.
+/// A field that is a list of texts, in any order.
 pub fn texts_field(alloc: Global, value: &Value, name: &str) -> Result<TextList, RecordFault>
     ensures { Gives result (field as_texts name.now (view value.now)) }
 {

@@ -1,4 +1,4 @@
--- the first request that wore out: there is one answer, it is computed, and a counter of one request at a time finds it
+-- There is one answer to which request wore out first; it is computed, and a counter of one request at a time finds it.
 use Rattle.basics.proofs.Members.{false_true, some_is, true_or_false}
 use Rattle.retries.proofs.Lists.{parted}
 use Rattle.retries.proofs.Misses.{streak_other, streak_same, worn_grows, worn_more, worn_now}
@@ -22,7 +22,7 @@ worn_of_first retries es r f =
     let e : (f.before ++ f.last ∷ []) ++ f.later ≡ es = append_assoc f.before (f.last ∷ []) f.later ∙ sym f.parts in
     subst (λ l. IsWorn retries r l) e (worn_more retries r (f.before ++ f.last ∷ []) f.later f.worn)
 
--- who wore out among the entries before another that was the first contradicts it
+-- No request wore out before the first that did, so of two first ones neither can be earlier.
 too_early : (retries : ℕ) (es : List Entry) (r q : Request) (f : IsFirstWorn retries es r) (g : IsFirstWorn retries es q) (zs : List Entry)
     → g.before ≡ f.before ++ f.last ∷ zs → ⊥
 too_early retries es r q f g zs e =
@@ -78,13 +78,13 @@ computed retries done (e ∷ es) none = elim (true_or_false (nat_lt retries (str
   | inr h ↦ rw (h, ← snoc done e es) (computed retries (done ++ e ∷ []) es (lost_one retries done e none h))
 ]
 
--- nothing wore out before anything was sent
+-- No request wore out before anything was sent.
 pub none_sent : (retries : ℕ) → NoneWorn retries []
 none_sent retries r w = let h : None ≡ Some false = w.1 0 (omega arith) in cc
 
 -- ---- a counter of one request at a time
 
--- of the request in hand as many sendings are missed as are not spare, and of no other any
+-- The last sends of the request in hand got no answer, as many as are no longer to spare; no other request has missed any.
 pub record Counts (retries : ℕ) (done : List Entry) (hand : Option Request) (spare : ℕ) : Type 0 where
   pub held : (q : Request) → hand ≡ Some q → streak q done + spare ≡ retries
   pub others : (q : Request) → (hand ≡ Some q → ⊥) → streak q done ≡ 0
@@ -98,7 +98,7 @@ all_still retries done hand still none = record {
   none = none;
 }
 
--- behind an answer no request has missed any
+-- After an answer no request has missed any.
 answered_one : (retries spare : ℕ) (done : List Entry) (hand later : Option Request) (e : Entry) → Counts retries done hand spare
     → hand ≡ Some e.request → was_answered e.outcome ≡ true → Counts retries (done ++ e ∷ []) later retries
 answered_one retries spare done hand later e c asked told =
@@ -116,7 +116,7 @@ missed_here : (retries spare : ℕ) (done : List Entry) (hand : Option Request) 
     → hand ≡ Some e.request → was_answered e.outcome ≡ false → streak e.request (done ++ e ∷ []) + spare ≡ retries + 1
 missed_here retries spare done hand e h g f = grind (arith, streak_same, same_self)
 
--- without an answer the request in hand has missed one more
+-- After a send without an answer the request in hand has missed one more.
 missed_one : (retries n : ℕ) (done : List Entry) (hand : Option Request) (e : Entry) → Counts retries done hand (suc n)
     → hand ≡ Some e.request → was_answered e.outcome ≡ false → Counts retries (done ++ e ∷ []) hand n
 missed_one retries n done hand e c asked told =
@@ -179,7 +179,7 @@ module _ {M : Type 0} (retries : ℕ) (wants : M → Option Request) (tells : M 
   spent_first m i is es f = spent [] m es i (subst (λ n. Counts retries [] (wants m) n) (sym is)
       (all_still retries [] (wants m) (λ q. refl) (none_sent retries))) f
 
--- ---- an operation of replies counts so
+-- ---- an operation that receives replies counts so
 
 module _ {M : Type 0} (retries : ℕ) (asks : M → Option Request) (after : M → Item → M) where
   answered : (t : Retried M) (o : Outcome) → was_answered o ≡ true → (step retries after t o).spare ≡ retries

@@ -1,7 +1,7 @@
--- places in appended lists, and ways to part one
+-- Places in appended lists, and ways to divide a list.
 use Rattle.std.proofs.Common.{◌≡◌, refl, ap, sym, ◌∙◌, ◌⊎◌, inl, inr, List, [], ◌∷◌, ◌++◌}
 
--- two ways to part a list
+-- Of two ways to divide a list, either both are the same, or one divides it earlier.
 pub parted : {X : Type 0} (fs : List X) (a : X) (bs : List X) (cs : List X) (c : X) (ds : List X) → fs ++ a ∷ bs ≡ cs ++ c ∷ ds
     → ((fs ≡ cs) × (a ≡ c)) ⊎ (((zs : List X) × (cs ≡ fs ++ a ∷ zs)) ⊎ ((zs : List X) × (fs ≡ cs ++ c ∷ zs)))
 parted [] a bs [] c ds e = let h : a ≡ c = cc in inl (refl, h)

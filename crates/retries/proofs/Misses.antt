@@ -1,4 +1,4 @@
--- the count of the last misses, and somewhere a row of them
+-- The count of the last misses, and whether there is a row of them somewhere.
 use Rattle.basics.proofs.Lists.{get_before, get_left}
 use Rattle.basics.proofs.Members.{true_or_false}
 use Rattle.retries.specs.Same.{same_request}
@@ -106,7 +106,7 @@ worn_more r q es fs w = (
       (w.0 + i) false (w.1 i le),
 )
 
--- one more sending wears a request only if it is one of it
+-- A send can wear out only its own request.
 pub worn_grows : (r : ℕ) (q : Request) (es : List Entry) (e : Entry) → IsWorn r q (es ++ e ∷ []) → IsWorn r q es
     ⊎ ((same_request q e.request ≡ true) × (r < streak q (es ++ e ∷ [])))
 worn_grows r q es e w = elim (true_or_false (same_request q e.request)) [

@@ -1,4 +1,4 @@
--- operations that go on by one sending
+-- Operations that go on by one send.
 use Rattle.retries.specs.Operation.{Follows, run}
 use Rattle.retries.specs.Retries.{Item, Retried, has_worn, step, wears}
 use Rattle.s3_types.specs.declared.journal.Entry.{Entry}

@@ -1,4 +1,4 @@
--- requests that are the same by the test are equal
+-- Requests that are the same by the test are equal.
 use Rattle.basics.proofs.Members.{eq_nat as number_is, false_true, nat_true, text_is, text_true}
 use Rattle.basics.specs.Order.{text_eq}
 use Rattle.retries.specs.Same.{same_bool, same_list, same_option, same_part, same_ref, same_request}
@@ -62,11 +62,11 @@ ref_is r s e = let a = both _ _ e in ap (λ k. record { key = k; upload = r.uplo
 ref_self : (r : UploadRef) → same_ref r r ≡ true
 ref_self r = and_true _ _ (text_self r.key) (number_self r.upload)
 
--- two texts, and what takes them
+-- Two equal pairs of texts give equal values.
 pair_is : {Y : Type 0} (f : List ℕ → List ℕ → Y) (b c k l : List ℕ) → text_eq b c && text_eq k l ≡ true → f b k ≡ f c l
 pair_is f b c k l e = let s = both _ _ e in ap (λ v. f v k) (text_is b c s.0) ∙ ap (f c) (text_is k l s.1)
 
--- two texts and a number
+-- Two equal pairs of texts with equal numbers give equal values.
 upload_is : {Y : Type 0} (f : List ℕ → List ℕ → ℕ → Y) (b c k l : List ℕ) (i j : ℕ) → text_eq b c && (text_eq k l && nat_eq i j) ≡ true
     → f b k i ≡ f c l j
 upload_is f b c k l i j e = let s = both _ _ e in let t = both _ _ s.1 in ap (λ v. f v k i) (text_is b c s.0) ∙ ap (λ v. f c v i)

@@ -8,29 +8,29 @@ use Rattle.retries.specs.Operation.{Follows}
 use Rattle.retries.specs.Retries.{Item, wants_of, fresh, step, has_worn, worn_in, Counting, spent_in}
 use Rattle.retries.specs.Worn.{IsWorn, WornFirst, first_worn}
 
--- the test of requests tells them apart
+-- The test says of two requests whether they are equal.
 pub record SameRequests : Type 0 where
   pub equal : (r q : Request) → same_request r q ≡ true → r ≡ q
   pub self : (r : Request) → same_request r r ≡ true
 
--- exactly one answer is right to which request wore out first, and it is the computed one
+-- There is one right answer to which request wore out first, and it is the computed one.
 pub record WornOnce : Type 0 where
   pub is : (retries : ℕ) (es : List Entry) → WornFirst retries es (first_worn retries es)
   pub only : (retries : ℕ) (es : List Entry) (a b : Option Request) → WornFirst retries es a → WornFirst retries es b → a ≡ b
 
--- an operation of replies under retries: its counter finds the first request that wore out by the entries alone
+-- An operation that receives replies, under retries: its counter finds the first request that wore out by the entries alone.
 pub record CounterIsLiteral (M : Type 0) : Type 0 where
   pub first : (retries : ℕ) (asks : M → Option Request) (after : M → Item → M) (m : M) (es : List Entry)
       → Follows (wants_of asks) (step retries after) (fresh retries m) es
       → WornFirst retries es (worn_in retries after (fresh retries m) es)
   pub some : (retries : ℕ) (after : M → Item → M) (m : M) (es : List Entry)
       → has_worn retries after (fresh retries m) es ≡ is_some (worn_in retries after (fresh retries m) es)
-  -- so it wears out exactly where some request did
+  -- It wears out exactly if some request did.
   pub exactly : (retries : ℕ) (asks : M → Option Request) (after : M → Item → M) (m : M) (es : List Entry)
       → Follows (wants_of asks) (step retries after) (fresh retries m) es
       → (has_worn retries after (fresh retries m) es ≡ true → (r : Request) × IsWorn retries r es)
       × ((r : Request) → IsWorn retries r es → has_worn retries after (fresh retries m) es ≡ true)
-  -- and the same of every operation that counts one request at a time
+  -- The same holds of every operation that counts one request at a time.
   pub counts : (retries : ℕ) (wants : M → Option Request) (tells : M → Outcome → M) (spare : M → ℕ) (holds : M → Bool)
       → Counting retries wants tells spare holds → (m : M) → holds m ≡ true → spare m ≡ retries → (es : List Entry)
       → Follows wants tells m es → WornFirst retries es (spent_in tells spare m es)

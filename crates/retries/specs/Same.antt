@@ -1,4 +1,4 @@
--- Whether two requests are the very same.
+-- Whether two requests are equal.
 use Rattle.basics.specs.Order.{text_eq}
 use Rattle.s3_types.specs.declared.request.NamedPart.{NamedPart}
 use Rattle.s3_types.specs.declared.request.Request.{Request}
@@ -9,33 +9,33 @@ use Rattle.s3_types.specs.declared.request.Request.TheVariants.{MakeBucket, PutO
 use Rattle.s3_types.specs.declared.request.UploadRef.{UploadRef}
 use Rattle.std.specs.Prelude.{Bool, List, None, Option, Some, false, nat_eq, true, [], ◌&&◌, ◌∷◌}
 
--- lists whose members are the same one by one
+-- True if the lists have equal members, one by one.
 abbrev pub same_list : {X : Type 0} → (X → X → Bool) → List X → List X → Bool
 same_list same [] [] = true
 same_list same (x ∷ xs) (y ∷ ys) = same x y && same_list same xs ys
 same_list same _ _ = false
 
--- two optional values are the same
+-- True if the two optional values are equal.
 abbrev pub same_option : {X : Type 0} → (X → X → Bool) → Option X → Option X → Bool
 same_option same None None = true
 same_option same (Some x) (Some y) = same x y
 same_option same _ _ = false
 
--- two truth values are the same
+-- True if the two truth values are equal.
 abbrev pub same_bool : Bool → Bool → Bool
 same_bool true b = b
 same_bool false true = false
 same_bool false false = true
 
--- two named parts of a completion are the same
+-- True if the two named parts of a completion are equal.
 abbrev pub same_part : NamedPart → NamedPart → Bool
 same_part p q = nat_eq p.number q.number && (text_eq p.tag.digits q.tag.digits && nat_eq p.tag.parts q.tag.parts)
 
--- two uploads' keys and ids are the same
+-- True if the two uploads have the same key and id.
 abbrev pub same_ref : UploadRef → UploadRef → Bool
 same_ref r s = text_eq r.key s.key && nat_eq r.upload s.upload
 
--- requests of one kind whose fields are the same
+-- True if the requests are of one kind and their fields are equal.
 abbrev pub same_request : Request → Request → Bool
 same_request (MakeBucket n) (MakeBucket m) = text_eq n m
 same_request (PutObject b k x h) (PutObject c l y g) = text_eq b c && (text_eq k l && (text_eq x y && same_option nat_eq h g))

@@ -45,7 +45,7 @@ none_or : (b : Bool) (o : Option Upload) → o ≡ None → cond b None o ≡ No
 none_or true o h = refl
 none_or false o h = h
 
--- an id that is live is below the next one
+-- The id of a live upload is below the next id.
 live_below : (m : Uploads) (k : List ℕ) (id n : ℕ) (u : Upload) → IsFresh m n → live m k id ≡ Some u → (i : ℕ) → n ≤ i
     → eq_by_cmp nat_cmp i id ≡ false
 live_below m k id n u f e i h = by (get m id) refl e (eq_by_cmp nat_cmp i id) refl
@@ -107,14 +107,14 @@ kept_below m w n minimum k r below h = by (get m k) refl
         (below_insert m n (cond (draws r) (n + 1) n) k (apply_in b n minimum r) below (next_most (draws r) n)
         (kept_fresh b n minimum r (below k b e)))
 
--- a put that was made or was not
+-- A put, whether it was made or not, keeps all ids below the next one.
 pub put_below : {T E : Type 0} (made : Result T E) (m w : Buckets) (n minimum : ℕ) (k : List ℕ) (r : Request) → draws r ≡ false
     → AreBelow m n → OnOk made (w ≡ with_bucket m k (λ b. apply_in b n minimum r)) → OnErr made (w ≡ m) → AreBelow w n
 put_below (Ok x) m w n minimum k r e below h g = subst (λ (b : Bool). AreBelow w (cond b (n + 1) n)) e
     (kept_below m w n minimum k r below h)
 put_below (Err x) m w n minimum k r e below h g = subst (λ (w : Buckets). AreBelow w n) (sym g) below
 
--- what is told of a value's next id holds of that id
+-- A bucket made of these uploads has ids below the same next id.
 pub next_below : (b : BucketContent) (os : Objects) (us : Uploads) (n m : ℕ) → b ≡ record { objects = os; uploads = us } → m ≡ n
     → IsFresh us m → IsFresh b.uploads n
 next_below b os us n m e k f = subst (λ (b : BucketContent). IsFresh b.uploads n) (sym e) (subst (IsFresh us) k f)

@@ -1,4 +1,4 @@
--- Buckets of which one is changed, by the entries of a tree that lends it.
+-- Buckets after a change of one of them, by the entries of the tree that lends it.
 use Rattle.basics.proofs.Tree.{get_made, insert_same, made_insert}
 use Rattle.basics.specs.Order.{text_cmp, text_total}
 use Rattle.s3_service.specs.Changed.{changed, with_bucket}
@@ -20,18 +20,18 @@ abbrev Row : Type 0
 Row = List (List ℕ × BucketContent)
 
 module _ (es : Row) (m : Buckets) (k : List ℕ) (is : map.from_entries {R = text_cmp} es ≡ m) where
-  -- what stands at a name
+  -- The lookup in the tree returns the bucket of that name.
   pub found : (o : Option BucketContent) → o ≡ lookup (is_at (text_cmp k)) es → map.get m k ≡ o
   found o e = ap (λ (m : Buckets). map.get m k) (sym is) ∙ get_made text_total es k ∙ sym e
 
   module _ (fs : Row) (w b : BucketContent) (was : Some b ≡ lookup (is_at (text_cmp k)) es)
       (h : (q : List ℕ) → lookup (is_at (text_cmp q)) fs ≡ cond (is_at (text_cmp k) q) (Some w) (lookup (is_at (text_cmp q)) es)) where
-    -- the bucket that was lent is changed
+    -- The bucket that was lent has changed.
     pub written : (f : BucketContent → BucketContent) → w ≡ f b → map.from_entries {R = text_cmp} fs ≡ with_bucket m k f
     written f e = made_insert text_total exact_bytes es fs k w h ∙ (λ i. map.insert (is i) k (e i)) ∙ sym
         (present m k f b (found (Some b) was))
 
-    -- it is as it was
+    -- The bucket that was lent has not changed.
     pub unwritten : w ≡ b → map.from_entries {R = text_cmp} fs ≡ m
     unwritten e = made_insert text_total exact_bytes es fs k w h ∙ (λ i. map.insert (is i) k (e i)) ∙ insert_same text_total exact_bytes m k
         b (found (Some b) was)

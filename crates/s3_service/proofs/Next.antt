@@ -1,4 +1,4 @@
--- The buckets in turn.
+-- The buckets, one after another.
 use Rattle.basics.proofs.Rest.{after_first, after_found}
 use Rattle.basics.proofs.Tree.{map_sorted}
 use Rattle.basics.specs.Order.{text_cmp, text_total}
@@ -11,7 +11,7 @@ use Rattle.std.specs.Map.{keys_of}
 use Rattle.std.specs.Ordering.{is_lt}
 use Rattle.std.specs.FinMap as fin
 
--- what comes next is followed by the rest after it
+-- `next_of` is the next bucket, and the others follow it.
 pub is_next : (after : Option (List ℕ)) (m : Buckets) → IsNext after m (next_of after m)
 is_next after m = by after (rest_of after m) refl
   where

@@ -9,7 +9,7 @@ use Rattle.std.proofs.Common.{List, Some, ap, refl, sym, ℕ, ◌∙◌, ◌≡�
 use Rattle.std.proofs.lemmas.Option.{same_Some}
 use Rattle.std.specs.FinMap.{get}
 
--- what the store answers and leaves, where a request names a bucket
+-- The request names the bucket n, so the answer and the new store are those of that bucket.
 pub record GoesTo (c : Content) (r : Request) (n : List ℕ) : Type 0 where
   pub bucket : bucket_of r ≡ n
   pub answers : answer_store c r ≡ answer_at (get c.buckets n) c.next c.minimum r

@@ -1,19 +1,19 @@
--- The ids of uploads are below the next one.
+-- The ids of uploads are below the next id.
 use Rattle.s3_types.specs.Store.{BucketContent, Buckets, Uploads}
 use Rattle.s3_types.specs.declared.limits.TheConstants.{MOST_MINIMUM}
 use Rattle.std.specs.Prelude.{List, None, Some, ℕ, ◌≡◌, ◌≤◌}
 use Rattle.std.specs.FinMap as fin
 
--- no upload has an id from n on
+-- No upload has id n or a greater one.
 abbrev pub IsFresh : Uploads → ℕ → Type 0
 IsFresh m n = (i : ℕ) → n ≤ i → fin.get m i ≡ None
 
--- no bucket has an upload with an id from n on
+-- No bucket has an upload with id n or a greater one.
 abbrev pub AreBelow : Buckets → ℕ → Type 0
 AreBelow m n = (k : List ℕ) (b : BucketContent) → fin.get m k ≡ Some b → IsFresh b.uploads n
 
--- What every store keeps: no bucket has an upload with an id from the next one on, and a part that is not the last has at least so many
--- bytes, from 1 to the most that a store may ask for.
+-- What every store keeps: the ids of all uploads are below the next id, and the least part size is from 1 to the greatest that a store may
+-- ask for.
 pub record IsStore (m : Buckets) (next minimum : ℕ) : Type 0 where
   pub below : AreBelow m next
   pub some : 1 ≤ minimum

@@ -5,7 +5,7 @@ use Rattle.s3_types.specs.declared.request.Request.TheVariants.{DeleteObjects, G
 use Rattle.s3_types.specs.declared.request.Request.TheVariants.{PutObject, UploadPart}
 use Rattle.std.specs.Prelude.{List, None, Option, Some, ℕ}
 
--- the bucket that a request names, if it names one
+-- The bucket that a request names. CreateBucket and requests to the cluster give None.
 abbrev pub named : Request → Option (List ℕ)
 named (PutObject n k bytes header) = Some n
 named (GetObject n k) = Some n

@@ -12,7 +12,7 @@ use s3_types::{Bytes, Key, LengthHeader, PartList, Refusal, Reply, Request};
 use std::alloc::{AllocError, Global};
 use std::marker::Model;
 
-/// What a bucket holds: its objects and its live uploads.
+/// The content of a bucket: its objects and its live uploads.
 #[derive(Drop)]
 pub struct BucketStore {
     objects: Objects,
@@ -59,21 +59,21 @@ impl BucketStore {
         BucketStore { objects, uploads }
     }
 
-    /// The bucket's objects.
+    /// Returns the bucket's objects.
     pub fn objects(&self) -> &Objects
         ensures { result.now ≡ self.now.objects }
     {
         &self.objects
     }
 
-    /// The bucket's live uploads.
+    /// Returns the bucket's live uploads.
     pub fn uploads(&self) -> &Uploads
         ensures { result.now ≡ self.now.uploads }
     {
         &self.uploads
     }
 
-    /// Puts an object, of which nothing is told. After want of memory all is as before.
+    /// Puts an object, and makes no answer. If memory runs out, everything is as before.
     pub fn put(
         &mut self,
         key: &Key,
@@ -114,8 +114,8 @@ impl BucketStore {
         Ok(Reply::Completed(tag))
     }
 
-    /// Does a request to this bucket, where `next` is the next upload's id and `minimum` the least size
-    /// of a part that is not the last. After want of memory all is as before.
+    /// Does a request to this bucket. `next` is the id that the next upload gets, and `minimum`
+    /// the least size of a part other than the last. If memory runs out, everything is as before.
     pub fn apply(&mut self, request: &Request, next: u64, minimum: u64) -> Result<Reply, AllocError>
         requires { IsFresh self.old.uploads next }
         ensures reply { IfOk result (λ r. r ≡ answer_in self.old next minimum request.now) }

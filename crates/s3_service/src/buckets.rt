@@ -41,7 +41,7 @@ impl Clone for Buckets {
 }
 
 impl Buckets {
-    /// A store of no bucket.
+    /// No buckets.
     pub fn new(alloc: Global) -> Buckets
         ensures { result ≡ map.empty }
     {
@@ -50,14 +50,14 @@ impl Buckets {
         }
     }
 
-    /// The bucket of this name, if it is there.
+    /// Returns the bucket with this name, if it exists.
     pub fn get(&self, name: &Bucket) -> Option<&BucketStore>
         ensures { option_copied result ≡ map.get self.now name.now }
     {
         self.held.get(name)
     }
 
-    /// How many buckets there are.
+    /// Returns the number of buckets.
     pub fn count(&self) -> u64
         ensures { result ≡ map.len self.now }
     {
@@ -73,7 +73,7 @@ impl Buckets {
         Ok(())
     }
 
-    /// Does a request to a bucket, if it is there.
+    /// Does a request to a bucket, if the bucket exists.
     pub fn apply(
         &mut self,
         name: &Bucket,
@@ -96,7 +96,7 @@ impl Buckets {
         }
     }
 
-    /// Puts an object into a bucket, if it is there.
+    /// Puts an object into a bucket, if the bucket exists.
     pub fn put(
         &mut self,
         name: &Bucket,

@@ -19,7 +19,7 @@ use std::collections::btree_map::Iter;
 use std::marker::Model;
 use std::ops::Bound;
 
-/// A bucket as it is lent: its name, its objects and its live uploads.
+/// A borrowed bucket: its name, its objects and its live uploads.
 #[derive(Drop)]
 pub struct BucketView<'a> {
     pub name: &'a Bucket,
@@ -27,7 +27,8 @@ pub struct BucketView<'a> {
     pub uploads: &'a Uploads,
 }
 
-/// Buckets in the order of their names. Clauses see it as the list of those that are still to come.
+/// Buckets in the order of their names. Contracts see it as the list of those that are still to
+/// come.
 #[derive(Drop)]
 pub struct BucketEntries<'a> {
     rest: Iter<'a, Bucket, BucketStore>,
@@ -73,7 +74,7 @@ impl Buckets {
         }
     }
 
-    /// The first bucket from a bound on.
+    /// Returns the first bucket from a bound on.
     fn first_from(&self, start: Bound<&Bucket>) -> Option<BucketView<'_>>
         ensures { option_map {U = List ℕ × BucketContent} (λ b. (
           b.name.now,
@@ -96,15 +97,15 @@ impl Buckets {
 }
 
 impl Service {
-    /// All buckets in the order of their names.
+    /// Returns all buckets in the order of their names.
     pub fn iter(&self) -> BucketEntries<'_>
         ensures { result ≡ fin.entries self.now.buckets }
     {
         self.buckets.iter()
     }
 
-    /// The bucket with the least name that is greater than `after`, or with the least of all where that
-    /// is None, in O(log n) for n buckets.
+    /// Returns the bucket with the least name that is greater than `after`, or the first bucket if
+    /// `after` is None, in O(log n) for n buckets.
     pub fn next_bucket(&self, after: Option<&Bucket>) -> Option<BucketView<'_>>
         ensures next { option_map {U = List ℕ × BucketContent} (λ b. (
           b.name.now,

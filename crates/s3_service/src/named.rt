@@ -4,7 +4,7 @@ ghost use Rattle.s3_service.specs.Named.{named};
 
 use s3_types::{Bucket, Request};
 
-/// The bucket that a request names, if it names one.
+/// Returns the bucket that a request names, and None for CreateBucket and requests to the cluster.
 pub fn bucket_named(request: &Request) -> Option<&Bucket>
     ensures { option_map (λ b. b.now) result ≡ named request.now }
 {
@@ -26,7 +26,7 @@ pub fn bucket_named(request: &Request) -> Option<&Bucket>
     }
 }
 
-/// Whether a request draws an upload's id.
+/// Whether a request takes an upload's id.
 pub fn draws(request: &Request) -> bool
     ensures { result ≡ draws request.now }
 {

@@ -9,7 +9,7 @@ use object_store::{CopyFault, Objects};
 use s3_types::{Bytes, Key, KeyList, LengthHeader, PageLimit, Refusal, Reply, Text, part_tag};
 use std::alloc::AllocError;
 
-/// Stores an object. After want of memory the objects are as before.
+/// Stores an object. If memory runs out, the objects are as before.
 pub fn store(
     objects: &mut Objects,
     key: &Key,
@@ -27,7 +27,8 @@ pub fn store(
     objects.put(key, bytes, header)
 }
 
-/// PutObject: stores the object, and answers the tag of its bytes. After want of memory the objects are as before.
+/// PutObject: stores the object, and answers the tag of its bytes. If memory runs out, the objects
+/// are as before.
 pub fn put(
     objects: &mut Objects,
     key: &Key,
@@ -45,7 +46,7 @@ pub fn put(
     Ok(Reply::Stored(part_tag(bytes.as_slice())))
 }
 
-/// GetObject: the object's bytes and length header, or NoSuchKey.
+/// GetObject: answers the object's bytes and length header, or NoSuchKey.
 pub fn get(objects: &Objects, key: &Key) -> Result<Reply, AllocError>
     ensures { IfOk result (λ r. r ≡ found (map.get objects.now key.now)) }
 {
@@ -59,7 +60,7 @@ pub fn get(objects: &Objects, key: &Key) -> Result<Reply, AllocError>
     })
 }
 
-/// HeadObject: the object's length in bytes and its header, or NoSuchKey.
+/// HeadObject: answers the object's length in bytes and its header, or NoSuchKey.
 pub fn head(objects: &Objects, key: &Key) -> Reply
     ensures { result ≡ head (map.get objects.now key.now) }
 {
@@ -72,7 +73,8 @@ pub fn head(objects: &Objects, key: &Key) -> Reply
     }
 }
 
-/// DeleteObjects: the keys stand no more; those that did not stand are passed over.
+/// DeleteObjects: removes the keys, and ignores those that do not exist. More than 1,000 keys are
+/// refused.
 pub fn delete_many(objects: &mut Objects, keys: &KeyList) -> Reply
     ensures reply { result ≡ cond (nat_lt MOST_ENTRIES (length keys.now)) (Reply.Refused Refusal.TooManyKeys)
         Reply.Deleted }
@@ -85,7 +87,8 @@ pub fn delete_many(objects: &mut Objects, keys: &KeyList) -> Reply
     }
 }
 
-/// CopyObject: the target has the source's object, or NoSuchKey. After want of memory the objects are as before.
+/// CopyObject: gives the target the source's object, or answers NoSuchKey. If memory runs out, the
+/// objects are as before.
 pub fn copy(objects: &mut Objects, source: &Key, target: &Key) -> Result<Reply, AllocError>
     ensures reply { IfOk result (λ r. r ≡ copy_answer (map.get objects.old source.now)) }
     ensures ok { OnOk result (objects.new ≡ copied objects.old target.now (map.get objects.old source.now)) }
@@ -98,7 +101,7 @@ pub fn copy(objects: &mut Objects, source: &Key, target: &Key) -> Result<Reply, 
     }
 }
 
-/// ListObjectsV2: the first `limit` entries behind `after`, and whether more remain.
+/// ListObjectsV2: answers the first `limit` entries after `after`, and whether more remain.
 pub fn list_page(
     objects: &Objects,
     prefix: &Text,

@@ -15,8 +15,8 @@ use s3_types::{Bucket, NameFault, Refusal, Reply, Request, Text, let_go};
 use std::alloc::{AllocError, Global};
 use std::marker::Model;
 
-/// The store: its buckets, the id of the next upload, and the least size in bytes of a part that is not
-/// the last.
+/// The store: its buckets, the id that the next upload gets, and the least size in bytes of a part
+/// other than the last.
 #[derive(Drop)]
 pub struct Service {
     pub(crate) buckets: Buckets,
@@ -39,7 +39,7 @@ impl Model for Service {
     ghost invariant = { λ s. IsStore s.buckets s.next s.minimum };
 }
 
-/// The next upload's id after a request that was done.
+/// Returns the next upload's id after a request that was done.
 fn next_after(request: &Request, next: u64) -> u64
     requires { next < 2 ^ 63 }
     ensures { result ≡ cond (draws request.now) (next + 1) next }
@@ -48,8 +48,8 @@ fn next_after(request: &Request, next: u64) -> u64
 }
 
 impl Service {
-    /// A store with no bucket, whose first upload's id is 1. The minimum is 1 to 5,242,880 bytes. Takes
-    /// no memory.
+    /// A store with no bucket. Its first upload gets the id 1. The minimum is 1 to 5,242,880
+    /// bytes. Takes no memory.
     pub fn new(alloc: Global, minimum: u64) -> Service
         requires some { 1 ≤ minimum }
         requires most { minimum ≤ MOST_MINIMUM }
@@ -63,7 +63,7 @@ impl Service {
         }
     }
 
-    /// A store with no bucket, whose next upload's id is the counter. Takes no memory.
+    /// A store with no bucket. Its next upload gets the id `counter`. Takes no memory.
     pub fn restore(alloc: Global, minimum: u64, counter: u64) -> Service
         requires some { 1 ≤ minimum }
         requires most { minimum ≤ MOST_MINIMUM }
@@ -79,7 +79,7 @@ impl Service {
         }
     }
 
-    /// The least size in bytes of a part that is not the last: 1 to 5,242,880.
+    /// Returns the least size in bytes of a part other than the last: 1 to 5,242,880.
     pub fn minimum(&self) -> u64
         ensures minimum { result ≡ self.now.minimum }
         ensures some { 1 ≤ self.now.minimum }
@@ -88,7 +88,7 @@ impl Service {
         self.minimum
     }
 
-    /// The id of the next upload. All ids are below it.
+    /// Returns the id that the next upload gets. All ids are below it.
     pub fn next_upload(&self) -> u64
         ensures next { result ≡ self.now.next }
         ensures below { AreBelow self.now.buckets self.now.next }
@@ -96,14 +96,14 @@ impl Service {
         self.next
     }
 
-    /// How many buckets there are.
+    /// Returns the number of buckets.
     pub fn buckets(&self) -> u64
         ensures { result ≡ map.len self.now.buckets }
     {
         self.buckets.count()
     }
 
-    /// Adds a bucket with these objects and uploads. After want of memory the store is as before.
+    /// Adds a bucket with these objects and uploads. If memory runs out, the store is as before.
     pub fn add_bucket(
         &mut self,
         name: Bucket,
@@ -125,8 +125,8 @@ impl Service {
         Ok(())
     }
 
-    /// A store with the same content, in O(n) for n keys, uploads and parts. The two share all bytes and
-    /// the keys' texts, and no request to the one is seen in the other.
+    /// Returns a store with the same content, in O(n) for n keys, uploads and parts. The two share
+    /// all bytes and the texts of the keys. A request to one does not change the other.
     pub fn copy(&self) -> Result<Service, AllocError>
         ensures { IfOk result (λ copy. copy ≡ self.now) }
     {
@@ -155,7 +155,8 @@ impl Service {
         Ok(Reply::Made)
     }
 
-    /// Does a request to the store. After want of memory all is as before.
+    /// Does a request to the store and returns the answer. If memory runs out, everything is as
+    /// before.
     pub fn apply(&mut self, request: &Request) -> Result<Reply, AllocError>
         requires store { is_cluster request.now ≡ false }
         requires few { self.old.next < 2 ^ 63 }
@@ -179,8 +180,8 @@ impl Service {
         }
     }
 
-    /// Does a request to the store as `apply` does, and makes no answer: the digest of what is put is not computed. After
-    /// want of memory all is as before.
+    /// Does a request to the store as `apply` does, but makes no answer, so the digest of the
+    /// bytes of a put is not computed. If memory runs out, everything is as before.
     pub fn follow(&mut self, request: &Request) -> Result<(), AllocError>
         requires store { is_cluster request.now ≡ false }
         requires few { self.old.next < 2 ^ 63 }

@@ -10,7 +10,8 @@ use multipart::{UploadFault, Uploads};
 use s3_types::{Bytes, Key, PageLimit, PartList, Refusal, Reply, Text, UploadRef};
 use std::alloc::AllocError;
 
-/// CreateMultipartUpload: begins an upload with the id `next`. After want of memory the uploads are as before.
+/// CreateMultipartUpload: starts an upload with the id `next`. If memory runs out, the uploads are
+/// as before.
 pub fn create(uploads: &mut Uploads, key: &Key, next: u64) -> Result<Reply, AllocError>
     requires { (i : ℕ) → next ≤ i → fin.get uploads.old i ≡ None }
     ensures reply { IfOk result (λ r. r ≡ Reply.Upload next) }
@@ -22,7 +23,8 @@ pub fn create(uploads: &mut Uploads, key: &Key, next: u64) -> Result<Reply, Allo
     Ok(Reply::Upload(next))
 }
 
-/// UploadPart: stores the part and answers its tag, or why it is refused. After want of memory all is as before.
+/// UploadPart: stores the part and answers its tag, or why it is refused. If memory runs out,
+/// everything is as before.
 pub fn part(
     uploads: &mut Uploads,
     key: &Key,
@@ -43,7 +45,7 @@ pub fn part(
     }
 }
 
-/// AbortMultipartUpload: the upload is live no more, or NoSuchUpload.
+/// AbortMultipartUpload: ends the live upload, or answers NoSuchUpload.
 pub fn abort(uploads: &mut Uploads, key: &Key, upload: u64) -> Reply
     ensures reply { result ≡ abort_answer (live uploads.old key.now upload) }
     ensures left { uploads.new ≡ aborted uploads.old upload (live uploads.old key.now upload) }
@@ -54,7 +56,8 @@ pub fn abort(uploads: &mut Uploads, key: &Key, upload: u64) -> Reply
     }
 }
 
-/// ListParts: the parts by number, each with its length in bytes and its tag, or NoSuchUpload.
+/// ListParts: answers the parts by number, each with its length in bytes and its tag, or
+/// NoSuchUpload.
 pub fn list_parts(uploads: &Uploads, key: &Key, upload: u64) -> Result<Reply, AllocError>
     ensures { IfOk result (λ r. r ≡ parts_answer (live uploads.now key.now upload)) }
 {
@@ -65,7 +68,8 @@ pub fn list_parts(uploads: &Uploads, key: &Key, upload: u64) -> Result<Reply, Al
     }
 }
 
-/// ListMultipartUploads: the first `limit` live uploads behind the last that was given, and whether more remain.
+/// ListMultipartUploads: answers the first `limit` live uploads after the given one, and whether
+/// more remain.
 pub fn list(
     uploads: &Uploads,
     prefix: &Text,

@@ -1,4 +1,4 @@
--- Texts in order, and what begins with what.
+-- The order of texts, and which texts begin with which.
 use Rattle.basics.proofs.Less.{lt}
 use Rattle.basics.specs.Order.{text_cmp}
 use Rattle.s3_types.specs.Pages.{begins}
@@ -19,7 +19,7 @@ step_between : (y z w : ℕ) (r s : Ordering) (b c : Bool) → (is_lt r ≡ fals
     → (nat_eq y z && c) ≡ true
 step_between y z w r s b c ih h g k = grind (arith, nat_tests)
 
--- what lies between a text and a key that begins with it begins with it too
+-- A text between t and a key that begins with t begins with t too.
 pub between : (t x q : List ℕ) → lt text_cmp x t ≡ false → lt text_cmp q x ≡ false → begins t q ≡ true → begins t x ≡ true
 between [] x q h g k = refl
 between (y ∷ t) [] q h g k = absurd (true≢false h)
@@ -30,7 +30,7 @@ step_from : (y w : ℕ) (r : Ordering) (b : Bool) → (b ≡ true → is_lt r �
     → is_lt (ordering_then (nat_cmp w y) r) ≡ false
 step_from y w r b ih k = grind (arith, nat_tests)
 
--- a key is not less than what it begins with
+-- A key is not less than a text with which it begins.
 pub from_prefix : (t q : List ℕ) → begins t q ≡ true → lt text_cmp q t ≡ false
 from_prefix [] [] k = refl
 from_prefix [] (w ∷ q) k = refl

@@ -1,4 +1,4 @@
--- The laws of a file's parts: how many there are, how long each is, and that they are the file again.
+-- The laws of a file's parts: how many there are, how long each is, and that together they are the file.
 use Rattle.basics.proofs.Lists.{sum_first}
 use Rattle.basics.proofs.Options.{none_some}
 use Rattle.s3_types.specs.Blocks.{block_of, blocks, greater, parts_of, quotient_up}
@@ -11,7 +11,7 @@ use Rattle.std.proofs.lemmas.List.{drop-drop, nil_from_length, take-append-drop,
 use Rattle.std.proofs.lemmas.Option.{same_Some}
 use Rattle.std.specs.List.{flat_map, sum}
 
--- ---- as they are defined
+-- ---- the definitions, unfolded
 
 pub block_is : (len block minimum : ℕ) → block_of len block minimum ≡ greater (greater block minimum) (greater 1 (quotient_up len 10000))
 unfolding block_of
@@ -41,17 +41,17 @@ greater_most a b m h g = elim (greater_is a b) [ inl e ↦ subst (λ n. n ≤ m)
 
 -- ---- quotients rounded up
 
--- so many blocks hold all
+-- This many blocks hold n bytes.
 quotient_enough : (n size : ℕ) → 1 ≤ size → n ≤ quotient_up n size * size
 quotient_enough n size some = omega arith
 
--- all but one do not
+-- One block less does not hold n bytes.
 quotient_least : (n size q : ℕ) → 1 ≤ size → quotient_up n size ≡ suc q → size * q < n
 quotient_least n size q some e =
     let whole : size * ((n + (size - 1)) / size) ≡ size * q + size = ap (λ x. size * x) e ∙ mul-suc size q in
     omega arith
 
--- a larger block makes fewer
+-- With a size at which 10,000 blocks suffice, there are at most 10,000.
 quotient_few : (n size : ℕ) → 1 ≤ size → quotient_up n 10000 ≤ size → quotient_up n size ≤ 10000
 quotient_few n size some h =
     let few : n ≤ 10000 * size = omega arith in
@@ -85,7 +85,7 @@ module _ (len block minimum : ℕ) where
       let b = greater_right (greater block minimum) (greater 1 (quotient_up len 10000)) in
       omega (arith, a, b))
 
-  -- it is no larger than the largest of the numbers that it is made of
+  -- A part is no larger than the largest of the numbers from which its size comes.
   pub most_size : (m : ℕ) → 1 ≤ m → len ≤ m → block ≤ m → minimum ≤ m → block_of len block minimum ≤ m
   most_size m one l b h = by_size (λ n. n ≤ m) (greater_most _ _ m (greater_most block minimum m b h)
       (greater_most 1 (quotient_up len 10000) m one (few_quotient len m l)))
@@ -109,7 +109,7 @@ few_parts block minimum bytes =
     (few_size (length bytes) block minimum) in
     subst (λ n. n ≤ 10000) (sym (length-parts size bytes)) (greater_most 1 (quotient_up (length bytes) size) 10000 (omega arith) few)
 
--- ---- what stands behind so many of them
+-- ---- the bytes after the first i blocks
 
 drop_more : (i size : ℕ) (bytes : List ℕ) → drop (i * size) (drop size bytes) ≡ drop (suc i * size) bytes
 drop_more i size bytes = drop-drop (i * size) size bytes ∙ ap (λ n. drop n bytes)
@@ -136,9 +136,9 @@ drop-parts size bytes i h =
     ap (drop i) e ∙ (drop-blocks (greater 1 (quotient_up (length bytes) size)) size bytes i (subst (λ n. i < n) (length-parts size bytes) h)
     ∙ ap (λ (l : List (List ℕ)). take size (drop (i * size) bytes) ∷ drop (i + 1) l) (sym e))
 
--- ---- they are the file
+-- ---- together they are the file
 
--- so many blocks hold the file
+-- The parts hold the whole file.
 parts_enough : (size : ℕ) (bytes : List ℕ) → 1 ≤ size → length bytes ≤ greater 1 (quotient_up (length bytes) size) * size
 parts_enough size bytes some = le_trans (quotient_enough (length bytes) size some)
     (mul-le-mul_right size (greater_right 1 (quotient_up (length bytes) size)))
@@ -154,9 +154,9 @@ pub parts_joined : (size : ℕ) (bytes : List ℕ) → 1 ≤ size → flat_map (
 parts_joined size bytes some = ap (λ (l : List (List ℕ)). flat_map (λ b. b) l) (parts_are size bytes) ∙ joined_blocks
     (greater 1 (quotient_up (length bytes) size)) size bytes (parts_enough size bytes some)
 
--- ---- how long they are
+-- ---- how long the parts are
 
--- all but the last are whole
+-- Each block that does not pass the end is whole.
 whole_block : (n size : ℕ) (bytes b : List ℕ) (i : ℕ) → slice_get (blocks n size bytes) i ≡ Some b → suc i * size ≤ length bytes
     → length b ≡ size
 whole_block zero size bytes b i e h = absurd (none_some e)
@@ -184,7 +184,7 @@ whole_part size bytes b i some e h = elim (greater_is 1 (quotient_up (length byt
       (omega arith)
 ]
 
--- ---- their sizes together
+-- ---- the sum of their sizes
 
 sum_blocks : (n size : ℕ) (bytes : List ℕ) → length bytes ≤ n * size → sum (map length (blocks n size bytes)) ≡ length bytes
 sum_blocks zero size bytes h = sym (ap length (nil_from_length bytes (omega arith)))
@@ -199,7 +199,7 @@ pub sum_parts : (size : ℕ) (bytes : List ℕ) → 1 ≤ size → sum (map leng
 sum_parts size bytes some = ap (λ (l : List (List ℕ)). sum (map length l)) (parts_are size bytes) ∙ sum_blocks
     (greater 1 (quotient_up (length bytes) size)) size bytes (parts_enough size bytes some)
 
--- ---- a file that fits into one part is cut into one
+-- ---- a file that fits into one part has one part
 
 pub one_part : (size : ℕ) (bytes : List ℕ) → 1 ≤ size → length bytes ≤ size → parts_of size bytes ≡ bytes ∷ []
 one_part size bytes some h =

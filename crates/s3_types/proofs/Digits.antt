@@ -1,4 +1,4 @@
--- Digests and the hex digits that spell them.
+-- Digests, and the hex digits that spell them.
 use Rattle.hex.proofs.HexLemmas.{decode_of-digits, decode_sized-twice, length-encode_with}
 use Rattle.hex.specs.Hex.{IsBytes, decode_of, decode_sized, encode_lower, encode_with, is_hex_digit, lower_digits}
 use Rattle.md5.proofs.StandardFacts.{length-md5}
@@ -19,7 +19,7 @@ list_all_at p (x ∷ xs) (suc k) h lt = list_all_at p xs k (and_parts (p x) (lis
 both : (a b c : Bool) → a ≡ true → b ≡ true → c ≡ true → (a && (b && c)) ≡ true
 both a b c x y z = grind arith
 
--- bytes in hex are hex digits
+-- Bytes written in hex are hex digits.
 pub encoded_hex : (bs : List ℕ) → IsBytes bs → list_all is_hex (encode_lower bs) ≡ true
 unfolding encode_with
 encoded_hex [] h = refl
@@ -41,7 +41,7 @@ hex_digits (b ∷ s) h =
     let there : list_all is_hex_digit s ≡ true = hex_digits s p.1 in
     cc
 
--- 32 hex digits spell 16 bytes
+-- 32 hex digits spell 16 bytes.
 pub digits_read : (s : List ℕ) → length s ≡ 32 → list_all is_hex s ≡ true → decode_sized s 16 ≡ Ok (result_unwrap_or (decode_of s) [])
 digits_read s n h =
     let even : length s % 2 ≡ 0 = omega arith in
@@ -49,12 +49,12 @@ digits_read s n h =
     let r = decode_of-digits s even (AllPass-from_list_all is_hex_digit s (hex_digits s h)) in
     decode_sized-twice s 16 twice ∙ r.1 ∙ ap (λ d. Ok (result_unwrap_or d [])) (sym r.1)
 
--- a part's tag has 32 digits
+-- The tag of a part has 32 digits.
 pub plain_tag_length : (bytes : List ℕ) → length (plain_tag bytes).digits ≡ 32
 unfolding plain_tag
 plain_tag_length bytes = length-encode_with lower_digits (md5 bytes) ∙ ap (λ n. 2 * n) (length-md5 bytes)
 
--- so has an upload's
+-- The tag of a completed upload has 32 digits.
 pub joined_tag_length : (tags : List Spelled) → length (joined_tag tags).digits ≡ 32
 unfolding joined_tag
 joined_tag_length tags = length-encode_with lower_digits _ ∙ ap (λ n. 2 * n) (length-md5 _)

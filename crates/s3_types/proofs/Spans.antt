@@ -1,4 +1,4 @@
--- Rows of sendings as the map of their fates.
+-- Ranges of sends, seen as the map of their fates.
 use Rattle.basics.proofs.Naturals.{above_so, at_most_is, at_most_not, at_most_so, below_is, below_not, greater_is, less_is}
 use Rattle.s3_types.specs.Fates.{FateMap, IsFirstFrom, IsFirstNamed, is_answer, with_fates}
 use Rattle.s3_types.specs.Spans.{AreApart, first_in, from_on, named}
@@ -39,11 +39,11 @@ get_with_fates m first f (suc c) n =
     ∙ ap (cond (eq_by_cmp nat_cmp n (first + c)) (Some f)) (get_with_fates m first f c n)
     ∙ wider first c n (Some f) (get m n)
 
--- whether a sending is in a row
+-- True if the send n is in the range.
 abbrev pub covers : ℕ → ℕ × Span → Bool
 covers n e = nat_le e.1.first n && nat_le n e.0
 
--- what the rows give a sending
+-- The fate that the ranges give the send n.
 abbrev pub span_at : List (ℕ × Span) → ℕ → Option Fate
 span_at [] n = None
 span_at (e ∷ es) n = cond (covers n e) (Some e.1.fate) (span_at es n)
@@ -58,7 +58,7 @@ get_named low (e ∷ es) h n =
     ∙ ap (λ b. cond b (Some e.1.fate) (get (named es) n)) (up_to e.1.first e.0 n h.1)
     ∙ ap (cond (covers n e) (Some e.1.fate)) (get_named (e.0 + 1) es h.3 n)
 
--- ---- the first row from a sending on
+-- ---- the first range from a send on
 
 is_from : (n k : ℕ) → (is_le (nat_cmp n k) && true) ≡ cond (nat_lt k n) false true
 is_from n k = grind (arith, nat_tests)
@@ -85,7 +85,7 @@ begun_later a l k h = grind (arith, nat_tests)
 within : (a l k : ℕ) → k ≤ l → (nat_le a k && nat_le k l) ≡ nat_le a k
 within a l k h = grind (arith, nat_tests)
 
--- no row from f on
+-- If there is no range from f on, no send from f on has a fate.
 pub none_on : (f : ℕ) (es : List (ℕ × Span)) → from_on f es ≡ None → (k : ℕ) → f ≤ k → span_at es k ≡ None
 none_on f [] h k l = refl
 none_on f (e ∷ es) h k l = by (nat_lt e.0 f) refl (none_on f es)
@@ -95,7 +95,7 @@ none_on f (e ∷ es) h k l = by (nat_lt e.0 f) refl (none_on f es)
         (ap (λ b. cond b (from_on f es) (Some e)) (sym t) ∙ h) k l
     by false t ih = let n : Some e ≡ None = ap (λ b. cond b (from_on f es) (Some e)) (sym t) ∙ h in absurd (cc)
 
--- before the rows
+-- No send before the ranges has a fate.
 pub none_before : (low : ℕ) (es : List (ℕ × Span)) → AreApart low es → (k : ℕ) → k < low → span_at es k ≡ None
 none_before low [] h k l = refl
 none_before low (e ∷ es) h k l =
@@ -103,7 +103,7 @@ none_before low (e ∷ es) h k l =
     let b : k < e.0 + 1 = omega (arith, h.0, h.1) in
     ap (λ b. cond b (Some e.1.fate) (span_at es k)) (begun_later e.1.first e.0 k a) ∙ none_before (e.0 + 1) es h.3 k b
 
--- up to the end of the first row from f on
+-- From f up to the end of the first range from f on, only the sends in that range have a fate.
 pub at_on : (low f : ℕ) (es : List (ℕ × Span)) (e : ℕ × Span) → AreApart low es → from_on f es ≡ Some e → (k : ℕ) → f ≤ k → k ≤ e.0
     → span_at es k ≡ cond (nat_le e.1.first k) (Some e.1.fate) None
 at_on low f [] e a h k l g = absurd (cc)
@@ -122,7 +122,7 @@ at_on low f (x ∷ es) e a h k l g = by (nat_lt x.0 f) refl (at_on (x.0 + 1) f e
         ∙ ap (cond (nat_le x.1.first k) (Some x.1.fate)) (none_before (x.0 + 1) es a.3 k b)
         ∙ ap (λ (y : ℕ × Span). cond (nat_le y.1.first k) (Some y.1.fate) None) i
 
--- the row is not empty, begins not before `low`, and ends not before f
+-- The range is not empty, begins at `low` or later, and ends at f or later.
 pub record IsRow (low f : ℕ) (e : ℕ × Span) : Type 0 where
   pub begins : low ≤ e.1.first
   pub some : e.1.first ≤ e.0
@@ -141,16 +141,16 @@ is_row low f (x ∷ es) e a h = by (nat_lt x.0 f) refl (is_row (x.0 + 1) f es e 
         subst (IsRow low f) (same_Some x e (ap (λ b. cond b (from_on f es) (Some x)) (sym t) ∙ h))
         (record { begins = a.0; some = a.1; lost = a.2; ends = below_not x.0 f t })
 
--- ---- a new row
+-- ---- a new range
 
 equal_is : (a b : ℕ) → nat_cmp a b ≡ Equal → a ≡ b
 equal_is a b h = exact_unsigned a b h
 
--- nothing is named between f and l
+-- No send from f to l has a fate.
 abbrev pub IsFree : ℕ → ℕ → List (ℕ × Span) → Type 0
 IsFree f l es = first_in f l (from_on f es) ≡ None
 
--- the first row is before f, or behind l
+-- The first range ends before f, or begins after l.
 free_head : (low f l : ℕ) (e : ℕ × Span) (es : List (ℕ × Span)) → AreApart low (e ∷ es) → IsFree f l (e ∷ es) → (b : Bool)
     → nat_lt e.0 f ≡ b → cond b (IsFree f l es) (l < e.1.first)
 free_head low f l e es a h true t = ap (λ b. first_in f l (cond b (from_on f es) (Some e))) (sym t) ∙ h
@@ -161,11 +161,11 @@ free_head low f l e es a h false t = by (nat_le e.1.first l) refl (ap (λ b. fir
     by false u g = at_most_not e.1.first l u
 
 module _ (f l : ℕ) (fate : Fate) (le : f ≤ l) where
-  -- the new row
+  -- The new range.
   abbrev pub row : ℕ × Span
   row = (l, record { first = f; fate = fate })
 
-  -- a row that ends before f does not cover what the new one does
+  -- A range that ends before f and the new range have no send in common, so either may be looked at first.
   swapped : (e : ℕ × Span) (k : ℕ) (x y z : Option Fate) → e.0 < f
       → cond (covers k e) x (cond (covers k row) y z) ≡ cond (covers k row) y (cond (covers k e) x z)
   swapped e k x y z h = grind (arith, nat_tests)
@@ -209,7 +209,7 @@ module _ (f l : ℕ) (fate : Fate) (le : f ≤ l) where
 up_to_count : (f count l k : ℕ) → l + 1 ≡ f + count → (nat_le f k && nat_le k l) ≡ (nat_le f k && nat_lt k (f + count))
 up_to_count f count l k e = grind (arith, nat_tests, e)
 
--- the map with a new row
+-- With the new range, the map is the old one with these fates put in.
 pub named_insert : (low f l count : ℕ) (fate : Fate) (es : List (ℕ × Span)) → f ≤ l → low ≤ f → l + 1 ≡ f + count → is_answer fate ≡ false
     → AreApart low es → IsFree f l es
     → named (insert_entry nat_cmp es l (record { first = f; fate = fate })) ≡ with_fates (named es) f fate count
@@ -219,7 +219,7 @@ named_insert low f l count fate es le g e n a h = same_map nat_cmp_total exact_u
     ∙ ap (λ b. cond b (Some fate) (span_at es k)) (up_to_count f count l k e)
     ∙ sym (get_with_fates (named es) f fate count k ∙ ap (cond (nat_le f k && nat_lt k (f + count)) (Some fate)) (get_named low es a k)))
 
--- ---- what is named between two sendings
+-- ---- the named sends between two sends
 
 none_said : (f l : ℕ) (o : Option (ℕ × Span)) (e : ℕ × Span) → o ≡ Some e → first_in f l o ≡ None → l < e.1.first
 none_said f l o e is h = by (nat_le e.1.first l) refl (ap (first_in f l) (sym is) ∙ h)
@@ -228,7 +228,7 @@ none_said f l o e is h = by (nat_le e.1.first l) refl (ap (first_in f l) (sym is
     by true u g = let n : Some (max e.1.first f) ≡ None = ap (λ b. cond b (Some (max e.1.first f)) None) (sym u) ∙ g in absurd (cc)
     by false u g = at_most_not e.1.first l u
 
--- where nothing is found nothing is named
+-- If `first_in` finds nothing, no send from f to l has a fate.
 pub none_named : (low f l : ℕ) (es : List (ℕ × Span)) → AreApart low es → IsFree f l es → (k : ℕ) → f ≤ k → k ≤ l → get (named es) k ≡ None
 none_named low f l es a h k g le = get_named low es a k ∙ by (from_on f es) refl
   where
@@ -264,7 +264,7 @@ said f l n (Some e) h = by (nat_le e.1.first l) refl
 some_named : (o : Option Fate) (f : Fate) → o ≡ Some f → IsSome o
 some_named o f e = subst (λ (o : Option Fate). IsSome o) (sym e) refl
 
--- what is found is the least that is named
+-- If `first_in` finds a send, that is the least with a fate.
 pub first_named : (low f l count n : ℕ) (es : List (ℕ × Span)) → f ≤ l → l + 1 ≡ f + count → AreApart low es
     → first_in f l (from_on f es) ≡ Some n → IsFirstNamed (named es) f count n
 first_named low f l count n es le e a h =
@@ -290,7 +290,7 @@ none_some : (o : Option Fate) → IsSome o → o ≡ None → ⊥
 none_some None h e = absurd (false≢true h)
 none_some (Some f) h e = cc
 
--- there is one least at most
+-- At most one send is the first with a fate.
 pub one_first : (m : FateMap) (f count n k : ℕ) → IsFirstNamed m f count n → IsFirstNamed m f count k → n ≡ k
 one_first m f count n k h g = by (nat_lt n k) refl (nat_lt k n) refl
   where
@@ -305,7 +305,7 @@ no_first low f l count n es e a h g =
     let w : n ≤ l = omega (arith, g.within, e) in
     none_some _ g.named (none_named low f l es a h n g.from w)
 
--- ---- the fate of a sending
+-- ---- the fate of a send
 
 pub fate_on : (low n : ℕ) (es : List (ℕ × Span)) (e : ℕ × Span) → AreApart low es → from_on n es ≡ Some e
     → get (named es) n ≡ cond (nat_le e.1.first n) (Some e.1.fate) None
@@ -317,7 +317,7 @@ fate_on low n es e a h =
 pub no_fate_on : (low n : ℕ) (es : List (ℕ × Span)) → AreApart low es → from_on n es ≡ None → get (named es) n ≡ None
 no_fate_on low n es a h = let k : n ≤ n = omega arith in get_named low es a n ∙ none_on n es h n k
 
--- where the row begins not after it, and where it does
+-- If the first range that ends at n or later contains n, n has its fate.
 pub fate_from : (low n : ℕ) (es : List (ℕ × Span)) (e : ℕ × Span) → AreApart low es → from_on n es ≡ Some e → e.1.first ≤ n
     → get (named es) n ≡ Some e.1.fate
 fate_from low n es e a h l = fate_on low n es e a h ∙ ap (λ b. cond b (Some e.1.fate) None) (at_most_so e.1.first n l)
@@ -326,7 +326,7 @@ pub fate_past : (low n : ℕ) (es : List (ℕ × Span)) (e : ℕ × Span) → Ar
     → get (named es) n ≡ None
 fate_past low n es e a h l = fate_on low n es e a h ∙ ap (λ b. cond b (Some e.1.fate) None) (above_so e.1.first n l)
 
--- what is named is not answered, and what is not named is
+-- A send has a named fate exactly if its fate is not Answer.
 pub lost_named : (low n : ℕ) (es : List (ℕ × Span)) (e : ℕ × Span) → AreApart low es → from_on n es ≡ Some e → {o : Option Fate}
     → o ≡ Some e.1.fate → (is_answer e.1.fate ≡ false) ↔ IsSome o
 lost_named low n es e a h {o} is = (λ _. some_named o e.1.fate is, λ _. (is_row low n es e a h).lost)
@@ -334,7 +334,7 @@ lost_named low n es e a h {o} is = (λ _. some_named o e.1.fate is, λ _. (is_ro
 pub answer_none : (o : Option Fate) → o ≡ None → (true ≡ false) ↔ IsSome o
 answer_none o is = (λ e. absurd (true≢false e), λ s. absurd (none_some o s is))
 
--- ---- the first sending that has a fate
+-- ---- the first send with a named fate
 
 pub first_fate : (low n : ℕ) (es : List (ℕ × Span)) (e : ℕ × Span) (m : FateMap) → named es ≡ m → AreApart low es → from_on n es ≡ Some e
     → IsFirstFrom m n (Some (max e.1.first n, e.1.fate))

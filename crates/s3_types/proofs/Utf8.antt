@@ -8,7 +8,7 @@ use Rattle.std.proofs.lemmas.Str.Ascii.{IsAscii-cons, IsAscii-nil}
 use Rattle.std.specs.List.{list_all}
 use Rattle.std.specs.Str.{IsAscii, IsUtf8, is_utf8}
 
--- what is not UTF-8 does not pass the test
+-- Bytes that are not UTF-8 do not pass the test.
 pub not_utf8 : (bs : List ℕ) → ¬ (IsUtf8 bs) → is_utf8 bs ≡ false
 not_utf8 bs n = by (is_utf8 bs) refl
   where
@@ -23,7 +23,7 @@ all_small : (bs : List ℕ) → list_all is_name_byte bs ≡ true → IsAscii bs
 all_small [] h = IsAscii-nil
 all_small (b ∷ bs) h = let p = and_parts (is_name_byte b) _ h in IsAscii-cons b bs (name_byte_small b p.0) (all_small bs p.1)
 
--- a bucket's name has ASCII alone
+-- A bucket's name is ASCII, so it is UTF-8.
 pub bucket_utf8 : (bs : List ℕ) → is_bucket bs ≡ true → is_utf8 bs ≡ true
 bucket_utf8 bs h =
     let most = and_parts _ _ (and_parts _ _ h).0 in
@@ -36,6 +36,6 @@ all_hex_small : (bs : List ℕ) → list_all is_hex bs ≡ true → IsAscii bs
 all_hex_small [] h = IsAscii-nil
 all_hex_small (b ∷ bs) h = let p = and_parts (is_hex b) _ h in IsAscii-cons b bs (hex_small b p.0) (all_hex_small bs p.1)
 
--- hex digits are text
+-- Hex digits are UTF-8.
 pub hex_utf8 : (bs : List ℕ) → list_all is_hex bs ≡ true → IsUtf8 bs
 hex_utf8 bs h = IsUtf8-from_ascii bs (all_hex_small bs h)

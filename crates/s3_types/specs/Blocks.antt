@@ -4,28 +4,29 @@ use Rattle.s3_types.specs.declared.limits.TheConstants.{MOST_PARTS}
 use Rattle.s3_types.specs.Tags.{Spelled}
 use Rattle.s3_types.specs.declared.request.NamedPart.{NamedPart}
 
--- divided and rounded up
+-- The quotient, rounded up.
 abbrev pub quotient_up : ℕ → ℕ → ℕ
 quotient_up n d = (n + (d - 1)) / d
 
--- the greater of two numbers
+-- The greater of two numbers.
 abbrev pub greater : ℕ → ℕ → ℕ
 greater a b = cond (nat_lt a b) b a
 
--- the size in bytes of the parts of a file: the largest of the block, the store's minimum, 1, and what makes 10,000 parts of it
+-- The size of a file's parts in bytes: the largest of the block, the store's minimum, 1, and the size at which the file has at most 10,000
+-- parts.
 unfoldable pub block_of : ℕ → ℕ → ℕ → ℕ
 block_of len block minimum = greater (greater block minimum) (greater 1 (quotient_up len MOST_PARTS))
 
--- n blocks, the last one with what is left
+-- n blocks of this size, the last with the bytes that are left.
 abbrev pub blocks : ℕ → ℕ → List ℕ → List (List ℕ)
 blocks zero size bytes = []
 blocks (suc n) size bytes = take size bytes ∷ blocks n size (drop size bytes)
 
--- the parts of a file's bytes; an empty file has one empty part
+-- The parts into which a file's bytes are cut. An empty file has one empty part.
 unfoldable pub parts_of : ℕ → List ℕ → List (List ℕ)
 parts_of size bytes = blocks (greater 1 (quotient_up (length bytes) size)) size bytes
 
--- the tags as a completion names them, numbered from n on
+-- The parts as CompleteMultipartUpload names them, numbered from n on.
 abbrev pub named_from : ℕ → List Spelled → List NamedPart
 named_from n [] = []
 named_from n (t ∷ ts) = record { number = n; tag = t } ∷ named_from (n + 1) ts

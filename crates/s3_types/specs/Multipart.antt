@@ -19,62 +19,63 @@ use Rattle.std.specs.Prelude.{ℕ, [], ◌&&◌, ◌-◌, ◌∷◌}
 use Rattle.std.specs.declared.cmp.Ordering.{Ordering}
 use Rattle.std.specs.FinMap as fin
 
--- an id counts as live only with its own key
+-- The upload, if it is of this key.
 abbrev pub with_key : List ℕ → Option Upload → Option Upload
 with_key k None = None
 with_key k (Some u) = cond (text_eq u.key k) (Some u) None
 
--- the live upload of a key and an id, or none
+-- The live upload with this key and id, or None.
 abbrev pub live : Uploads → List ℕ → ℕ → Option Upload
 live m k id = with_key k (fin.get m id)
 
--- a part number is 1 to 10,000
+-- True if n is 1 to 10,000.
 abbrev pub is_part_number : ℕ → Bool
 is_part_number n = nat_le 1 n && nat_le n MOST_PARTS
 
--- an upload with a part sent, in place of an earlier one of that number
+-- The upload with this part, which replaces an earlier part of that number.
 abbrev pub with_part : Upload → ℕ → List ℕ → Upload
 with_part u n bytes = record { key = u.key; parts = fin.insert u.parts n bytes }
 
 -- ---- completion
 
--- whether numbers rise
+-- True if the part numbers rise, from above n on.
 abbrev pub rises_from : ℕ → List NamedPart → Bool
 rises_from n [] = true
 rises_from n (x ∷ xs) = nat_lt n x.number && rises_from x.number xs
 
--- the part numbers of a completion rise
+-- True if the part numbers of a completion rise.
 abbrev pub rises : List NamedPart → Bool
 rises [] = true
 rises (x ∷ xs) = rises_from x.number xs
 
--- whether two tags are the same
+-- True if the two tags are equal.
 abbrev pub tag_eq : Spelled → Spelled → Bool
 tag_eq a b = text_eq a.digits b.digits && nat_eq a.parts b.parts
 
--- an upload has this part with this tag
+-- True if there are bytes, and their tag is t.
 abbrev pub has_tag : Spelled → Option (List ℕ) → Bool
 has_tag t None = false
 has_tag t (Some bytes) = tag_eq (plain_tag bytes) t
 
--- a part of this number and tag was uploaded
+-- True if a part with this number and tag was uploaded.
 abbrev pub is_sent : Parts → NamedPart → Bool
 is_sent m n = has_tag n.tag (fin.get m n.number)
 
--- the bytes of a named part
+-- The bytes of a named part.
 abbrev pub bytes_of : Parts → NamedPart → List ℕ
 bytes_of m n = unwrap_or (fin.get m n.number) []
 
--- a named part has at least the store's least size
+-- True if the named part has at least `minimum` bytes.
 abbrev pub is_large : Parts → ℕ → NamedPart → Bool
 is_large m minimum n = nat_le minimum (length (bytes_of m n))
 
--- a completion names no part
+-- True if the completion names no part.
 abbrev pub is_none_named : List NamedPart → Bool
 is_none_named [] = true
 is_none_named (n ∷ ns) = false
 
--- the named parts joined, or the first refusal in the order of the checks
+-- The bytes of the named parts, joined; or the first refusal, in the order in which S3 checks. The last part may be smaller than
+-- `minimum`.
 abbrev pub joined : Option Upload → List NamedPart → ℕ → Result (List ℕ) Refusal
 joined None ns minimum = Err NoSuchUpload
 joined (Some u) ns minimum =
@@ -89,35 +90,35 @@ joined (Some u) ns minimum =
 
 -- ---- listings
 
--- a part as ListParts gives it: its number, length and tag
+-- A part as ListParts gives it: its number, length and tag.
 abbrev pub size_of : ℕ × List ℕ → PartSize
 size_of e = record { number = e.0; length = length e.1; tag = plain_tag e.1 }
 
--- an upload's parts by rising number, each with its length and tag
+-- The parts of an upload by rising number, as ListParts gives them.
 abbrev pub sizes : Parts → List PartSize
 sizes m = map size_of (fin.entries m)
 
--- uploads are listed by key and then by id
+-- Uploads are ordered by key, and then by id.
 abbrev pub ref_cmp : UploadRef → UploadRef → Ordering
 ref_cmp a b = ordering_then (text_cmp a.key b.key) (nat_cmp a.upload b.upload)
 
--- an upload as ListMultipartUploads gives it: its key and id
+-- An upload as ListMultipartUploads gives it: its key and id.
 abbrev pub ref_of : ℕ × Upload → UploadRef × Unit {0}
 ref_of e = (record { key = e.1.key; upload = e.0 }, tt)
 
--- the live uploads in the order of the listing
+-- The live uploads in the order in which they are listed.
 abbrev pub refs : Uploads → fin.FinMap ref_cmp (Unit {0})
 refs m = fin.from_entries (map ref_of (fin.entries m))
 
--- an upload comes behind the last that was given
+-- True if the upload comes after the given one, if one is given.
 abbrev pub is_behind : Option UploadRef → UploadRef → Bool
 is_behind None r = true
 is_behind (Some a) r = is_lt (ref_cmp a r)
 
--- the live uploads behind the last that was given whose keys begin with p
+-- The live uploads after the given one whose keys begin with p.
 abbrev pub listed : List ℕ → Option UploadRef → Uploads → List UploadRef
 listed p after m = filter (λ r. begins p r.key) (filter (is_behind after) (map (λ e. e.0) (fin.entries (refs m))))
 
--- at most so many of them, and whether more remain
+-- A page of at most `limit` of them, and whether more remain.
 abbrev pub page : ℕ → List UploadRef → Reply
 page limit rs = UploadsPage (take limit rs) (nat_lt limit (length rs))

@@ -1,10 +1,10 @@
--- Whose a request is, and whether it may change anything.
+-- Whether a request goes to the store or to the cluster, and whether it may change anything.
 use Rattle.s3_types.specs.declared.request.Request.{Request}
 use Rattle.s3_types.specs.declared.request.Request.TheVariants.{ClusterDelete, ClusterGet, ClusterList, ClusterPut, ClusterRename}
 use Rattle.s3_types.specs.declared.request.Request.TheVariants.{GetObject, HeadObject, ListPage, ListParts, ListUploads}
 use Rattle.std.specs.Prelude.{Bool, false, true}
 
--- a request is the cluster's and not the store's
+-- True if the request goes to the cluster file system and not to the store.
 abbrev pub is_cluster : Request → Bool
 is_cluster (ClusterPut path bytes) = true
 is_cluster (ClusterRename source target) = true
@@ -13,7 +13,7 @@ is_cluster (ClusterDelete path) = true
 is_cluster (ClusterList p) = true
 is_cluster _ = false
 
--- a request reads, and changes nothing
+-- True if the request only reads.
 abbrev pub only_reads : Request → Bool
 only_reads (GetObject n k) = true
 only_reads (HeadObject n k) = true

@@ -26,7 +26,7 @@ impl Bytes {
         Bytes::new(alloc, Vec::new(alloc))
     }
 
-    /// The bytes of a vector, which is kept and not copied.
+    /// The bytes of a vector. Keeps the vector and copies nothing.
     pub fn new(alloc: Global, bytes: Vec<u8>) -> Result<Bytes, AllocError>
         ensures { IfOk result (λ b. b ≡ bytes.items) }
     {
@@ -42,7 +42,7 @@ impl Bytes {
         Bytes::new(alloc, Vec::from_slice(alloc, bytes)?)
     }
 
-    /// The bytes.
+    /// Returns the bytes.
     pub fn as_slice(&self) -> &[u8]
         ensures { result.now ≡ self.now }
     {

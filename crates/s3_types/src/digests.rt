@@ -1,5 +1,5 @@
-//! Tags of parts and of completed uploads, as S3 makes them of MD5 digests. (Amazon S3, common response
-//! headers: ETag; checking object integrity: MD5 digests of multipart uploads.)
+//! The tags of parts and of completed uploads, which S3 makes of MD5 digests. (Amazon S3, common
+//! response headers: ETag; checking object integrity: MD5 digests of multipart uploads.)
 ghost use Rattle.std.specs.Prelude.{◌≡◌, ◌≤◌, [], length, true};
 ghost use Rattle.std.specs.List.{list_all};
 ghost use Rattle.std.specs.Result.{result_unwrap_or};
@@ -11,7 +11,7 @@ ghost use Rattle.s3_types.specs.declared.limits.TheConstants.{MOST_PARTS};
 use crate::tag::Tag;
 use md5::{Digest, Md5};
 
-/// A digest as 32 lower-case hex digits.
+/// Returns the digest as 32 lower-case hex digits.
 fn digits_of(digest: &[u8; 16]) -> [u8; 32]
     ensures digits { result ≡ encode_lower digest.now }
     ensures hex { list_all is_hex result ≡ true }
@@ -23,7 +23,7 @@ fn digits_of(digest: &[u8; 16]) -> [u8; 32]
     }
 }
 
-/// The digest that hex digits spell.
+/// Returns the digest that the hex digits spell.
 fn digest_in(digits: &[u8; 32]) -> [u8; 16]
     requires { list_all is_hex digits.now ≡ true }
     ensures { result ≡ result_unwrap_or (decode_of digits.now) [] }
@@ -42,21 +42,23 @@ fn digest_of(tag: &Tag) -> [u8; 16]
     digest_in(tag.digits())
 }
 
-/// The MD5 digest of the bytes of a put or of a part, of which its tag is made. Takes no memory.
+/// Returns the MD5 digest of the bytes of a put or of a part. Its tag is made of it. Takes no
+/// memory.
 pub fn part_digest(bytes: &[u8]) -> [u8; 16]
     ensures { result ≡ md5 bytes.now }
 {
     Md5::digest(bytes)
 }
 
-/// The tag of a put or of a part whose bytes have this digest. Takes no memory.
+/// Returns the tag of a put or of a part whose bytes have this digest. Takes no memory.
 pub fn tag_of(digest: &[u8; 16]) -> Tag
     ensures { result ≡ record { digits = encode_lower digest.now; parts = 0 } }
 {
     Tag::new(digits_of(digest), 0)
 }
 
-/// The tag of a put or of a part: the MD5 digest of its bytes, with no count of parts. Takes no memory.
+/// Returns the tag of a put or of a part: the MD5 digest of its bytes, with no count of parts.
+/// Takes no memory.
 #[tactic(auto, unfolding(crate::specs::Tags::plain_tag))]
 pub fn part_tag(bytes: &[u8]) -> Tag
     ensures { result ≡ plain_tag bytes.now }
@@ -64,8 +66,8 @@ pub fn part_tag(bytes: &[u8]) -> Tag
     tag_of(&part_digest(bytes))
 }
 
-/// The tag of a completed upload of at most 10,000 parts: the MD5 digest of their tags' digests, one
-/// behind another, with the number of parts. Takes no memory.
+/// Returns the tag of a completed upload of at most 10,000 parts: the MD5 digest of their digests
+/// joined, with the number of parts. Takes no memory.
 #[tactic(auto, unfolding(crate::specs::Tags::joined_tag))]
 pub fn joined_tag(tags: &[Tag]) -> Tag
     requires { length tags.now ≤ MOST_PARTS }

@@ -1,20 +1,20 @@
 ghost use Rattle.std.specs.Prelude.{◌≡◌, ◌⊎◌, Ok, Err, IfOk, IfErr};
 
-/// Drops a value. A function that drops a value of a large type through this call is checked sooner,
-/// since a value's drop is proved variant by variant where its type is written out.
+/// Drops a value. A function that drops a value of a large type through this call is checked
+/// faster, because a drop is proved variant by variant where its type is written out.
 pub fn let_go<T: Drop>(value: T) {
     let _ = value;
 }
 
-/// Writes a value, and drops the one that was there, as `let_go` does.
+/// Writes a value, and drops the old one as `let_go` does.
 pub fn put<T: Drop>(place: &mut T, value: T)
     ensures { place.new ≡ value }
 {
     *place = value;
 }
 
-/// Two values, where both could be made. A function that makes one of several is checked sooner so than with a `?` for each,
-/// since it holds none of them where it may end early.
+/// Returns both values, or the fault of one. A function that makes several values is checked
+/// faster this way than with a `?` for each, because it holds none of them where it may end early.
 pub fn both<A: Drop, B: Drop, E: Drop>(one: Result<A, E>, other: Result<B, E>) -> Result<(A, B), E>
     ensures one { IfOk result (λ pair. one ≡ Ok pair.0) }
     ensures other { IfOk result (λ pair. other ≡ Ok pair.1) }

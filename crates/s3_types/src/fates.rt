@@ -10,23 +10,23 @@ use std::marker::Model;
 use std::ops::Bound;
 use thiserror::Error;
 
-/// What becomes of a sending.
+/// What happens to a send (one try of a request).
 #[derive(Clone, Copy, PartialEq, Eq)]
 pub enum Fate {
     /// It is answered.
     Answer,
-    /// It is answered SlowDown, without effect.
+    /// It is answered SlowDown, and has no effect.
     Slow,
-    /// It is lost before its effect.
+    /// It is lost on the way to the store, and has no effect.
     Before,
-    /// It is lost after its effect.
+    /// It takes effect, but the reply is lost.
     After,
 }
 
-/// Why sendings got no fate.
+/// Why sends could not be given a fate.
 #[derive(Clone, Copy, Debug, PartialEq, Eq, Error)]
 pub enum FateFault {
-    /// This one has a fate already, and none of those before it has.
+    /// The first of the sends that has a fate already.
     #[error("sending {0} has a fate already")]
     Taken(u64),
     #[error("no memory")]
@@ -49,16 +49,16 @@ impl<T: Drop> From<AllocFailed<T>> for FateFault {
     }
 }
 
-/// Sendings in a row that share a fate, from `first` on. The tree has it at the last of them.
+/// Sends in a row with the same fate, from `first` on. The tree keeps it at the last of them.
 #[derive(Clone, Copy)]
 pub(crate) struct Span {
     pub(crate) first: u64,
     pub(crate) fate: Fate,
 }
 
-/// The fates of sendings, which are counted from 1. Clauses see it as a finite map from a sending to
-/// its fate, which is never `Answer`; what is not named is answered. It is kept by rows of sendings, of
-/// which there are f in the costs below.
+/// The fates of sends, which are counted from 1. Contracts see them as a finite map from a send to
+/// its fate, which is never `Answer`. A send that is not named is answered. It is kept as ranges
+/// of sends; f is their number in the costs below.
 #[derive(Drop)]
 pub struct Fates {
     spans: BTreeMap<u64, Span>,
@@ -77,7 +77,7 @@ impl Model for Fates {
     ghost invariant = { λ f. AreApart 1 f.spans.entries };
 }
 
-/// The first row that ends at a sending or after it.
+/// Returns the first range that ends at this send or later.
 fn span_from(spans: &BTreeMap<u64, Span>, n: u64) -> Option<(u64, Span)>
     ensures { result ≡ from_on n spans.now.entries }
 {
@@ -87,7 +87,7 @@ fn span_from(spans: &BTreeMap<u64, Span>, n: u64) -> Option<(u64, Span)>
     }
 }
 
-/// The least sending between two that is in a row.
+/// Returns the least send from `first` to `last` that is in a range.
 fn named_between(spans: &BTreeMap<u64, Span>, first: u64, last: u64) -> Option<u64>
     ensures { result ≡ first_in first last (from_on first spans.now.entries) }
 {
@@ -104,7 +104,7 @@ fn named_between(spans: &BTreeMap<u64, Span>, first: u64, last: u64) -> Option<u
 }
 
 impl Fates {
-    /// No sending is named. Takes no memory.
+    /// No send is named. Takes no memory.
     pub fn new(alloc: Global) -> Fates
         ensures { result ≡ map.empty }
     {
@@ -113,7 +113,7 @@ impl Fates {
         }
     }
 
-    /// The same fates, in O(f). AllocError comes where memory ran out alone.
+    /// Returns a copy, in O(f). Fails with AllocError only if memory runs out.
     pub fn copied(&self) -> Result<Fates, AllocError>
         ensures { IfOk result (λ copy. copy ≡ self.now) }
     {
@@ -121,8 +121,8 @@ impl Fates {
         Ok(Fates { spans })
     }
 
-    /// Gives `count` sendings from `first` on a fate, in O(log f). Taken tells the least of them that has
-    /// a fate already. After a fault all is as before.
+    /// Gives `count` sends from `first` on a fate, in O(log f). Fails with Taken and the least of
+    /// these sends that has a fate already. After a fault everything is as before.
     pub fn add(&mut self, first: u64, fate: Fate, count: u32) -> Result<(), FateFault>
         requires first { 1 ≤ first }
         requires some { 1 ≤ count }
@@ -143,7 +143,7 @@ impl Fates {
         }
     }
 
-    /// The fate of a sending, in O(log f).
+    /// Returns the fate of a send, in O(log f).
     pub fn at(&self, n: u64) -> Fate
         ensures fate { result ≡ fate_at self.now n }
         ensures named { (is_answer result ≡ false) ↔ IsSome (map.get self.now n) }
@@ -160,7 +160,7 @@ impl Fates {
         }
     }
 
-    /// The first sending from `n` on that has a fate, and its fate, in O(log f).
+    /// Returns the first send from `n` on that has a named fate, and that fate, in O(log f).
     pub fn first_from(&self, n: u64) -> Option<(u64, Fate)>
         ensures first { IsFirstFrom self.now n result }
     {

@@ -5,19 +5,20 @@ use crate::request::{Actor, Request};
 use std::alloc::{AllocError, Global};
 use std::marker::Model;
 
-/// What became of a sending. Its actor cannot tell the last two apart.
+/// What happened to a send. Its actor cannot tell the last two apart.
 #[derive(Drop)]
 pub enum Outcome {
     Answered(Reply),
-    /// Answered SlowDown, without effect.
+    /// It was answered SlowDown, and had no effect.
     Slow,
-    /// Lost before its effect.
+    /// It was lost on the way to the store, and had no effect.
     RequestLost,
-    /// Lost after its effect.
+    /// It took effect, but the reply was lost.
     ReplyLost,
 }
 
-/// One sending of one request by one actor, in an event of a run. The shell's entries have event 0.
+/// One send of a request by an actor, in an event of a run. The entries of a shell command have
+/// event 0.
 #[derive(Drop)]
 pub struct Entry {
     pub event: u32,
@@ -29,7 +30,7 @@ pub struct Entry {
 /// More entries than a 64-bit machine can address.
 const TOO_MANY: usize = 1 << 62;
 
-/// The sendings of a run in order, fewer than 2^62.
+/// The sends of a run in order, fewer than 2^62.
 #[derive(Drop)]
 pub struct Journal {
     entries: Vec<Entry>,
@@ -56,7 +57,8 @@ impl Journal {
         }
     }
 
-    /// Makes room for one more entry. The entries stay as they are.
+    /// Makes room for one more entry. The entries stay as they are. Fails if memory runs out, or
+    /// if there would be 2^62 entries.
     pub fn reserve(&mut self) -> Result<(), AllocError>
         ensures entries { self.new.entries ≡ self.old.entries }
         ensures room { OnOk result (0 < self.new.room) }
@@ -68,7 +70,7 @@ impl Journal {
         self.entries.reserve(1)
     }
 
-    /// Adds an entry where there is room for it. Takes no memory.
+    /// Adds an entry, for which there is room. Takes no memory.
     pub fn push(&mut self, entry: Entry)
         requires room { 0 < self.old.room }
         requires few { length self.old.entries + 1 < 2 ^ 62 }
@@ -77,7 +79,7 @@ impl Journal {
         self.entries.push_reserved(entry);
     }
 
-    /// The entries, in the order in which they were sent.
+    /// Returns the entries in the order in which they were sent.
     pub fn as_slice(&self) -> &[Entry]
         ensures entries { result.now ≡ self.now.entries }
         ensures few { length result.now < 2 ^ 62 }
@@ -85,7 +87,7 @@ impl Journal {
         self.entries.as_slice()
     }
 
-    /// How many entries there are.
+    /// Returns the number of entries.
     pub fn len(&self) -> usize
         ensures len { result ≡ length self.now.entries }
         ensures few { result < 2 ^ 62 }

@@ -4,7 +4,7 @@ ghost use Rattle.s3_types.specs.Requests.{is_cluster, only_reads};
 use crate::request::Request;
 
 impl Request {
-    /// Whether it is the cluster's and not the store's. Takes no memory.
+    /// Whether it goes to the cluster and not to the store. Takes no memory.
     pub fn is_cluster(&self) -> bool
         ensures { result ≡ is_cluster self.now }
     {
@@ -18,7 +18,7 @@ impl Request {
         }
     }
 
-    /// Whether it reads and changes nothing, whatever is there. Takes no memory.
+    /// Whether it only reads, whatever the store holds. Takes no memory.
     pub fn only_reads(&self) -> bool
         ensures { result ≡ only_reads self.now }
     {

@@ -1,15 +1,18 @@
-//! The types of the modelled S3 store and of the cluster file system beside it, and what their
-//! requests mean: `answer`, `apply` and the moments of a journal, in `specs/`.
+//! The types of the modelled S3 store and of the cluster file system beside it. Its `specs/` say
+//! what their requests mean:
+//!
+//! - `answer` and `apply`: what each request is answered, and how it changes the store.
+//! - `moment`: the states through which a journal leads, one after each entry.
+//! - `IsHonest`: when the answers in a journal are those that the store gives.
 //!
 //! # What is proved
 //!
-//! `part_tag`, `joined_tag`: The MD5 of the bytes in hex, and that of the joined digests with the
-//! number of parts. Left open: that different parts have different tags.
-//!
-//! `Key::read`, `Bucket::read`, types: BadName exactly where the rule of such names fails. Bytes and
-//! texts are what they were made of, and clones are equal. Its `specs/` define what every request is
-//! answered and leaves (`answer`, `apply`), what a journal leads through (`moment`), and when it is
-//! honest.
+//! - `part_tag`, `joined_tag`: return the MD5 digest of the bytes in hex, and the digest of the
+//!   joined part digests with the number of parts. Left open: that different parts have different
+//!   tags.
+//! - `Key::read`, `Bucket::read`: fail with BadName exactly if the bytes break the rule of such
+//!   names.
+//! - Types: bytes and texts are what they were made of, and clones are equal.
 #![tactic(auto)]
 
 mod bytes;

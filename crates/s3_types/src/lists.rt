@@ -29,7 +29,7 @@ pub type UploadList = Sequence<UploadRef>;
 /// The parts that an upload has.
 pub type PartSizes = Sequence<PartSize>;
 
-/// The same keys, whose texts are shared.
+/// Returns a copy of the keys that shares their texts.
 pub fn copied_keys(alloc: Global, keys: &KeyList) -> Result<KeyList, AllocError>
     ensures { IfOk result (λ copy. copy ≡ keys.now) }
 {
@@ -41,14 +41,14 @@ pub fn copied_keys(alloc: Global, keys: &KeyList) -> Result<KeyList, AllocError>
     Ok(Sequence::from_vec(copy))
 }
 
-/// The same parts.
+/// Returns a copy of the parts.
 pub fn copied_parts(alloc: Global, parts: &PartList) -> Result<PartList, AllocError>
     ensures { IfOk result (λ copy. copy ≡ parts.now) }
 {
     Ok(Sequence::from_vec(Vec::from_slice(alloc, parts.as_slice())?))
 }
 
-/// The parts as a completion names them, numbered from 1 on.
+/// Returns the parts as CompleteMultipartUpload names them, numbered from 1 on.
 pub fn named_parts(alloc: Global, tags: &[Tag]) -> Result<PartList, AllocError>
     requires { length tags.now ≤ MOST_PARTS }
     ensures { IfOk result (λ parts. parts ≡ named_from 1 tags.now) }

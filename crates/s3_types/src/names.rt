@@ -40,14 +40,14 @@ impl<T: Drop> From<AllocFailed<T>> for NameFault {
     }
 }
 
-/// Whether a text may stand between two `/` of a key: it is neither empty nor `.` nor `..`.
+/// Whether a text may be an element of a key: it is neither empty nor `.` nor `..`.
 pub fn is_element(element: &[u8]) -> bool
     ensures { result ≡ is_element element.now }
 {
     !element.is_empty() && element != b".".as_slice() && element != b"..".as_slice()
 }
 
-/// Whether what stands between the `/` of a text are elements.
+/// Whether all parts of a text between its `/` may be elements of a key.
 pub fn are_elements(path: &[u8]) -> bool
     ensures { result ≡ are_elements path.now }
 {
@@ -64,7 +64,7 @@ pub fn are_elements(path: &[u8]) -> bool
     }
 }
 
-/// The text without one `/` at its end.
+/// Returns the text without one `/` at its end.
 pub fn trimmed(path: &[u8]) -> &[u8]
     ensures { result.now ≡ trimmed path.now }
 {
@@ -76,7 +76,7 @@ pub fn trimmed(path: &[u8]) -> &[u8]
     }
 }
 
-/// The bytes as text, where they are UTF-8. Takes no memory.
+/// Returns the bytes as text, or None if they are not UTF-8. Takes no memory.
 pub fn as_utf8(bytes: &[u8]) -> Option<&str>
     ensures same { IfSome result (λ text. text.now ≡ bytes.now) }
     ensures found { is_some result ≡ is_utf8 bytes.now }
@@ -103,9 +103,9 @@ fn key_text(bytes: &[u8]) -> Option<&str>
     if is_key_path(bytes) { Some(text) } else { None }
 }
 
-/// An object's key: 1 to 1,024 bytes of UTF-8, elements joined by `/`, of which none is empty, `.` or
-/// `..`, with at most one `/` behind them. Keys are ordered by their bytes. (Amazon S3, object key
-/// names; the rule on elements is this store's own.)
+/// An object's key: 1 to 1,024 bytes of UTF-8. It is elements joined by `/`, with at most one `/`
+/// at the end; no element is empty, `.` or `..`. Keys are ordered by their bytes. (Amazon S3,
+/// object key names; the rule on elements is this store's own.)
 #[derive(Drop)]
 pub struct Key {
     text: Text,
@@ -123,7 +123,7 @@ impl Model for Key {
 }
 
 impl Key {
-    /// A text that is a key. Takes no memory.
+    /// A key of this text. Takes no memory.
     pub fn new(text: Text) -> Key
         requires { is_key_path text ≡ true }
         ensures { result ≡ text }
@@ -131,7 +131,7 @@ impl Key {
         Key { text }
     }
 
-    /// Reads a key. BadName comes exactly where the bytes are none.
+    /// Reads a key. Fails with BadName exactly if the bytes are not a key.
     pub fn read(alloc: Global, text: &[u8]) -> Result<Key, NameFault>
         ensures read { IfOk result (λ k. k ≡ text.now) }
         ensures bad { IsErrOf result NameFault.BadName ↔ (is_key text.now ≡ false) }
@@ -143,7 +143,7 @@ impl Key {
         Ok(Key { text })
     }
 
-    /// The key as a text.
+    /// Returns the key as a text.
     pub fn as_text(&self) -> &Text
         ensures text { result.now ≡ self.now }
         ensures key { is_key_path self.now ≡ true }
@@ -151,7 +151,7 @@ impl Key {
         &self.text
     }
 
-    /// The bytes of the key.
+    /// Returns the bytes of the key.
     pub fn as_bytes(&self) -> &[u8]
         ensures text { result.now ≡ self.now }
         ensures key { is_key_path self.now ≡ true }
@@ -265,7 +265,7 @@ impl Model for Bucket {
 }
 
 impl Bucket {
-    /// Reads a bucket's name. BadName comes exactly where the bytes are none.
+    /// Reads a bucket's name. Fails with BadName exactly if the bytes are not one.
     pub fn read(alloc: Global, text: &[u8]) -> Result<Bucket, NameFault>
         ensures read { IfOk result (λ b. b ≡ text.now) }
         ensures bad { IsErrOf result NameFault.BadName ↔ (is_bucket text.now ≡ false) }
@@ -277,7 +277,7 @@ impl Bucket {
         Ok(Bucket { text })
     }
 
-    /// The bucket's name as a text.
+    /// Returns the bucket's name as a text.
     pub fn as_text(&self) -> &Text
         ensures text { result.now ≡ self.now }
         ensures bucket { is_bucket self.now ≡ true }
@@ -285,7 +285,7 @@ impl Bucket {
         &self.text
     }
 
-    /// The bytes of the bucket's name.
+    /// Returns the bytes of the bucket's name.
     pub fn as_bytes(&self) -> &[u8]
         ensures text { result.now ≡ self.now }
         ensures bucket { is_bucket self.now ≡ true }

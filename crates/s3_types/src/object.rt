@@ -1,14 +1,14 @@
 use crate::bytes::Bytes;
 use crate::limits::LengthHeader;
 
-/// What stands at a key: its bytes, and the length header that it was put with, if any.
+/// An object: its bytes, and the length header of its put, if it had one.
 #[derive(Drop)]
 pub struct Object {
     pub bytes: Bytes,
     pub header: Option<LengthHeader>,
 }
 
-/// The length in bytes of what stands at a key, and its length header.
+/// The length of an object in bytes, and its length header.
 #[derive(Clone, Copy, PartialEq, Eq)]
 pub struct Head {
     pub length: u64,

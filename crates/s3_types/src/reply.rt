@@ -5,8 +5,8 @@ use crate::names::Key;
 use crate::tag::Tag;
 use crate::text::Text;
 
-/// An entry of a page: a key with the length of its object in bytes, or the prefix that the keys below
-/// it share.
+/// An entry of a page: a key with the length of its object in bytes, or the common prefix of
+/// several keys.
 #[derive(Drop)]
 pub enum PageEntry {
     Object { key: Key, length: u64 },
@@ -38,7 +38,7 @@ pub enum Refusal {
     NoSuchFile = 12,
 }
 
-/// What a request is answered.
+/// The answer to a request.
 #[derive(Drop)]
 pub enum Reply {
     Made,

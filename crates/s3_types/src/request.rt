@@ -16,7 +16,7 @@ use std::fmt;
 pub enum Actor {
     /// The job's driver.
     Driver,
-    /// A task attempt, by the numbers of its task and of itself.
+    /// A task attempt, by the number of its task and its own number.
     Attempt { task: u32, attempt: u32 },
     /// A shell command.
     Shell,
@@ -42,7 +42,8 @@ pub enum Committer {
     Partitioned,
 }
 
-/// What a job's commit does where files are already. (Hadoop, S3A committers: conflict modes.)
+/// What a job's commit does about files that exist already. (Hadoop, S3A committers: conflict
+/// modes.)
 #[derive(Clone, Copy, PartialEq, Eq)]
 pub enum Mode {
     Fail,
@@ -50,7 +51,7 @@ pub enum Mode {
     Replace,
 }
 
-/// A live upload by its key and its id. They are ordered by key and then by id.
+/// A live upload, by its key and its id. They are ordered by key and then by id.
 #[derive(Drop, PartialEq, Eq, PartialOrd, Ord)]
 pub struct UploadRef {
     pub key: Key,
@@ -146,7 +147,7 @@ pub enum Request {
         key: Key,
         upload: u64,
     },
-    /// The live uploads whose keys begin with a prefix, behind `after`.
+    /// The live uploads after `after` whose keys begin with a prefix.
     ListUploads {
         bucket: Bucket,
         prefix: Text,
@@ -182,9 +183,9 @@ fn copied_ref(after: &Option<UploadRef>) -> Result<Option<UploadRef>, AllocError
     }
 }
 
-/// Requests from borrowed parts. Bytes, texts and keys are shared and not copied.
+/// Requests from borrowed parts. They share the bytes, texts and keys, and copy none.
 impl Request {
-    /// A request for a new bucket.
+    /// A CreateBucket.
     pub fn make_bucket(name: &Text) -> Result<Request, AllocError>
         ensures { IfOk result (λ request. request ≡ Request.MakeBucket name.now) }
     {
@@ -193,7 +194,7 @@ impl Request {
         })
     }
 
-    /// A PutObject with these bytes and, where one is given, a length header.
+    /// A PutObject with these bytes and, if one is given, a length header.
     pub fn put_object(
         bucket: &Bucket,
         key: &Key,
@@ -250,7 +251,7 @@ impl Request {
         })
     }
 
-    /// A ListObjectsV2 of the keys that begin with a prefix, behind `after`.
+    /// A ListObjectsV2 of the keys that begin with a prefix, after `after`.
     pub fn list_page(
         bucket: &Bucket,
         prefix: &Text,
@@ -322,7 +323,7 @@ impl Request {
         })
     }
 
-    /// The put of a file of the cluster.
+    /// A write of a file in the cluster.
     pub fn cluster_put(path: &Text, bytes: &Bytes) -> Result<Request, AllocError>
         ensures { IfOk result (λ request. request ≡ Request.ClusterPut path.now bytes.now) }
     {
@@ -330,7 +331,7 @@ impl Request {
         Ok(Request::ClusterPut { path, bytes })
     }
 
-    /// The rename of a file of the cluster.
+    /// A rename of a file in the cluster.
     pub fn cluster_rename(source: &Text, target: &Text) -> Result<Request, AllocError>
         ensures { IfOk result (λ request. request ≡ Request.ClusterRename source.now target.now) }
     {
@@ -338,7 +339,7 @@ impl Request {
         Ok(Request::ClusterRename { source, target })
     }
 
-    /// The read of a file of the cluster.
+    /// A read of a file in the cluster.
     pub fn cluster_get(path: &Text) -> Result<Request, AllocError>
         ensures { IfOk result (λ request. request ≡ Request.ClusterGet path.now) }
     {
@@ -347,7 +348,7 @@ impl Request {
         })
     }
 
-    /// The deletion of a file of the cluster.
+    /// A deletion of a file in the cluster.
     pub fn cluster_delete(path: &Text) -> Result<Request, AllocError>
         ensures { IfOk result (λ request. request ≡ Request.ClusterDelete path.now) }
     {
@@ -356,7 +357,7 @@ impl Request {
         })
     }
 
-    /// The list of the cluster's files whose paths begin with a prefix.
+    /// A list of the cluster's files whose paths begin with a prefix.
     pub fn cluster_list(prefix: &Text) -> Result<Request, AllocError>
         ensures { IfOk result (λ request. request ≡ Request.ClusterList prefix.now) }
     {
@@ -398,7 +399,7 @@ impl Request {
         })
     }
 
-    /// A ListMultipartUploads of the uploads whose keys begin with a prefix, behind the last that was given.
+    /// A ListMultipartUploads of the uploads after `after` whose keys begin with a prefix.
     pub fn list_uploads(
         bucket: &Bucket,
         prefix: &Text,
@@ -417,7 +418,7 @@ impl Request {
         })
     }
 
-    /// The same request.
+    /// Returns a copy of the request.
     pub fn copied(&self, alloc: Global) -> Result<Request, AllocError>
         ensures { IfOk result (λ copy. copy ≡ self.now) }
     {

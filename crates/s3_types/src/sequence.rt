@@ -3,7 +3,7 @@ ghost use Rattle.std.specs.Prelude.{◌≡◌, ◌<◌, ℕ, List, [], ◌∷◌
 use std::alloc::{AllocError, Global};
 use std::marker::Model;
 
-/// Values in a row, which clauses see as a list.
+/// A row of values. Contracts see it as a list.
 #[derive(Drop)]
 pub struct Sequence<T> {
     items: Vec<T>,
@@ -20,7 +20,8 @@ impl<T> Model for Sequence<T> {
     ghost view = { λ s. s.items.items };
 }
 
-/// Makes room for one more value. Most lists have one, which takes no more than it needs.
+/// Makes room for one more value. The first value gets room for exactly one, since most lists have
+/// only one.
 fn make_room<T>(items: &mut Vec<T>) -> Result<(), AllocError>
     ensures same { items.new.items ≡ items.old.items }
     ensures room { OnOk result (vec_len items.new < vec_capacity items.new) }
@@ -41,28 +42,28 @@ impl<T: Drop> Sequence<T> {
         }
     }
 
-    /// The values of a vector, which is kept and not copied.
+    /// The values of a vector. Keeps the vector and copies nothing.
     pub fn from_vec(items: Vec<T>) -> Sequence<T>
         ensures { result ≡ items.items }
     {
         Sequence { items }
     }
 
-    /// The values as a vector.
+    /// Returns the values as a vector.
     pub fn into_vec(self) -> Vec<T>
         ensures { result.items ≡ self }
     {
         self.items
     }
 
-    /// The values.
+    /// Returns the values.
     pub fn as_slice(&self) -> &[T]
         ensures { result.now ≡ self.now }
     {
         self.items.as_slice()
     }
 
-    /// How many values there are.
+    /// Returns the number of values.
     pub fn len(&self) -> usize
         ensures { result ≡ length self.now }
     {

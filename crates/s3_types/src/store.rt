@@ -9,7 +9,7 @@ use crate::journal::Outcome;
 use crate::request::Request;
 use std::alloc::AllocError;
 
-/// A store with its cluster, which may lose what is sent to it.
+/// A store with its cluster. It may lose requests and replies.
 pub trait ObjectStore {
     /// What the store and the cluster hold.
     ghost scene: { Self → Scene };
@@ -17,13 +17,13 @@ pub trait ObjectStore {
     /// How many requests were made so far.
     ghost requests: { Self → ℕ };
 
-    /// How many sendings got no answer so far.
+    /// How many sends have got no answer so far.
     ghost losses: { Self → ℕ };
 
-    /// What becomes of the requests, by their numbers from 1, as far as it is told beforehand.
+    /// What happens to each request, by its number from 1, as far as that is known before the run.
     ghost foretold: { Self → ℕ → Option Fate } = { λ _ _. None };
 
-    /// Makes a request. After want of memory all is as before.
+    /// Makes a request. If memory runs out, everything is as before.
     fn request(&mut self, request: &Request) -> Result<Outcome, AllocError>
         requires { requests self.old < 2 ^ 62 }
         ensures answered { IfOk result (λ outcome. IsHonestOutcome outcome (answer (scene self.old) request.now)) }

@@ -12,16 +12,16 @@ fn is_hex_digit(b: u8) -> bool
     (48 <= b && b <= 57) || (97 <= b && b <= 102)
 }
 
-/// Whether all of them are lower-case hex digits, as a tag's are. Takes no memory.
+/// Whether all bytes are lower-case hex digits, as a tag's are. Takes no memory.
 pub fn are_hex_digits(bytes: &[u8]) -> bool
     ensures { result ≡ list_all is_hex bytes.now }
 {
     bytes.iter().all(|b| is_hex_digit(*b))
 }
 
-/// A tag, as S3's ETag: 32 lower-case hex digits, and a count of parts, 0 for the tag of a put or of a
-/// part and else the number of parts of a completed upload. It is written as the digits, and where
-/// there are parts `-` and their count behind them.
+/// A tag, as S3's ETag: 32 lower-case hex digits and a count of parts. The count is 0 for a put or
+/// a part, and the number of parts for a completed upload. It is written as the digits, followed
+/// by `-` and the count if that is not 0.
 #[derive(Clone, Copy, PartialEq, Eq)]
 pub struct Tag {
     digits: [u8; 32],
@@ -43,7 +43,7 @@ impl Model for Tag {
 }
 
 impl Tag {
-    /// A tag of these hex digits, of an object of so many parts; 0 where it was put at once.
+    /// A tag of these hex digits, for an object of this many parts, or 0 for a put or a part.
     pub fn new(digits: [u8; 32], parts: u32) -> Tag
         requires { list_all is_hex digits ≡ true }
         ensures { result ≡ record { digits = digits; parts = parts } }
@@ -51,7 +51,7 @@ impl Tag {
         Tag { digits, parts }
     }
 
-    /// The 32 hex digits of the tag.
+    /// Returns the 32 hex digits of the tag.
     pub fn digits(&self) -> &[u8; 32]
         ensures digits { result.now ≡ self.now.digits }
         ensures hex { list_all is_hex result.now ≡ true }
@@ -59,7 +59,7 @@ impl Tag {
         &self.digits
     }
 
-    /// The digits as text.
+    /// Returns the digits as text.
     pub fn digits_text(&self) -> &str
         ensures { result.now ≡ self.now.digits }
     {
@@ -69,7 +69,7 @@ impl Tag {
         }
     }
 
-    /// The number of parts of a completed upload, and 0 for a put or a part.
+    /// Returns the number of parts of a completed upload, and 0 for a put or a part.
     pub fn parts(&self) -> u32
         ensures { result ≡ self.now.parts }
     {

@@ -10,7 +10,7 @@ use std::hash::{Hash, Hasher};
 use std::marker::Model;
 use std::rc::Rc;
 
-/// UTF-8 text that never changes, ordered by its bytes. A clone shares it and copies none.
+/// A UTF-8 text that never changes, ordered by its bytes. A clone shares it and copies nothing.
 #[derive(Drop)]
 pub struct Text {
     shared: Rc<String>,
@@ -32,7 +32,7 @@ impl Text {
         Text::new(alloc, String::new(alloc))
     }
 
-    /// The text of a string, which is kept and not copied.
+    /// The text of a string. Keeps the string and copies nothing.
     pub fn new(alloc: Global, text: String) -> Result<Text, AllocError>
         ensures { IfOk result (λ t. t ≡ string_bytes text) }
     {
@@ -48,14 +48,14 @@ impl Text {
         Text::new(alloc, String::from_str(alloc, text)?)
     }
 
-    /// The text.
+    /// Returns the text.
     pub fn as_str(&self) -> &str
         ensures { result.now ≡ self.now }
     {
         self.shared.as_str()
     }
 
-    /// The text's bytes.
+    /// Returns the bytes of the text.
     pub fn as_bytes(&self) -> &[u8]
         ensures { result.now ≡ self.now }
     {

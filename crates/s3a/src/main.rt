@@ -1,4 +1,4 @@
-//! `s3a FOLDER COMMAND WORDS`: the program over a folder, standard input and standard output.
+//! `s3a FOLDER COMMAND WORDS`: runs the program over a folder, standard input and standard output.
 #![tactic(auto)]
 
 ghost use Rattle.std.specs.Prelude.{◌≡◌, IfOk};
@@ -13,7 +13,7 @@ use std::process::ExitCode;
 use std::rt::{Env, Files};
 use std::{env, io};
 
-/// The words behind the program's name, or none where the system does not give them as text.
+/// The words after the program's name, or none if the system does not give them as text.
 fn words(rt: &(impl Env + AllocGlobal)) -> Result<Vec<Text>, AllocError> {
     let alloc = rt.alloc();
     let mut words = Vec::new(alloc);
@@ -32,7 +32,7 @@ fn words(rt: &(impl Env + AllocGlobal)) -> Result<Vec<Text>, AllocError> {
     Ok(words)
 }
 
-/// The disk of the folder that the words name, or of the one where the program runs.
+/// The disk of the folder that the words name, or of the current folder if they name none.
 fn disk<R: Files + Drop>(alloc: Global, rt: R, words: &[Text]) -> Result<FileDisk<R>, AllocError>
 where
     R::File: Lockable,
@@ -45,7 +45,7 @@ where
     FileDisk::new(alloc, rt, folder)
 }
 
-/// Says that there is no memory for the words or for the folder's disk.
+/// Reports that memory ran out for the words or for the folder's disk.
 fn say_no_memory(rt: &impl Print) -> ExitCode {
     let status = match println!(rt; "no memory") {
         Ok(()) => Status::NoMemory,

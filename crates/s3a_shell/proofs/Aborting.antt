@@ -1,4 +1,4 @@
--- What is left once uploads were aborted one by one.
+-- What is left after uploads were aborted one by one.
 use Rattle.basics.proofs.Members.{nat_gone, nat_left, same_or_not, some_is}
 use Rattle.basics.specs.Members.{IsIn}
 use Rattle.bucket_ops.specs.Uploads.{IsStill, uploads_from}
@@ -26,17 +26,17 @@ without_all m (r ∷ rs) = without_all (aborted m r.upload (live m r.key r.uploa
 
 -- ---- one upload
 
--- what another id has stays
+-- The upload of another id stays.
 other_left : (m : Uploads) (id q : ℕ) (o : Option Upload) → (id ≡ q → ⊥) → fin.get (aborted m id o) q ≡ fin.get m q
 other_left m id q None ne = refl
 other_left m id q (Some u) ne = nat_left m id q (λ e. ne (sym e))
 
--- it is not live
+-- The aborted upload is not live.
 gone_one : (m : Uploads) (k : List ℕ) (id : ℕ) (o : Option Upload) → live m k id ≡ o → live (aborted m id o) k id ≡ None
 gone_one m k id None e = e
 gone_one m k id (Some u) e = ap (with_key k) (nat_gone m id id refl)
 
--- and stays so
+-- An upload that is not live stays so.
 gone_still : (m : Uploads) (id : ℕ) (o : Option Upload) (k : List ℕ) (q : ℕ) → live m k q ≡ None → live (aborted m id o) k q ≡ None
 gone_still m id None k q h = h
 gone_still m id (Some u) k q h = by (same_or_not q id)
@@ -90,7 +90,7 @@ are_ended z b c rs s e h = record {
   kept = λ id ne. others_left c.uploads rs id ne;
 }
 
--- one more is aborted
+-- One more upload is aborted.
 after_more : (z : Scene) (b : List ℕ) (rs : List UploadRef) (x : UploadRef)
     → after_aborts z b (rs ++ x ∷ []) ≡ apply (after_aborts z b rs) (AbortUpload b x.key x.upload)
 after_more z b [] x = refl
@@ -102,7 +102,7 @@ pub more_aborted : (z mid s : Scene) (b : List ℕ) (us : List UploadRef) (i : �
 more_aborted z mid s b us i x front is so_far = is ∙ (ap (λ (v : Scene). apply v (AbortUpload b x.key x.upload)) so_far ∙
     (sym (after_more z b (take i us) x) ∙ ap (after_aborts z b) (sym front)))
 
--- and at any moment of it some are
+-- At every point of that, the first few are aborted.
 pub sent_more : (z : Scene) (b : List ℕ) (us : List UploadRef) (i : ℕ) (x : UploadRef) (a c d : Session)
     → take (i + 1) us ≡ take i us ++ x ∷ [] → c.store.scene ≡ after_aborts z b (take i us) → Sent (AfterSome b us z) a c
     → Sent (AppliedOrNot (AbortUpload b x.key x.upload) c.store.scene) c d → Sent (AfterSome b us z) a d
@@ -113,7 +113,7 @@ sent_more z b us i x a c d front so_far h g = sent_both (AfterSome b us z) a c d
     by s (inl e) = (i, e ∙ so_far)
     by s (inr e) = (i + 1, more_aborted z c.store.scene s b us i x front e so_far)
 
--- of the uploads below a path
+-- The same for the uploads below a path.
 pub sent_some : (path : Path) (z : Scene) (o : Option (List UploadRef)) (rs us : List UploadRef) (b : List ℕ) (a c d : Session)
     → o ≡ uploads_from z path.bucket (below path.key []) None → o ≡ Some rs → us ≡ rs → b ≡ path.bucket → c.store.scene ≡ z
     → a.store.scene ≡ z → Sent (IsStill a.store.scene) a c → Sent (AfterSome b us c.store.scene) c d → Sent (AbortedSome path z) a d
@@ -145,7 +145,7 @@ sent_some path z o rs us b a c d found is same at still first h g =
               (are_ended z path.bucket l (take k.0 rs) s f ended),
         )
 
--- what is said of it
+-- What the command says.
 pub did_abort : (path : Path) (z mid s : Scene) (o : Option (List UploadRef)) (rs us : List UploadRef) (b line : List ℕ) (count : ℕ)
     (what : Said) → o ≡ uploads_from z path.bucket (below path.key []) None → o ≡ Some rs → us ≡ rs → b ≡ path.bucket → mid ≡ z
     → s ≡ after_aborts mid b us → count ≡ length rs → line ≡ aborted_line count → what ≡ fine line → DidAbort path z what s

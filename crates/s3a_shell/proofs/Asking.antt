@@ -1,4 +1,4 @@
--- What a session asks of its store.
+-- The requests that a session sends to its store.
 use Rattle.basics.proofs.Members.{in_back, in_front, same_or_other, some_is}
 use Rattle.basics.specs.Members.{IsIn}
 use Rattle.bucket_ops.specs.Asks.{Ask, is_look, objects_at}
@@ -39,7 +39,7 @@ use Rattle.fs_files.specs.code.Create as create
 
 -- ---- requests after requests
 
--- what follows is so of each
+-- What follows from a property holds of each request too.
 pub asked_as : (P Q : Request → Type 0) (a b : Session) → ((r : Request) → P r → Q r) → Asked P a b → Asked Q a b
 asked_as P Q a b f h = record { part = h.part; appended = h.appended; each = each_asked P Q f h.part h.each }
 
@@ -48,7 +48,7 @@ each_both : (P : Request → Type 0) (es fs : List Entry) → AllByRecursion (λ
 each_both P [] fs h g = g
 each_both P (e ∷ es) fs h g = (h.0, each_both P es fs h.1 g)
 
--- these and then those
+-- These requests and then those.
 pub asked_both : (P : Request → Type 0) (a b c : Session) → Asked P a b → Asked P b c → Asked P a c
 asked_both P a b c h g = record {
   part = h.part ++ g.part;
@@ -56,18 +56,18 @@ asked_both P a b c h g = record {
   each = each_both P h.part g.part h.each g.each;
 }
 
--- none
+-- No request.
 pub asked_none : (P : Request → Type 0) (a b : Session) → b.journal.entries ≡ a.journal.entries → Asked P a b
 asked_none P a b e = record { part = []; appended = e ∙ sym (append-nil a.journal.entries); each = tt }
 
--- one
+-- One request.
 pub asked_one : (P : Request → Type 0) (a b : Session) (r : Request) (reply : Reply) → P r
     → b.journal.entries ≡ a.journal.entries ++ answered_by r reply ∷ [] → Asked P a b
 asked_one P a b r reply p e = record { part = answered_by r reply ∷ []; appended = e; each = (p, tt) }
 
--- ---- by an operation on a path
+-- ---- an operation on a path
 
--- whose stages are looks
+-- Its stages are looks.
 pub looked : (b : List ℕ) (look : Ask) (z : Scene) (a c : Session) → is_look look ≡ true
     → Asked (SendsIn b look (λ m x. is_look x ≡ true) z) a c → Asked (LooksIn b) a c
 looked b look z a c l h = asked_as (SendsIn b look (λ m x. is_look x ≡ true) z) (LooksIn b) a c (λ r g. by r (objects_at z b) g) h
@@ -76,12 +76,12 @@ looked b look z a c l h = asked_as (SendsIn b look (λ m x. is_look x ≡ true) 
     by r None g = (look, g, l)
     by r (Some m) g = (g.0, g.1, g.2)
 
--- by what it names
+-- The operation under another name.
 pub asked_of : {O : Type 0} (b : List ℕ) (look : O → Ask) (sends : O → Objects → Ask → Type 0) (z : Scene) (a c : Session) (o p : O)
     → o ≡ p → Asked (SendsIn b (look o) (sends o) z) a c → Asked (SendsIn b (look p) (sends p) z) a c
 asked_of b look sends z a c o p e h = subst (λ o. Asked (SendsIn b (look o) (sends o) z) a c) e h
 
--- by the deletion of a key, and what stands meanwhile
+-- The deletion of a key, and what holds at every point of it.
 module _ (path : Path) (recursive : Bool) (a c : Session) (o : Deletion) (is : o ≡ record { path = path.key; recursive = recursive })
     (key : is_key o.path ≡ true) where
   abbrev z : Scene
@@ -100,7 +100,7 @@ module _ (path : Path) (recursive : Bool) (a c : Session) (o : Deletion) (is : o
       (sent_as (AlwaysIn path.bucket (delete.always o) z) (AlwaysIn path.bucket (delete.InPart o) z) a c
       (λ s g. same_scene (objects_at z path.bucket) z s path.bucket (delete.always o) (delete.InPart o) (Unit {0}) (λ m n k. k key) g) h)
 
--- by the making of a file
+-- The making of a file.
 pub file_asked : (path : Path) (bytes copy : List ℕ) (block : ℕ) (overwrite : Bool) (policy : MarkerPolicy) (z : Scene) (a c : Session)
     (o : CreateFile) → copy ≡ bytes
     → o.file ≡ record { path = path; bytes = copy; block = block; overwrite = overwrite; policy = policy } → o.stage ≡ Here
@@ -130,9 +130,9 @@ between_asked sends from to r z a c is h none = by (same_or_other from.bucket to
     by (inr f) = asked_none (λ e. (from.bucket ≡ to.bucket) × sends (route from to) z e) a c
         (none (λ g. f (subst (λ (r : Route). r.bucket ≡ r.to_bucket) is g)))
 
--- ---- of uploads
+-- ---- uploads
 
--- what was listed is live
+-- Each listed upload is live.
 live_of : (path : Path) (z : Scene) (o : Option (List UploadRef)) (rs us : List UploadRef)
     → o ≡ uploads_from z path.bucket (below path.key []) None → o ≡ Some rs → us ≡ rs
     → (u : UploadRef) → IsIn u us → IsLiveIn (fin.get z.content.buckets path.bucket) path u
@@ -143,11 +143,11 @@ live_of path z o rs us found is same u i = by (fin.get z.content.buckets path.bu
     by (Some c) h = subst (IsIn u) (same ∙ some_is h) i
 
 module _ (asks : List ℕ → UploadRef → Request) (path : Path) (z : Scene) where
-  -- the pages alone
+  -- only the pages
   pub pages_asked : (a c : Session) → Asked (IsPageOf path.bucket (below path.key [])) a c → Asked (UploadSends asks path z) a c
   pages_asked a c h = asked_as (IsPageOf path.bucket (below path.key [])) (UploadSends asks path z) a c (λ r p. inl p) h
 
-  -- and then a request on each
+  -- the pages and then a request on each
   pub uploads_asked : (o : Option (List UploadRef)) (rs us : List UploadRef) (b : List ℕ) (a c d : Session)
       → o ≡ uploads_from z path.bucket (below path.key []) None → o ≡ Some rs → us ≡ rs → b ≡ path.bucket
       → Asked (IsPageOf path.bucket (below path.key [])) a c → Asked (OnOne asks b us) c d → Asked (UploadSends asks path z) a d
@@ -156,17 +156,17 @@ module _ (asks : List ℕ → UploadRef → Request) (path : Path) (z : Scene) w
       (asked_as (OnOne asks b us) (UploadSends asks path z) c d
       (λ r p. inr (p.0, live_of path z o rs us found is same p.0 p.1, p.2 ∙ ap (λ (n : List ℕ). asks n p.0) at)) g)
 
--- of a walk over the uploads of a bucket below a prefix
+-- A walk over the uploads of a bucket below a prefix.
 pub walk_asked : (b c p q : List ℕ) (a d : Session) → b ≡ c → p ≡ q → Asked (IsPageOf b p) a d → Asked (IsPageOf c q) a d
 walk_asked b c p q a d e f h = subst (λ p. Asked (IsPageOf c p) a d) f (subst (λ b. Asked (IsPageOf b p) a d) e h)
 
--- one more request on one of them
+-- One more request on one of the uploads.
 pub one_more : (asks : List ℕ → UploadRef → Request) (b : List ℕ) (us : List UploadRef) (x : UploadRef) (a c d : Session) → IsIn x us
     → Asked (OnOne asks b us) a c → Asked (λ r. r ≡ asks b x) c d → Asked (OnOne asks b us) a d
 one_more asks b us x a c d i h g =
     asked_both (OnOne asks b us) a c d h (asked_as (λ r. r ≡ asks b x) (OnOne asks b us) c d (λ r e. (x, i, e)) g)
 
--- an upload is one of them by its place
+-- The upload at a place of the list is one of the list.
 pub in_drop : (i : ℕ) (us : List UploadRef) (x : UploadRef) (rest : List UploadRef) → drop i us ≡ x ∷ rest → IsIn x us
 in_drop i us x rest e = subst (IsIn x) (take-append-drop i us) (in_back x (take i us) (drop i us) (subst (IsIn x) (sym e) (inl refl)))
 
@@ -174,7 +174,7 @@ pub in_take : (i : ℕ) (us front : List UploadRef) (x : UploadRef) → take i u
 in_take i us front x e = subst (IsIn x) (take-append-drop i us)
     (in_front x (take i us) (drop i us) (subst (IsIn x) (sym e) (in_back x front (x ∷ []) (inl refl))))
 
--- ---- by a command
+-- ---- commands
 
 pub asked_by : {T E : Type 0} (r : Result T E) (command is : Command) (bytes : List ℕ) (z : Scene) (a b : Session) → command ≡ is
     → OnOk r (Asked (MaySend is bytes z) a b) → OnOk r (Asked (MaySend command bytes z) a b)

@@ -1,4 +1,4 @@
--- A command that the shell did on a store, by what the shell says of it.
+-- A command that the shell did on a store, from the shell's contract.
 use Rattle.durable_store.proofs.Found.{few_ids}
 use Rattle.durable_store.specs.Outcomes.{IsSound}
 use Rattle.durable_store.specs.Works.{Work}
@@ -20,7 +20,7 @@ use Rattle.std.proofs.Common.{Bool, List, None, false, length, subst, sym, true,
 use Rattle.std.specs.List.{AllByRecursion}
 use Rattle.store_frame.specs.Held.{upload_at}
 
--- a store that was found has ids left
+-- A store that was found has upload ids left.
 pub few_of : (c : Content) → IsSound (Store c) → c.next ≤ 2 ^ 62
 few_of c is = few_ids c is
 

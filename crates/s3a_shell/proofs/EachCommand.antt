@@ -1,4 +1,4 @@
--- What each command left, by what it did.
+-- What each command left, from what it did.
 use Rattle.dir_markers.specs.declared.marker.MarkerPolicy.TheVariants.{Delete, Keep}
 use Rattle.s3_types.specs.Store.{Scene}
 use Rattle.s3a_shell.proofs.Staying.{Leaves, abort, done, done_between, make, put, same}

@@ -1,4 +1,4 @@
--- What a command's sendings lead to, from their beginning.
+-- What a command's requests lead to, from the beginning.
 use Rattle.machine.specs.Counted.{AreAnswered}
 use Rattle.machine.specs.Turns.{AreBy}
 use Rattle.s3_service.specs.Ids.{AreBelow}
@@ -24,7 +24,7 @@ module _ (always : Scene → Type 0) (c : Content) (old es : List Entry) (z s : 
   whole : es ≡ h.part
   whole = h.appended ∙ ap (λ (l : List Entry). l ++ h.part) first
 
-  -- the scene at the end is the last moment
+  -- the scene at the end is the last point
   pub at_last : s ≡ moment c es (length es)
   at_last =
       let all : take (length es) es ≡ es = take_all (length es) es (omega arith) in
@@ -43,14 +43,14 @@ module _ (always : Scene → Type 0) (c : Content) (old es : List Entry) (z s : 
   pub all_honest : IsHonest c es
   all_honest = subst (λ (l : List Entry). AreHonest (opening c) l) (sym whole) (subst (λ (v : Scene). AreHonest v h.part) begun h.honest)
 
-  -- it is the first where no sending is a change
+  -- if no request is a change, the last content is the first
   pub same_at : has_changed es ≡ false → s.content ≡ c
   same_at none =
       let all : take (length es) es ≡ es = take_all (length es) es (omega arith) in
       ap (λ (v : Scene). v.content) at_last ∙ (ap (λ (l : List Entry). (after_all (opening c) l).content) all ∙ no_change es (opening c)
       all_honest all_answered none)
 
-  -- and so of what was done
+  -- the same for what was done
   module _ (command : Command) (bytes : List ℕ) (what : Said) (did : Does command bytes z what s) where
     pub did_at : Does command bytes (opening c) what (moment c es (length es))
     did_at =
@@ -64,12 +64,12 @@ module _ (always : Scene → Type 0) (c : Content) (old es : List Entry) (z s : 
     pub only_at : OnlyIn (bucket_in command) (ended_by command c) c s.content
     only_at = left.only
 
-    -- and of the uploads that it began
+    -- the same for the uploads that the command began
     pub ended_at : AreBelow c.buckets c.next → AreBelow s.content.buckets s.content.next → (id : ℕ) → c.next ≤ id
         → upload_at s.content (bucket_in command) id ≡ None
     ended_at first last = left.ended (below_none c (bucket_in command) first) (below_none s.content (bucket_in command) last)
 
-    -- it is the first where the command was refused
+    -- if the command was refused, the last content is the first
     pub undone_at : what.refused ≡ true → s.content ≡ c
     undone_at e = ap (λ (v : Scene). v.content) (left.keeps e)
 

@@ -1,4 +1,4 @@
--- How many requests a session sends.
+-- The number of requests that a session sends.
 use Rattle.bucket_ops.specs.Asks.{objects_at}
 use Rattle.bucket_ops.specs.Phases.{left_at}
 use Rattle.bucket_ops.specs.Uploads.{size, uploads_from}
@@ -29,9 +29,9 @@ use Rattle.fs_ops.specs.code.Make as make
 use Rattle.fs_files.specs.code.Create as create
 use Rattle.marker_tool.specs.code.Tool as tool
 
--- ---- by what was appended
+-- ---- entries that were appended
 
--- a journal grew by so many entries at most
+-- Holds if a journal grew by at most n entries.
 abbrev pub Grew : ℕ → List Entry → List Entry → Type 0
 Grew n old new = length new ≤ length old + n
 
@@ -40,17 +40,17 @@ few_appended n old new part e h =
     let l : length new ≡ length (old ++ part) = ap length e in
     omega (arith, l, h, length-append old part)
 
--- by one entry
+-- It grew by one entry.
 pub few_one : (old new : List Entry) (e : Entry) → new ≡ old ++ e ∷ [] → Grew 1 old new
 few_one old new e h = few_appended 1 old new (e ∷ []) h (omega arith)
 
--- by none
+-- It did not grow.
 pub few_none : (n : ℕ) (old : List Entry) → Grew n old old
 few_none n old = omega arith
 
--- ---- by an operation in a bucket
+-- ---- an operation in a bucket
 
--- each request is sent once
+-- Each request is sent once.
 pub few_in : {O X : Type 0} (b c : List ℕ) (left : O → X → Objects → ℕ) (o : O) (x : X) (z : Scene) (old new : List Entry) → b ≡ c
     → ((part : List Entry) → new ≡ old ++ part → length part ≤ (left_at (objects_at z b) left o x + 1) * (0 + 1))
     → (part : List Entry) → new ≡ old ++ part → Grew (left_at (objects_at z c) left o x + 1) old new
@@ -60,7 +60,7 @@ few_in b c left o x z old new e h part f =
     ap (λ (b : List ℕ). left_at (objects_at z b) left o x) e in
     few_appended (left_at (objects_at z c) left o x + 1) old new part f (omega (arith, l, n))
 
--- by what it names
+-- The operation under another name.
 module _ {O X : Type 0} (left : O → X → Objects → ℕ) (first : O → X) (most : O → Objects → ℕ) where
   most_of : (o : O) → ((m : Objects) → left o (first o) m + 1 ≤ most o m) → (v : Option Objects)
       → left_at v left o (first o) + 1 ≤ most_in v (most o)
@@ -74,7 +74,7 @@ module _ {O X : Type 0} (left : O → X → Objects → ℕ) (first : O → X) (
       let all : Grew (most_in (objects_at z b) (most o)) old new = omega (arith, l, g) in
       subst (λ (o : O). Grew (most_in (objects_at z b) (most o)) old new) e all
 
--- what each has left at first
+-- The bound for each operation at its first stage.
 pub path_left : (k : List ℕ) (m : Objects) → at_path.left k (at_path.first k) m + 1 ≤ 2
 path_left k m = omega arith
 
@@ -97,7 +97,7 @@ pub audit_left : (A : Type 0) (k : List ℕ) (m : Objects)
     → tool.left {A = A} (λ q es. []) k (tool.first {A = A} k) m + 1 ≤ 3 + 2 * count_below k m
 audit_left A k m = omega arith
 
--- ---- by the making of a file
+-- ---- the making of a file
 
 pub file_few : (path : Path) (bytes copy : List ℕ) (block : ℕ) (overwrite : Bool) (policy : MarkerPolicy) (z : Scene)
     (old new : List Entry) (o : CreateFile) → copy ≡ bytes
@@ -120,9 +120,9 @@ between_few most from to r z old new e h part f =
     let n : most r z ≡ most (route from to) z = ap (λ (r : Route). most r z) e in
     few_appended (most (route from to) z) old new part f (omega (arith, l, n))
 
--- ---- of uploads
+-- ---- uploads
 
--- by a walk over them
+-- A walk over them.
 pub walk_few : (path : Path) (z : Scene) (b p : List ℕ) (old new : List Entry) → b ≡ path.bucket → p ≡ below path.key []
     → ((part : List Entry) → new ≡ old ++ part → length part ≤ (size (uploads_from z b p None) + 1) * (0 + 1))
     → (part : List Entry) → new ≡ old ++ part → Grew (1 + uploads_at path z) old new
@@ -131,7 +131,7 @@ walk_few path z b p old new e f h part g =
     let n : size (uploads_from z b p None) ≡ uploads_at path z = (λ i. size (uploads_from z (e i) (f i) None)) in
     few_appended (1 + uploads_at path z) old new part g (omega (arith, l, n))
 
--- by the walk, and then by a request on each
+-- The walk, and then a request on each.
 pub uploads_few : (path : Path) (z : Scene) (o : Option (List UploadRef)) (rs us : List UploadRef) (old mid new : List Entry)
     → o ≡ uploads_from z path.bucket (below path.key []) None → o ≡ Some rs → us ≡ rs
     → Grew (1 + uploads_at path z) old mid → Grew (length us) mid new → Grew (1 + 2 * uploads_at path z) old new
@@ -140,15 +140,15 @@ uploads_few path z o rs us old mid new found is same h g =
     let m : length us ≡ length rs = ap length same in
     omega (arith, h, g, n, m)
 
--- by the walk alone
+-- Only the walk.
 pub pages_few : (n : ℕ) (old new : List Entry) → Grew (1 + n) old new → Grew (1 + 2 * n) old new
 pages_few n old new h = omega (arith, h)
 
--- by one request more
+-- One more request.
 pub few_more : (i : ℕ) (old mid new : List Entry) → Grew i old mid → Grew 1 mid new → Grew (i + 1) old new
 few_more i old mid new h g = omega (arith, h, g)
 
--- ---- by a command
+-- ---- commands
 
 pub few_by : {T E : Type 0} (r : Result T E) (command is : Command) (bytes : List ℕ) (z : Scene) (old new : List Entry) → command ≡ is
     → OnOk r (Grew (most_requests is bytes z) old new) → OnOk r (Grew (most_requests command bytes z) old new)

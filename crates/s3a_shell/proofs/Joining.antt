@@ -1,4 +1,4 @@
--- Sendings after sendings.
+-- Requests after requests.
 use Rattle.bucket_ops.specs.Uploads.{IsStill}
 use Rattle.machine.specs.Counted.{AreAnswered}
 use Rattle.machine.specs.Turns.{AreBy}
@@ -32,7 +32,7 @@ honest_both : (s : Scene) (es fs : List Entry) → AreHonest s es → AreHonest 
 honest_both s [] fs h g = g
 honest_both s (e ∷ es) fs h g = (h.0, honest_both (effect s e.request e.outcome) es fs h.1 g)
 
--- what is so before and after them
+-- What holds before and after them.
 module _ (always : Scene → Type 0) where
   at_none : (z : Scene) (m : ℕ) → always z → always (after_all z (take m []))
   at_none z zero h = h
@@ -44,7 +44,7 @@ module _ (always : Scene → Type 0) where
   at_both z (e ∷ es) fs h g zero = h 0
   at_both z (e ∷ es) fs h g (suc m) = at_both (effect z e.request e.outcome) es fs (λ k. h (suc k)) g m
 
--- no sendings
+-- No requests.
 pub sent_none : (always : Scene → Type 0) (a : Session) → IsCounted a → always a.store.scene → Sent always a a
 sent_none always a counted h = record {
   sends = record {
@@ -64,7 +64,7 @@ one_moment : (z : Scene) (r : Request) (m : ℕ) → AppliedOrNot r z (after_all
 one_moment z r zero = inl refl
 one_moment z r (suc m) = at_none (AppliedOrNot r z) (apply z r) m (inr refl)
 
--- one that was answered as was due
+-- One request that has the reply that S3 must give.
 pub sent_one : (a b : Session) (r : Request) → IsCounted a → b.store.scene ≡ apply a.store.scene r → b.store.requests ≡ a.store.requests + 1
     → b.journal.entries ≡ a.journal.entries ++ answered_by r (answer a.store.scene r) ∷ [] → Sent (AppliedOrNot r a.store.scene) a b
 sent_one a b r counted scene requests entries =
@@ -96,14 +96,14 @@ sends_both always a b c z s t h g = record {
       g.moments);
 }
 
--- these and then those
+-- These requests and then those.
 pub sent_both : (always : Scene → Type 0) (a b c : Session) → Sent always a b → Sent always b c → Sent always a c
 sent_both always a b c h g = record {
   sends = sends_both always a.journal.entries b.journal.entries c.journal.entries a.store.scene b.store.scene c.store.scene h.sends g.sends;
   counted = g.counted;
 }
 
--- what follows is so at each moment too
+-- What follows from a property holds at every point too.
 pub sent_as : (P Q : Scene → Type 0) (a b : Session) → ((s : Scene) → P s → Q s) → Sent P a b → Sent Q a b
 sent_as P Q a b f h = record {
   sends = record {
@@ -118,7 +118,7 @@ sent_as P Q a b f h = record {
   counted = h.counted;
 }
 
--- one that only reads
+-- One request that only reads.
 pub sent_read : (a b : Session) (r : Request) → only_reads r ≡ true → Sent (AppliedOrNot r a.store.scene) a b
     → Sent (IsStill a.store.scene) a b
 sent_read a b r reads h = sent_as (AppliedOrNot r a.store.scene) (IsStill a.store.scene) a b by h
@@ -127,7 +127,7 @@ sent_read a b r reads h = sent_as (AppliedOrNot r a.store.scene) (IsStill a.stor
     by s (inl e) = e
     by s (inr e) = e ∙ reads_nothing a.store.scene r reads
 
--- nothing changes by either
+-- Neither part changes anything.
 pub still_both : (a b c : Session) → b.store.scene ≡ a.store.scene → Sent (IsStill a.store.scene) a b → Sent (IsStill b.store.scene) b c
     → Sent (IsStill a.store.scene) a c
 still_both a b c same h g = sent_both (IsStill a.store.scene) a b c h (sent_as (IsStill b.store.scene) (IsStill a.store.scene) b c

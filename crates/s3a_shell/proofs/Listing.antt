@@ -14,7 +14,7 @@ use Rattle.std.proofs.Common.{ap, append_assoc, refl, sym, ◌∙◌}
 use Rattle.std.specs.Prelude.{List, None, Option, Some, drop, option_map, ℕ, [], ◌++◌, ◌+◌, ◌∷◌, ◌≡◌}
 use Rattle.std.specs.FinMap as fin
 
--- the parts that are told are those of the upload that is live
+-- The parts in the reply are those of the live upload.
 told : (o : Option Upload) (b : BucketContent) (k : List ℕ) (id next least : ℕ) (n : List ℕ) → live b.uploads k id ≡ o
     → sizes_in (answer_at (Some b) next least (ListParts n k id)) ≡ sizes_of o
 told None b k id next least n e = rw e refl
@@ -31,7 +31,7 @@ pub lines_are : (z : Scene) (b : List ℕ) (c : BucketContent) (rs : List Upload
 lines_are z b c [] e = refl
 lines_are z b c (r ∷ rs) e = rw (line_is z b c r e, lines_are z b c rs e) refl
 
--- one line more
+-- One more line.
 pub more_lines : (z mid : Scene) (b old new : List ℕ) (us : List UploadRef) (i : ℕ) (x : UploadRef) → drop i us ≡ x ∷ drop (i + 1) us
     → mid ≡ z → new ≡ old ++ asked_line mid b x → old ++ asked_lines z b (drop i us) ≡ asked_lines z b us
     → new ++ asked_lines z b (drop (i + 1) us) ≡ asked_lines z b us
@@ -42,7 +42,7 @@ more_lines z mid b old new us i x front same line so_far =
     (asked_lines z b (drop (i + 1) us)) in
     joined ∙ (ap (λ (l : List UploadRef). old ++ asked_lines z b l) (sym front) ∙ so_far)
 
--- what is said of them
+-- What the command says of them.
 pub did_list : (path : Path) (z mid s : Scene) (o : Option (List UploadRef)) (rs us : List UploadRef) (b lines : List ℕ) (what : Said)
     → o ≡ uploads_from z path.bucket (below path.key []) None → o ≡ Some rs → us ≡ rs → b ≡ path.bucket → mid ≡ z → s ≡ mid
     → lines ≡ asked_lines mid b us → what ≡ fine lines → DidList path z what s

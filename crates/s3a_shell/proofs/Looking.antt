@@ -1,4 +1,4 @@
--- What only looks sends no change.
+-- A command that only looks sends no change.
 use Rattle.bucket_ops.specs.Asks.{Ask, Get, Head, Page, is_look, objects_at, request_of}
 use Rattle.bucket_ops.specs.Phases.{SendsAt, SendsIn}
 use Rattle.bucket_ops.specs.Uploads.{IsPageOf}
@@ -15,7 +15,7 @@ use Rattle.std.proofs.lemmas.List.Folds.{list_any-append}
 use Rattle.std.specs.List.{AllByRecursion}
 use Rattle.std.specs.Prelude.{List, None, Option, Some, false, true, ℕ, [], ◌++◌, ◌||◌, ◌∷◌, ◌≡◌}
 
--- a look is no change
+-- A look is no change.
 look_only : (b : List ℕ) (a : Ask) → is_look a ≡ true → is_changing (request_of b a) ≡ false
 look_only b (Head k) h = refl
 look_only b (Get k) h = refl
@@ -42,7 +42,7 @@ pub asked_same : (P : Request → Type 0) (a b : Session) → ((r : Request) →
     → has_changed b.journal.entries ≡ has_changed a.journal.entries
 asked_same P a b f h = more_same a.journal.entries h.part b.journal.entries h.appended (none_changes h.part (each_so P f h.part h.each))
 
--- of an operation whose stages are looks
+-- An operation whose stages are looks.
 pub looked_same : (b : List ℕ) (look : Ask) (z : Scene) (a c : Session) → is_look look ≡ true
     → Asked (SendsIn b look (λ m x. is_look x ≡ true) z) a c → has_changed c.journal.entries ≡ has_changed a.journal.entries
 looked_same b look z a c l h = asked_same (SendsIn b look (λ m x. is_look x ≡ true) z) a c (λ r g. by r (objects_at z b) g) h
@@ -51,12 +51,12 @@ looked_same b look z a c l h = asked_same (SendsIn b look (λ m x. is_look x ≡
     by r None g = ap is_changing g ∙ look_only b look l
     by r (Some m) g = ap is_changing g.1 ∙ look_only b g.0 g.2
 
--- of a walk over uploads
+-- A walk over uploads.
 pub walked_same : (b p : List ℕ) (old new part : List Entry) → new ≡ old ++ part → AllByRecursion (λ e. IsPageOf b p e.request) part
     → has_changed new ≡ has_changed old
 walked_same b p old new part e h = more_same old part new e (none_changes part (each_so (IsPageOf b p) (λ r g. ap is_changing g.1) part h))
 
--- of one request
+-- One request.
 pub read_same : (a c : Session) (r : Request) (reply : Reply) → is_changing r ≡ false
     → c.journal.entries ≡ a.journal.entries ++ answered_by r reply ∷ [] → has_changed c.journal.entries ≡ has_changed a.journal.entries
 read_same a c r reply h e = more_same a.journal.entries (answered_by r reply ∷ []) c.journal.entries e

@@ -1,4 +1,4 @@
--- What performing an operation over a store that answers every request sends.
+-- What an operation sends over a store that answers every request.
 use Rattle.bucket_ops.proofs.AskLaws.{with_same}
 use Rattle.bucket_ops.specs.Asks.{objects_at, with_objects}
 use Rattle.bucket_ops.specs.Phases.{AlwaysIn, GivesIn, InScene}
@@ -47,12 +47,12 @@ one : (o : Outcome) → fate_of o ≡ Answer → is_unanswered o ≡ false
 one (Answered r) h = refl
 one _ h = absurd (cc)
 
--- what is told to be answered is
+-- A request for which an answer is foretold is answered.
 pub answered : (n : ℕ) (es : List Entry) → AreForetold (λ m. Some Answer) n es → AreAnswered es
 answered n [] h = tt
 answered n (e ∷ es) h = (one e.outcome h.0, answered (n + 1) es h.1)
 
--- a session's store answers every request
+-- The store of a session as a driver sees it: it answers every request.
 abbrev pub of_session : Session → Seen
 of_session a = record {
   scene = a.store.scene;
@@ -82,7 +82,7 @@ pub asked : {A : Type 0} (always : Scene → Type 0) (sends : Request → Type 0
     → Performed Shell 0 0 always sends (of_session a) (of_session b) result → Asked sends a b
 asked always sends a b result h = record { part = h.part; appended = h.appended; each = h.sent }
 
--- nothing changed at any moment of an operation that only reads
+-- An operation that only reads changes nothing at any point.
 pub sent_still : (b : List ℕ) (a c : Session) → Sent (AlwaysIn b (λ m n. n ≡ m) a.store.scene) a c → Sent (IsStill a.store.scene) a c
 sent_still b a c h = sent_as (AlwaysIn b (λ m n. n ≡ m) a.store.scene) (IsStill a.store.scene) a c
     (λ s g. by s (objects_at a.store.scene b) refl g) h
@@ -92,24 +92,24 @@ sent_still b a c h = sent_as (AlwaysIn b (λ m n. n ≡ m) a.store.scene) (IsSti
     by s None e g = g.0
     by s (Some m) e g = g.1 ∙ (ap (with_objects a.store.scene b) g.2 ∙ with_same a.store.scene b m e)
 
--- what may stand at any moment of an operation, by what it names
+-- What holds at every point of an operation, under another name.
 pub sent_of : {O : Type 0} (b : List ℕ) (always : O → Objects → Objects → Type 0) (a c : Session) (o p : O) → o ≡ p
     → Sent (AlwaysIn b (always o) a.store.scene) a c → Sent (AlwaysIn b (always p) a.store.scene) a c
 sent_of b always a c o p e h = subst (λ o. Sent (AlwaysIn b (always o) a.store.scene) a c) e h
 
--- what holds, holds where a call returned
+-- What always holds also holds if a call returned.
 pub on_ok : {T E : Type 0} {P : Type 0} (r : Result T E) → P → OnOk r P
 on_ok (Ok x) p = p
 on_ok (Err e) p = tt
 
--- what an operation gave was said
+-- What an operation gave was said.
 pub did_if : {A E : Type 0} (path : Path) (gives : Objects → Result A FsRefusal → Objects → Type 0) (text : A → List ℕ) (z s : Scene)
     (a : Result A FsRefusal) (r : Result Said E)
     → GivesIn path.bucket gives (Err NoSuchBucket) z a s → IfOk r (λ w. w ≡ said text a) → IfOk r (λ w. Did path gives text z w s)
 did_if path gives text z s a (Ok w) g e = record { answer = a; given = g; told = e }
 did_if path gives text z s a (Err x) g e = tt
 
--- of one from one path to another one
+-- The same for an operation from one path to another.
 pub between_if : {A E : Type 0} {gives : Objects → A → Objects → Type 0} {absent refused : A} (says : A → Said) (from to : Path)
     (z s : Scene) (a : A) (r : Result Said E)
     → GivesBetween from.bucket to.bucket gives absent refused z a s → IfOk r (λ w. w ≡ says a)
@@ -117,7 +117,7 @@ pub between_if : {A E : Type 0} {gives : Objects → A → Objects → Type 0} {
 between_if says from to z s a (Ok w) g e = record { answer = a; given = g; told = e }
 between_if says from to z s a (Err x) g e = tt
 
--- of one that names the path's key
+-- The same for an operation that names the path's key.
 pub did_at : {A E : Type 0} (path : Path) (gives : List ℕ → Objects → Result A FsRefusal → Objects → Type 0) (text : A → List ℕ)
     (z s : Scene) (key : List ℕ) (a : Result A FsRefusal) (r : Result Said E)
     → key ≡ path.key → GivesIn path.bucket (gives key) (Err NoSuchBucket) z a s → IfOk r (λ w. w ≡ said text a)
@@ -125,7 +125,7 @@ pub did_at : {A E : Type 0} (path : Path) (gives : List ℕ → Objects → Resu
 did_at path gives text z s key a r is given told =
     did_if path (gives path.key) text z s a r (subst (λ k. GivesIn path.bucket (gives k) (Err NoSuchBucket) z a s) is given) told
 
--- and of a deletion
+-- The same for a deletion.
 pub deleted_at : {E : Type 0} (path : Path) (recursive : Bool) (z s : Scene) (o : Deletion) (a : Result (Unit {0}) FsRefusal)
     (r : Result Said E)
     → o ≡ record { path = path.key; recursive = recursive } → is_key o.path ≡ true → GivesIn path.bucket (gives o) (Err NoSuchBucket) z a s
@@ -144,7 +144,7 @@ pub created_if : {E : Type 0} (path : Path) (bytes : List ℕ) (overwrite : Bool
 created_if path bytes overwrite policy z s a (Ok w) g n e = record { answer = a; given = g.0; undone = g.1; none = n; told = e }
 created_if path bytes overwrite policy z s a (Err x) g n e = tt
 
--- and what the making of a file gave
+-- The same for the making of a file.
 pub file_if : {E : Type 0} (path : Path) (bytes copy : List ℕ) (block : ℕ) (overwrite : Bool) (policy : MarkerPolicy) (z s : Scene)
     (file : Creation) (a : Result (Unit {0}) FsRefusal) (r : Result Said E)
     → copy ≡ bytes → file ≡ record { path = path; bytes = copy; block = block; overwrite = overwrite; policy = policy }
@@ -156,7 +156,7 @@ file_if path bytes copy block overwrite policy z s file a r same is least gives 
     (subst (λ (b : List ℕ). InFile (fin.get z.content.buckets path.bucket) (λ m n. Creates path b overwrite policy m a n)
     (a ≡ Err NoSuchBucket) z path.bucket s × IsUndone a z s) same (of_copy.0 least)) (of_copy.1 least) told
 
--- and at any moment of it
+-- What holds at every point of the making of a file.
 file_or_not : (path : Path) (bytes : List ℕ) (block : ℕ) (overwrite : Bool) (policy : MarkerPolicy) (z m : Objects)
     → always_in (record { path = path; bytes = bytes; block = block; overwrite = overwrite; policy = policy }) z m
     → IsMadeOrNot policy path bytes z m
@@ -184,7 +184,7 @@ file_stands path bytes copy block overwrite policy z s file same is least h =
           overwrite policy c.objects g.content.objects g.objects;
     }
 
--- before all
+-- It holds before the first request.
 pub none_stands : (policy : MarkerPolicy) (path : Path) (bytes : List ℕ) (z : Scene) → FileOrNot policy path bytes z z
 none_stands policy path bytes z = by (fin.get z.content.buckets path.bucket) refl
   where
@@ -200,21 +200,21 @@ none_stands policy path bytes z = by (fin.get z.content.buckets path.bucket) ref
       objects = inl refl;
     }
 
--- ---- the making of a bucket
+-- ---- a new bucket
 
 pub made_if : {E : Type 0} (name : List ℕ) (z s : Scene) (o : Option (List ℕ)) (r : Result Said E) → IfOk r (λ w. w ≡ refused_or_fine o)
     → o ≡ refusal_word (answer z (MakeBucket name)) → s ≡ apply z (MakeBucket name) → IfOk r (λ w. DidMake name z w s)
 made_if name z s o (Ok w) e f g = (e ∙ ap refused_or_fine f, g)
 made_if name z s o (Err x) e f g = tt
 
--- ---- the putting of a file
+-- ---- a file of the input
 
 large : {E : Type 0} (path : Path) (bytes : List ℕ) (overwrite : Bool) (policy : MarkerPolicy) (z : Scene) (r : Result Said E)
     → IfOk r (λ w. w ≡ refusing (codes "too-large") None) → IfOk r (λ w. CreatedUnless true path bytes overwrite policy z w z)
 large path bytes overwrite policy z (Ok w) e = (e, refl)
 large path bytes overwrite policy z (Err x) e = tt
 
--- too many bytes are refused
+-- Too many bytes are refused.
 pub large_if : {E : Type 0} (path : Path) (bytes : List ℕ) (overwrite : Bool) (policy : MarkerPolicy) (z : Scene) (r : Result Said E)
     → most_input < length bytes → IfOk r (λ w. w ≡ refusing (codes "too-large") None)
     → IfOk r (λ w. DidPut path bytes overwrite policy z w z)

@@ -1,4 +1,4 @@
--- What a command is to do is of one of the kinds that can be kept or said.
+-- The work of a command is of a kind that can be saved or said.
 use Rattle.durable_store.specs.Works.{IsPlain, Work}
 use Rattle.durable_store.specs.declared.held.Held.{Held}
 use Rattle.durable_store.specs.declared.held.Held.TheVariants.{Faulty, Nothing, Store}
@@ -41,7 +41,7 @@ pub work_plain : (command : Command) (bytes : List ℕ) (held : Held) (work : Wo
 work_plain (Init minimum) bytes held work h = subst IsPlain (sym h) (init_plain minimum held)
 work_plain command bytes held work h = on_plain command bytes held work h
 
--- a command that is not `init`
+-- A command other than `init`.
 pub not_init : (command : Command) (bytes : List ℕ) (held : Held) (work : Work) → ((minimum : Option ℕ) → command ≡ Init minimum → ⊥)
     → DoneOn command bytes held work → IsWork command bytes held work
 not_init (Init minimum) bytes held work n h = absurd (n minimum refl)

@@ -1,4 +1,4 @@
--- What a command left: other buckets, other uploads, no upload of its own, and all where it was refused.
+-- What a command leaves: other buckets and uploads unchanged, no upload of its own, and all unchanged if it was refused.
 use Rattle.basics.proofs.Members.{same_or_other, text_here, text_other}
 use Rattle.bucket_ops.proofs.AskLaws.{with_same}
 use Rattle.bucket_ops.specs.Asks.{objects_of, with_objects, with_objects_if}
@@ -28,7 +28,7 @@ use Rattle.std.specs.Prelude.{Bool, Err, List, None, Ok, Option, Result, Some, c
 use Rattle.store_frame.specs.Held.{upload_at, upload_in}
 use Rattle.std.specs.FinMap as fin
 
--- no upload has an id from n on
+-- Holds if no upload has an id from n on.
 abbrev NoneFrom : ℕ → Content → List ℕ → Type 0
 NoneFrom n c b = (id : ℕ) → n ≤ id → upload_at c b id ≡ None
 
@@ -39,17 +39,17 @@ below_none c b h id l = by (fin.get c.buckets b) refl
     by None e = refl
     by (Some d) e = h b d e id l
 
--- no upload that was begun since z is live in the bucket
+-- Holds if no upload that was begun since z is live in the bucket.
 abbrev pub Ends : List ℕ → Scene → Scene → Type 0
 Ends b z s = NoneFrom z.content.next z.content b → NoneFrom s.content.next s.content b → NoneFrom z.content.next s.content b
 
--- nothing changed but in a bucket, and there no upload but those that were ended; and where a refusal was said, nothing at all
+-- Nothing changed except in this bucket, and there no upload but those that were ended. If a refusal was said, nothing changed at all.
 pub record Leaves (b : List ℕ) (Ended : ℕ → Type 0) (z : Scene) (what : Said) (s : Scene) : Type 0 where
   pub only : OnlyIn b Ended z.content s.content
   pub ended : Ends b z s
   pub keeps : what.refused ≡ true → s ≡ z
 
--- a bucket's uploads that were begun before z are in d what they were, but for those that were ended
+-- Holds if the uploads that were begun before z are in d what they were, but for those that were ended.
 abbrev Stand : List ℕ → (ℕ → Type 0) → Scene → BucketContent → Type 0
 Stand b Ended z d = (id : ℕ) → id < z.content.next → (Ended id → ⊥) → fin.get d.uploads id ≡ upload_at z.content b id
 
@@ -65,7 +65,7 @@ module _ {b : List ℕ} {Ended : ℕ → Type 0} {z s : Scene} {what : Said} whe
     keeps = λ r. refl;
   })
 
-  -- or the bucket is another, and no refusal was said
+  -- the bucket has changed, and no refusal was said
   changed : (d : BucketContent) (n : ℕ) → s ≡ placed z b d n → z.content.next ≤ n → Stand b Ended z d → Ends b z s → what.refused ≡ false
       → Leaves b Ended z what s
   changed d n e le uploads ended fine = record {
@@ -79,17 +79,17 @@ module _ {b : List ℕ} {Ended : ℕ → Type 0} {z s : Scene} {what : Said} whe
     keeps = λ refused. let no : false ≡ true = sym fine ∙ refused in absurd (cc);
   }
 
-  -- and no id was drawn
+  -- the bucket has changed, and no upload id was used
   edited : (d : BucketContent) → s ≡ placed z b d z.content.next → Stand b Ended z d → what.refused ≡ false → Leaves b Ended z what s
   edited d e uploads fine =
       changed d z.content.next e (omega arith) uploads (λ first last. subst (λ n. NoneFrom n s.content b)
       (ap (λ (s : Scene). s.content.next) e) last) fine
 
--- it ends no upload
+-- No upload is ended.
 abbrev none : ℕ → Type 0
 none = λ id. ⊥
 
--- a refusal changes nothing
+-- Holds if a refusal changes nothing.
 abbrev pub Keeps : {A R : Type 0} → (Objects → Result A R → Objects → Type 0) → Type 0
 Keeps {R = R} gives = (m n : Objects) (r : R) → gives m (Err r) n → n ≡ m
 
@@ -110,13 +110,13 @@ given {A = A} {R = R} b gives absent says z s what a keeps fine h = by (fin.get 
         edited (record { objects = g.0; uploads = c.uploads }) (g.1 ∙ ap (λ (o : Option BucketContent). with_objects_if o z b g.0) e)
         (λ id l f. there z.content b c e id) (ap (λ (w : Said). w.refused) t ∙ fine x)
 
--- on a path
+-- An operation on a path.
 pub done : {A : Type 0} {p : Path} {gives : Objects → Result A FsRefusal → Objects → Type 0} {text : A → List ℕ} {z s : Scene} {what : Said}
     → Did p gives text z what s → Keeps gives → Leaves p.bucket none z what s
 done {p = p} {gives = gives} {text = text} {z = z} {s = s} {what = what} h keeps =
     given p.bucket gives (Err NoSuchBucket) (said text) z s what h.answer keeps (λ x. refl) h.given h.told
 
--- from one path to another one
+-- An operation from one path to another.
 pub done_between : {A R : Type 0} {from to : Path} {gives : Objects → Result A R → Objects → Type 0} {absent refused : Result A R}
     {says : Result A R → Said}
     {z s : Scene} {what : Said} → DidBetween from to gives absent refused says z what s → Keeps gives
@@ -130,7 +130,7 @@ done_between {from = from} {to = to} {gives = gives} {absent = absent} {says = s
 
 -- ---- the other commands
 
--- a file was put
+-- A file was put.
 pub put : (p : Path) (bytes : List ℕ) (overwrite : Bool) (policy : MarkerPolicy) (z : Scene) (what : Said) (s : Scene) (t : Bool)
     → CreatedUnless t p bytes overwrite policy z what s → Leaves p.bucket none z what s
 put p bytes overwrite policy z what s true h = same h.1
@@ -145,7 +145,7 @@ put p bytes overwrite policy z what s false h = by h.answer (fin.get z.content.b
         changed g.content g.next g.scene g.later.drawn (λ id l f. g.later.uploads id l ∙ there z.content p.bucket c e id)
         (λ first last id l. h.none id l (first id l)) (ap (λ (w : Said). w.refused) t)
 
--- a bucket was made
+-- A bucket was made.
 pub make : (name : List ℕ) (z : Scene) (what : Said) (s : Scene) → DidMake name z what s → Leaves name none z what s
 make name z what s h = by (fin.get z.content.buckets name) refl h.0 h.1
   where
@@ -162,7 +162,7 @@ make name z what s h = by (fin.get z.content.buckets name) refl h.0 h.1
     by None e w g = new (is_bucket name) e w g
     by (Some c) e w g = same g
 
--- uploads were aborted
+-- Uploads were aborted.
 pub abort : (p : Path) (z : Scene) (what : Said) (s : Scene) → DidAbort p z what s
     → Leaves p.bucket (λ id. IsBelow (fin.get z.content.buckets p.bucket) p id) z what s
 abort p z what s = by (fin.get z.content.buckets p.bucket) refl

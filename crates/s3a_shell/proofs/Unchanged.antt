@@ -1,4 +1,4 @@
--- Where no sending changes anything, the store stays as it is.
+-- If no request is a change, the store stays as it is.
 use Rattle.basics.proofs.Tree.{insert_same}
 use Rattle.basics.specs.Order.{text_total}
 use Rattle.journal_log.proofs.Journals.{others_leave}
@@ -34,13 +34,13 @@ use Rattle.std.specs.FinMap as fin
 
 -- ---- a refused request
 
--- a bucket that is put back as it was
+-- Putting a bucket back as it was changes nothing.
 back : (c : Content) (n : List ℕ) (b : BucketContent) → fin.get c.buckets n ≡ Some b
     → record { buckets = fin.insert c.buckets n b; next = c.next; minimum = c.minimum } ≡ c
 back c n b e = ap (λ (m : Buckets). record { buckets = m; next = c.next; minimum = c.minimum })
     (insert_same text_total exact_bytes c.buckets n b e)
 
--- a refused request leaves the bucket as it is, and draws no id
+-- A refused request leaves the bucket as it is, and uses no id.
 module _ (b : BucketContent) (n : List ℕ) where
   many_same : (ks : List (List ℕ)) (t : Bool) → is_refusal (cond t (Refused TooManyKeys) Deleted) ≡ true
       → cond t b.objects (without b.objects ks) ≡ b.objects
@@ -79,7 +79,7 @@ made_same c name None h = by (is_bucket name) h
     by true h = absurd (cc)
     by false h = refl
 
--- it leaves the store as it is
+-- It leaves the store as it is.
 module _ (c : Content) where
   put_back : (n : List ℕ) (b d : BucketContent) → fin.get c.buckets n ≡ Some b → d ≡ b
       → record { buckets = fin.insert c.buckets n d; next = c.next; minimum = c.minimum } ≡ c
@@ -120,7 +120,7 @@ refused_leaves s (CompleteUpload n k id ns) t h = refused_at s.content (fin.get 
 refused_leaves s (AbortUpload n k id) t h = refused_at s.content (fin.get s.content.buckets n) (AbortUpload n k id) refl t h
 refused_leaves s _ t h = absurd (cc)
 
--- ---- a sending that is no change
+-- ---- a request that is no change
 
 answered_leaves : (s : Scene) (r : Request) (t : Bool) → is_changing r ≡ t → (t && not (is_refusal (answer s r))) ≡ false
     → (apply s r).content ≡ s.content
@@ -136,7 +136,7 @@ outcome_leaves : (s : Scene) (r : Request) (o : Outcome) → IsHonestOutcome o (
 outcome_leaves s r (Answered a) honest answered h = one_leaves s r a honest h
 outcome_leaves s r _ honest answered h = absurd (cc)
 
--- where none is a change, the store is as it was
+-- If no request is a change, the store is as it was.
 pub no_change : (es : List Entry) (s : Scene) → AreHonest s es → AreAnswered es → has_changed es ≡ false
     → (after_all s es).content ≡ s.content
 no_change [] s honest answered h = refl

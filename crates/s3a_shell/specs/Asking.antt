@@ -1,4 +1,4 @@
--- What each command may send: the requests of its operation, and no other (Amazon S3 API reference; Hadoop FileSystem specification).
+-- The requests that each command may send: those of its operation, and no other (Amazon S3 API reference; Hadoop FileSystem specification).
 use Rattle.basics.specs.Members.{IsIn}
 use Rattle.bucket_ops.specs.Asks.{Ask, is_look, request_of}
 use Rattle.bucket_ops.specs.Phases.{SendsIn}
@@ -31,30 +31,30 @@ use Rattle.fs_files.specs.code.Create as create
 
 -- ---- on a path
 
--- a look at a key of a bucket, a read of an object, or a page of a listing
+-- Holds if the request only looks in this bucket: at a key, at an object's bytes, or at a page of a listing.
 abbrev pub LooksIn : List ℕ → Request → Type 0
 LooksIn bucket r = (a : Ask) × (r ≡ request_of bucket a) × (is_look a ≡ true)
 
--- `mkdir`: looks, and the put of the marker where nothing stands and no file is above
+-- `mkdir`: looks, and the put of the marker if nothing exists there and no file is above.
 abbrev pub MakeSends : Path → Scene → Request → Type 0
 MakeSends path z r = SendsIn path.bucket (look_asks path.key) (make.sends path.key) z r
 
--- `rm` and `rmr`: looks, and the deletion of what may be deleted, and then the put of the marker above where nothing stood
+-- `rm` and `rmr`: looks, the deletion of what may be deleted, and then the put of the marker above if nothing is there.
 abbrev pub DeleteSends : Bool → Path → Scene → Request → Type 0
 DeleteSends recursive path z r =
     SendsIn path.bucket (look_asks path.key) (delete.Asks (record { path = path.key; recursive = recursive })) z r
 
--- `clean-markers`: looks, and the deletion of surplus markers
+-- `clean-markers`: looks, and the deletion of surplus markers.
 abbrev pub CleanMarkersSends : Path → Scene → Request → Type 0
 CleanMarkersSends path z r = SendsIn path.bucket (look_asks path.key) (CleanSends path.key) z r
 
--- `fill-markers`: looks, and puts of missing markers
+-- `fill-markers`: looks, and the puts of missing markers.
 abbrev pub FillMarkersSends : Path → Scene → Request → Type 0
 FillMarkersSends path z r = SendsIn path.bucket (look_asks path.key) (FillSends path.key) z r
 
 -- ---- a file of the input
 
--- the file that is to be made, in blocks of the length that its own length and the store's least part ask for
+-- The file to make. Its block length follows from the length of the input and the least size of a part in the store.
 abbrev pub file_of : Path → List ℕ → Bool → MarkerPolicy → Scene → CreateFile
 file_of path bytes overwrite policy z =
     record {
@@ -69,51 +69,51 @@ file_of path bytes overwrite policy z =
       stage = Here;
     }
 
--- what its making sends; for an input that is too large nothing is sent
+-- The requests that make this file. For an input that is too large nothing is sent.
 abbrev pub PutSendsUnless : Bool → Path → List ℕ → Bool → MarkerPolicy → Scene → Request → Type 0
 PutSendsUnless true path bytes overwrite policy z r = ⊥
 PutSendsUnless false path bytes overwrite policy z r = create.sends (file_of path bytes overwrite policy z) z r
 
--- `put`, `put-force` and `put-drop`
+-- `put`, `put-force` and `put-drop`: the requests that make the file, unless the input is too large.
 abbrev pub PutSends : Path → List ℕ → Bool → MarkerPolicy → Scene → Request → Type 0
 PutSends path bytes overwrite policy z r = PutSendsUnless (nat_lt most_input (length bytes)) path bytes overwrite policy z r
 
 -- ---- from one path to another one
 
--- `mv`: between two buckets nothing is sent
+-- `mv`: the requests of a rename. Between two buckets nothing is sent.
 abbrev pub MoveSends : Path → Path → Scene → Request → Type 0
 MoveSends from to z r = (from.bucket ≡ to.bucket) × RenameSends (route from to) z r
 
--- `cp`: likewise
+-- `cp`: the requests of a copy. Between two buckets nothing is sent.
 abbrev pub CopyTreeSends : Path → Path → Scene → Request → Type 0
 CopyTreeSends from to z r = (from.bucket ≡ to.bucket) × CopySends (route from to) z r
 
 -- ---- uploads
 
--- an upload is live below a path, by what the bucket holds
+-- Holds if the bucket exists and has this live upload below the path.
 abbrev pub IsLiveIn : Option BucketContent → Path → UploadRef → Type 0
 IsLiveIn None path u = ⊥
 IsLiveIn (Some c) path u = IsIn u (uploads_below path c)
 
--- the request for the parts of an upload
+-- The request for the parts of an upload.
 abbrev pub lists : List ℕ → UploadRef → Request
 lists bucket u = ListParts bucket u.key u.upload
 
--- such a request on one of these uploads
+-- Holds if this is such a request on one of these uploads.
 abbrev pub OnOne : (List ℕ → UploadRef → Request) → List ℕ → List UploadRef → Request → Type 0
 OnOne asks bucket us r = (u : UploadRef) × IsIn u us × (r ≡ asks bucket u)
 
--- such a request on an upload that is live below a path
+-- Holds if this is such a request on an upload that is live below the path.
 abbrev pub OnLive : (List ℕ → UploadRef → Request) → Path → Scene → Request → Type 0
 OnLive asks path z r = (u : UploadRef) × IsLiveIn (fin.get z.content.buckets path.bucket) path u × (r ≡ asks path.bucket u)
 
--- a page of the live uploads below a path, or such a request on one of them
+-- Holds if this lists a page of the live uploads below the path, or is such a request on one of them.
 abbrev pub UploadSends : (List ℕ → UploadRef → Request) → Path → Scene → Request → Type 0
 UploadSends asks path z r = IsPageOf path.bucket (below path.key []) r ⊎ OnLive asks path z r
 
 -- ---- each command
 
--- what a command that is begun in the scene z, with the bytes of its input, may send
+-- Holds if the command, begun in the scene z with this input, may send this request.
 abbrev pub MaySend : Command → List ℕ → Scene → Request → Type 0
 MaySend (Mb name) bytes z r = r ≡ MakeBucket name
 MaySend (Ls path) bytes z r = LooksIn path.bucket r

@@ -1,4 +1,4 @@
--- What a command is to do, by what is held.
+-- The work of a command, given what is held.
 use Rattle.durable_store.specs.Stores.{fault_text}
 use Rattle.durable_store.specs.Works.{Saves, Says, Work}
 use Rattle.durable_store.specs.declared.held.Held.{Held}
@@ -25,38 +25,38 @@ use Rattle.std.specs.Prelude.{Bool, List, None, Option, Some, codes, false, leng
 use Rattle.store_frame.specs.Held.{upload_at}
 use Rattle.exit_status.specs.declared.statuses.Status.TheVariants as statuses
 
--- the commands that read the input
+-- True for the commands that read the input.
 abbrev pub takes_input : Command → Bool
 takes_input command = is_put (kind_of command)
 
--- the commands that play a job, or two
+-- True for the commands that run one job or two.
 abbrev pub plays : Command → Bool
 plays command = is_play (kind_of command)
 
--- the least size of a part in bytes, where none is given
+-- The least size of a part in bytes: MOST_MINIMUM if the command names none.
 abbrev pub minimum_of : Option ℕ → ℕ
 minimum_of None = MOST_MINIMUM
 minimum_of (Some bytes) = bytes
 
--- `init`: a store with no bucket, where nothing is held
+-- `init`: if nothing is held, a store with no bucket; otherwise a refusal or the fault of what is held.
 unfoldable pub init_work : Option ℕ → Held → Work
 init_work minimum Nothing = Saves (new_content (minimum_of minimum)) [] []
 init_work minimum (Store c) = Says statuses.Refused (Some (refused_line (codes "exists") None)) []
 init_work minimum (Faulty number place) = Says statuses.BadImage (Some (fault_text number place)) []
 
--- what was said is to be written; a store that was changed is kept
+-- The work for the end of a command (first flag: refused; second: changed): say its text, or store the store c and then what was sent.
 abbrev pub work_said : Bool → Bool → Content → List ℕ → List Entry → Work
 work_said true changed c text sent = Says statuses.Refused (Some text) sent
 work_said false true c text sent = Saves c text sent
 work_said false false c text sent = Says statuses.Done (Some text) sent
 
--- a command was done on a store, with the bytes of its input
+-- A command was done on a store, with the bytes of its input.
 pub record Done (command : Command) (bytes : List ℕ) (c : Content) (work : Work) : Type 0 where
   pub what : Said
   pub sent : List Entry
   -- what it says and leaves is what the command does
   pub did : Does command bytes (opening c) what (moment c sent (length sent))
-  -- it was sent by the shell, in event 0, and each sending has the answer that was due
+  -- the shell sent it, in event 0, and each request has the reply that S3 must give
   pub by : AreBy Shell 0 sent
   pub answered : AreAnswered sent
   pub honest : IsHonest c sent
@@ -64,26 +64,26 @@ pub record Done (command : Command) (bytes : List ℕ) (c : Content) (work : Wor
   pub asked : AllByRecursion (λ e. MaySend command bytes (opening c) e.request) sent
   -- it sent no more requests than the command may
   pub few : length sent ≤ most_requests command bytes (opening c)
-  -- at each moment, wherever it stops, there stands what may stand then of the command
+  -- at every point, wherever it stops, the store is as the command may leave it there
   pub moments : (m : ℕ) → MayStandAt command bytes (opening c) (moment c sent m)
-  -- other buckets stand, and so do the uploads that it does not end
+  -- other buckets are unchanged, and so are the uploads that it does not end
   pub stays : OnlyIn (bucket_in command) (ended_by command c) c (moment c sent (length sent)).content
   -- no upload that it began itself is live
   pub ended : (id : ℕ) → c.next ≤ id → upload_at (moment c sent (length sent)).content (bucket_in command) id ≡ None
-  -- one that only looks sends no change
+  -- a command that only looks sends no change
   pub reads : only_looks command ≡ true → has_changed sent ≡ false
-  -- one that was refused, or that sent no change, left the store as it was
+  -- a command that was refused, or sent no change, left the store as it was
   pub refused : what.refused ≡ true → (moment c sent (length sent)).content ≡ c
   pub unchanged : has_changed sent ≡ false → (moment c sent (length sent)).content ≡ c
   pub is : work ≡ work_said what.refused (has_changed sent) c what.text sent
 
--- on what is held: a new store where nothing is
+-- The command was done on what is held, or on a new store if nothing is held.
 abbrev pub DoneOn : Command → List ℕ → Held → Work → Type 0
 DoneOn command bytes Nothing work = Done command bytes (new_content MOST_MINIMUM) work
 DoneOn command bytes (Store c) work = Done command bytes c work
 DoneOn command bytes (Faulty number place) work = work ≡ Says statuses.BadImage (Some (fault_text number place)) []
 
--- what a command is to do
+-- Holds if this is the work of the command on what is held.
 abbrev pub IsWork : Command → List ℕ → Held → Work → Type 0
 IsWork (Init minimum) bytes held work = work ≡ init_work minimum held
 IsWork command bytes held work = DoneOn command bytes held work

@@ -35,7 +35,7 @@ use Rattle.fs_ops.specs.code.Make as make
 
 -- ---- on a path
 
--- an operation was done on a path of the scene z, which left s, and its answer or refusal was said
+-- An operation on a path was done in the scene z and left s, and its answer or refusal was said.
 pub record Did {A : Type 0} (path : Path) (gives : Objects → Result A FsRefusal → Objects → Type 0) (text : A → List ℕ) (z : Scene)
     (what : Said) (s : Scene) : Type 0 where
   pub answer : Result A FsRefusal
@@ -44,70 +44,70 @@ pub record Did {A : Type 0} (path : Path) (gives : Objects → Result A FsRefusa
 
 -- ---- a file of the input
 
--- the most bytes of an input
+-- The most bytes of an input.
 abbrev pub most_input : ℕ
 most_input = 67108864
 
--- a file was made, and the markers above it kept or deleted, or that was refused
+-- A file was made, and the markers above it were kept or deleted; or the command was refused.
 pub record Created (path : Path) (bytes : List ℕ) (overwrite : Bool) (policy : MarkerPolicy) (z : Scene) (what : Said) (s : Scene) : Type 0
   where
     pub answer : Result (Unit {0}) FsRefusal
     pub given : InFile (fin.get z.content.buckets path.bucket) (λ m n. Creates path bytes overwrite policy m answer n)
         (answer ≡ Err NoSuchBucket) z path.bucket s
     pub undone : IsUndone answer z s
-    -- no upload that was begun since is live
+    -- no upload that was begun by it is live
     pub none : NoneLeft z path.bucket s
     pub told : what ≡ said nothing answer
 
--- unless the input is too large, which is refused before all else
+-- The file was made, or an input that is too large was refused before anything was sent.
 abbrev pub CreatedUnless : Bool → Path → List ℕ → Bool → MarkerPolicy → Scene → Said → Scene → Type 0
 CreatedUnless true path bytes overwrite policy z what s = (what ≡ refusing (codes "too-large") None) × (s ≡ z)
 CreatedUnless false path bytes overwrite policy z what s = Created path bytes overwrite policy z what s
 
--- the objects with the file whole among them
+-- The objects with the whole file added.
 abbrev pub with_file : Path → List ℕ → Objects → Objects
 with_file path bytes m = fin.insert m path.key (object_of bytes)
 
--- the objects are as they were, or the file stands whole, and of the markers above it that go, all or none are gone
+-- The objects are as they were, or the whole file is there. Of the markers above it that must go, all or none are gone.
 abbrev pub IsMadeOrNot : MarkerPolicy → Path → List ℕ → Objects → Objects → Type 0
 IsMadeOrNot policy path bytes m n = (n ≡ m) ⊎ ((n ≡ with_file path bytes m) ⊎ (n ≡ without (with_file path bytes m) (created policy path)))
 
--- what stands at any moment while a file is made: all as it was, or the whole file
+-- Holds at every point while a file is made: the objects are as they were, or the whole file is there.
 abbrev pub FileOrNot : MarkerPolicy → Path → List ℕ → Scene → Scene → Type 0
 FileOrNot policy path bytes z s = InFile (fin.get z.content.buckets path.bucket) (IsMadeOrNot policy path bytes) (Unit {0}) z path.bucket s
 
--- a file was made of the input, or that was refused
+-- A file was made of the input, or the command was refused.
 abbrev pub DidPut : Path → List ℕ → Bool → MarkerPolicy → Scene → Said → Scene → Type 0
 DidPut path bytes overwrite policy z what s = CreatedUnless (nat_lt most_input (length bytes)) path bytes overwrite policy z what s
 
 -- ---- a bucket
 
--- why a new bucket is refused
+-- The word for the refusal of a new bucket, if the reply is one.
 abbrev pub refusal_word : Reply → Option (List ℕ)
 refusal_word (Refused BadName) = Some (codes "bad-name")
 refusal_word (Refused BucketExists) = Some (codes "bucket-exists")
 refusal_word _ = None
 
--- what is said of a refusal, or nothing
+-- What the command says: the refusal with this word, or nothing.
 abbrev pub refused_or_fine : Option (List ℕ) → Said
 refused_or_fine (Some word) = refusing word None
 refused_or_fine None = fine []
 
--- a bucket was made, or that was refused
+-- A bucket was made, or the command was refused.
 abbrev pub DidMake : List ℕ → Scene → Said → Scene → Type 0
 DidMake name z what s = (what ≡ refused_or_fine (refusal_word (answer z (MakeBucket name)))) × (s ≡ apply z (MakeBucket name))
 
 -- ---- each command
 
--- the commands that work on a store
+-- True for the commands that work on the buckets of a store.
 abbrev pub is_of_shell : Command → Bool
 is_of_shell command = is_on_buckets (kind_of command)
 
--- the commands that change nothing
+-- True for the commands that change nothing.
 abbrev pub only_looks : Command → Bool
 only_looks command = is_look (kind_of command)
 
--- what a command does in a scene with the bytes of its input, says, and leaves
+-- The command, begun in the scene z with this input, says this and leaves the scene s.
 abbrev pub Does : Command → List ℕ → Scene → Said → Scene → Type 0
 Does (Mb name) bytes z what s = DidMake name z what s
 Does (Ls path) bytes z what s = Did path (Lists path.key) entry_lines z what s
@@ -128,11 +128,11 @@ Does (CleanMarkers path) bytes z what s = Did path (Cleans path.key) cleaned_lin
 Does (FillMarkers path) bytes z what s = Did path (Fills path.key) filled_line z what s
 Does _ bytes z what s = ⊥
 
--- a path is deleted in part
+-- Holds if the path is deleted in part.
 abbrev pub DeletedSome : Bool → Path → Scene → Scene → Type 0
 DeletedSome recursive path z s = AlwaysIn path.bucket (delete.InPart (record { path = path.key; recursive = recursive })) z s
 
--- what may stand at any moment of a command that was begun in the scene z, with the bytes of its input: wherever it stops, this is left
+-- Holds if a command that was begun in the scene z, with this input, may leave the scene s if it stops at any point.
 abbrev pub MayStandAt : Command → List ℕ → Scene → Scene → Type 0
 MayStandAt (Mb name) bytes z s = AppliedOrNot (MakeBucket name) z s
 MayStandAt (Put path) bytes z s = FileOrNot Keep path bytes z s

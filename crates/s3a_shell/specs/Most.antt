@@ -1,4 +1,4 @@
--- A bound on how many requests each command sends, by what its bucket holds.
+-- A bound on the number of requests that each command sends, given what its bucket holds.
 use Rattle.bucket_ops.specs.Asks.{objects_at}
 use Rattle.bucket_ops.specs.Uploads.{size, uploads_from}
 use Rattle.bucket_ops.specs.Walking.{all_below}
@@ -19,37 +19,37 @@ use Rattle.std.specs.Prelude.{List, None, length, true, ℕ, [], ◌*◌, ◌+�
 
 -- ---- what is counted
 
--- how many files and directories stand right below a path
+-- The number of files and directories directly below a path.
 abbrev pub children_below : List ℕ → Objects → ℕ
 children_below p m = length (listed (prefix_of p) true [] m)
 
--- how many keys are below a path
+-- The number of keys below a path.
 abbrev pub count_below : List ℕ → Objects → ℕ
 count_below p m = length (all_below (prefix_of p) m)
 
--- how many surplus markers are below a path
+-- The number of surplus markers below a path.
 abbrev pub surplus_below : List ℕ → Objects → ℕ
 surplus_below p m = length (surplus_in (all_below (prefix_of p) m))
 
--- how many markers are missing below a path
+-- The number of markers missing below a path.
 abbrev pub missing_below : List ℕ → Objects → ℕ
 missing_below p m = length (missing_in (prefix_of p) (all_below (prefix_of p) m))
 
--- how many uploads are live below a path: none where the bucket does not exist
+-- The number of live uploads below a path: none if the bucket does not exist.
 abbrev pub uploads_at : Path → Scene → ℕ
 uploads_at path z = size (uploads_from z path.bucket (below path.key []) None)
 
 -- ---- how many requests
 
--- the bound of a command on one path: `most` of its bucket's objects, or one request where the bucket does not exist
+-- The bound of a command on one path: `most` of its bucket's objects, or one request if the bucket does not exist.
 abbrev pub most_on : Path → Scene → (Objects → ℕ) → ℕ
 most_on path z most = most_in (objects_at z path.bucket) most
 
--- `put`, `put-force` and `put-drop`: six requests, one for each directory above the file, and one for each byte of the input
+-- `put`, `put-force` and `put-drop`: six requests, one for each directory above the file, and one for each byte of the input.
 abbrev pub most_put : Path → List ℕ → ℕ
 most_put path bytes = 6 + length (keys_above path.key) + length bytes
 
--- no command sends more requests than this, where z is the scene in which it begins and bytes is its input
+-- The most requests that a command sends if it begins in the scene z with this input.
 abbrev pub most_requests : Command → List ℕ → Scene → ℕ
 most_requests (Mb name) bytes z = 1
 most_requests (Ls path) bytes z = most_on path z (λ m. 2 + children_below path.key m)

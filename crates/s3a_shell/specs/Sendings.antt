@@ -1,4 +1,4 @@
--- What the shell sends.
+-- The requests that the shell sends.
 use Rattle.log_format.specs.Change.{is_changing}
 use Rattle.machine.specs.Counted.{AreAnswered}
 use Rattle.machine.specs.Turns.{AreBy}
@@ -16,7 +16,7 @@ use Rattle.s3a_shell.specs.declared.session.Session.{Session}
 use Rattle.std.specs.List.{AllByRecursion, list_any}
 use Rattle.std.specs.Prelude.{Bool, List, false, length, not, take, true, ℕ, ◌&&◌, ◌++◌, ◌+◌, ◌≡◌, ◌≤◌, ◌⊎◌}
 
--- a journal gained sendings by the shell, in event 0, each with the answer that was due, which lead from the scene z to s
+-- A journal gained requests of the shell, in event 0, each with the reply that S3 must give. They lead from the scene z to s.
 pub record Sends (always : Scene → Type 0) (old : List Entry) (z : Scene) (new : List Entry) (s : Scene) : Type 0 where
   pub part : List Entry
   pub appended : new ≡ old ++ part
@@ -24,54 +24,54 @@ pub record Sends (always : Scene → Type 0) (old : List Entry) (z : Scene) (new
   pub answered : AreAnswered part
   pub honest : AreHonest z part
   pub scene : s ≡ after_all z part
-  -- this is so before the first of them and after each
+  -- this holds before the first of them and after each
   pub moments : (m : ℕ) → always (after_all z (take m part))
 
--- each request that the store was asked is in the journal
+-- Holds if the store was asked no more requests than the journal has.
 abbrev pub IsCounted : Session → Type 0
 IsCounted a = a.store.requests ≤ length a.journal.entries
 
--- a session went on by such sendings alone
+-- The session went on only by such requests.
 pub record Sent (always : Scene → Type 0) (a b : Session) : Type 0 where
   pub sends : Sends always a.journal.entries a.store.scene b.journal.entries b.store.scene
   pub counted : IsCounted b
 
--- it asked such requests alone
+-- The session asked only such requests.
 pub record Asked (sends : Request → Type 0) (a b : Session) : Type 0 where
   pub part : List Entry
   pub appended : b.journal.entries ≡ a.journal.entries ++ part
   pub each : AllByRecursion (λ e. sends e.request) part
 
--- a session sent at most n requests
+-- Holds if the session sent at most n requests.
 abbrev pub AtMost : ℕ → Session → Session → Type 0
 AtMost n a b = length b.journal.entries ≤ length a.journal.entries + n
 
--- a request has had its effect, or not yet
+-- Holds if the request has taken effect in s, or not yet.
 abbrev pub AppliedOrNot : Request → Scene → Scene → Type 0
 AppliedOrNot r z s = (s ≡ z) ⊎ (s ≡ apply z r)
 
--- a sending by the shell that was answered
+-- The entry of a request of the shell that was answered.
 abbrev pub answered_by : Request → Reply → Entry
 answered_by request reply = record { event = 0; actor = Shell; request = request; outcome = Answered reply }
 
 -- ---- what changes a store
 
--- the reply is a refusal
+-- True if the reply is a refusal.
 abbrev pub is_refusal : Reply → Bool
 is_refusal (Refused r) = true
 is_refusal _ = false
 
--- a sending took effect, as far as is known, and was not refused
+-- True if the request may have taken effect: it was answered and not refused, or its reply was lost.
 abbrev pub is_taken : Outcome → Bool
 is_taken (Answered reply) = not (is_refusal reply)
 is_taken Slow = false
 is_taken RequestLost = false
 is_taken ReplyLost = true
 
--- an effective sending of a request that is no read and no list, which was not refused
+-- True if the request is no read and no list, and may have taken effect.
 abbrev pub is_change : Entry → Bool
 is_change entry = is_changing entry.request && is_taken entry.outcome
 
--- some of these sendings may have changed the store
+-- True if some of these requests may have changed the store.
 abbrev pub has_changed : List Entry → Bool
 has_changed entries = list_any is_change entries

@@ -18,38 +18,38 @@ use Rattle.std.specs.List.{flat_map, sum_by}
 use Rattle.std.specs.Prelude.{List, None, Option, Some, codes, length, take, ℕ, [], ◌++◌, ◌∷◌, ◌≡◌}
 use Rattle.std.specs.FinMap as fin
 
--- the live uploads below a path of a bucket, by key and then by id; at the root, all
+-- The live uploads of a bucket below a path, by key and then by id. At the root these are all.
 abbrev pub uploads_below : Path → BucketContent → List UploadRef
 uploads_below path c = listed (below path.key []) None c.uploads
 
--- the parts that an upload has
+-- The sizes of an upload's parts.
 abbrev pub sizes_of : Option Upload → List PartSize
 sizes_of None = []
 sizes_of (Some u) = sizes u.parts
 
--- how many bytes these parts have
+-- The sum of the parts' lengths in bytes.
 abbrev pub bytes_in : List PartSize → ℕ
 bytes_in parts = sum_by (λ p. p.length) parts
 
--- `ID PARTS BYTES KEY`: the upload's id, how many parts it has, their bytes, and its key
+-- `ID PARTS BYTES KEY`: the upload's id, the number of its parts, their bytes, and its key.
 abbrev pub upload_line : UploadRef → List PartSize → List ℕ
 upload_line r parts = decimal r.upload ++ (codes " " ++ (decimal (length parts) ++
     (codes " " ++ (decimal (bytes_in parts) ++ (codes " " ++ (r.key ++ 10 ∷ []))))))
 
--- a line for each of them
+-- A line for each of these uploads.
 abbrev pub upload_lines : BucketContent → List UploadRef → List ℕ
 upload_lines c rs = flat_map (λ r. upload_line r (sizes_of (live c.uploads r.key r.upload))) rs
 
--- the refusal of a command on uploads
+-- What a command on uploads says if the bucket does not exist.
 abbrev pub no_bucket : Said
 no_bucket = refusing (codes "no-such-bucket") None
 
--- what the list of live uploads below a path says, by what the bucket holds
+-- Holds if `uploads` says this, given what the bucket holds.
 abbrev pub ListedIn : Option BucketContent → Path → Said → Type 0
 ListedIn None path what = what ≡ no_bucket
 ListedIn (Some c) path what = what ≡ fine (upload_lines c (uploads_below path c))
 
--- the uploads were listed, and nothing changed
+-- The uploads were listed, and nothing changed.
 abbrev pub DidList : Path → Scene → Said → Scene → Type 0
 DidList path z what s = ListedIn (fin.get z.content.buckets path.bucket) path what × (s ≡ z)
 
@@ -57,7 +57,7 @@ DidList path z what s = ListedIn (fin.get z.content.buckets path.bucket) path wh
 abbrev pub aborted_line : ℕ → List ℕ
 aborted_line count = codes "aborted " ++ (decimal count ++ 10 ∷ [])
 
--- these uploads of a bucket that held c are gone, and nothing else changed
+-- These uploads of a bucket that held c are gone, and nothing else changed.
 pub record AreEnded (bucket : List ℕ) (c : BucketContent) (rs : List UploadRef) (z s : Scene) : Type 0 where
   pub content : BucketContent
   pub scene : s ≡ placed z bucket content z.content.next
@@ -65,49 +65,49 @@ pub record AreEnded (bucket : List ℕ) (c : BucketContent) (rs : List UploadRef
   pub gone : (r : UploadRef) → IsIn r rs → live content.uploads r.key r.upload ≡ None
   pub kept : (id : ℕ) → ((r : UploadRef) → IsIn r rs → r.upload ≡ id → ⊥) → fin.get content.uploads id ≡ fin.get c.uploads id
 
--- what the abort of the live uploads below a path says and leaves, by what the bucket held
+-- Holds if `abort-uploads` says this and leaves the scene s, given what the bucket held.
 abbrev pub AbortedIn : Option BucketContent → Path → Scene → Said → Scene → Type 0
 AbortedIn None path z what s = (what ≡ no_bucket) × (s ≡ z)
 AbortedIn (Some c) path z what s = (what ≡ fine (aborted_line (length (uploads_below path c))))
     × AreEnded path.bucket c (uploads_below path c) z s
 
--- the uploads were aborted
+-- The uploads were aborted, or the bucket does not exist.
 abbrev pub DidAbort : Path → Scene → Said → Scene → Type 0
 DidAbort path z what s = AbortedIn (fin.get z.content.buckets path.bucket) path z what s
 
--- the first so many of the live uploads below a path are gone
+-- Holds if the first few of the live uploads below a path are gone, and nothing else changed.
 abbrev pub EndedSome : Option BucketContent → Path → Scene → Scene → Type 0
 EndedSome None path z s = s ≡ z
 EndedSome (Some c) path z s = (n : ℕ) × AreEnded path.bucket c (take n (uploads_below path c)) z s
 
--- what stands at any moment while uploads are aborted
+-- Holds at every point while uploads are aborted: the first few of them are gone.
 abbrev pub AbortedSome : Path → Scene → Scene → Type 0
 AbortedSome path z s = EndedSome (fin.get z.content.buckets path.bucket) path z s
 
--- ---- as it is asked
+-- ---- by requests
 
--- the parts that a reply tells
+-- The part sizes in a reply.
 abbrev pub sizes_in : Reply → List PartSize
 sizes_in (Parts sizes) = sizes
 sizes_in _ = []
 
--- the line of an upload by what is answered of its parts
+-- The line of an upload, with the parts that the store reports.
 abbrev pub asked_line : Scene → List ℕ → UploadRef → List ℕ
 asked_line z b r = upload_line r (sizes_in (answer z (ListParts b r.key r.upload)))
 
--- the lines of these uploads
+-- The lines of these uploads.
 abbrev pub asked_lines : Scene → List ℕ → List UploadRef → List ℕ
 asked_lines z b rs = flat_map (asked_line z b) rs
 
--- the abort of an upload
+-- The request that aborts an upload.
 abbrev pub aborts : List ℕ → UploadRef → Request
 aborts b r = AbortUpload b r.key r.upload
 
--- the scene after these were aborted one by one
+-- The scene after these uploads were aborted one by one.
 abbrev pub after_aborts : Scene → List ℕ → List UploadRef → Scene
 after_aborts s b [] = s
 after_aborts s b (r ∷ rs) = after_aborts (apply s (aborts b r)) b rs
 
--- the first so many of them were aborted
+-- Holds if the first few of them were aborted.
 abbrev pub AfterSome : List ℕ → List UploadRef → Scene → Scene → Type 0
 AfterSome b rs z s = (n : ℕ) × (s ≡ after_aborts z b (take n rs))

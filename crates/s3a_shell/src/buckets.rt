@@ -8,7 +8,7 @@ use crate::session::Session;
 use s3_types::{Bytes, Refusal, Reply, Request, Text, let_go};
 use std::alloc::{AllocError, Global};
 
-/// Why a new bucket was refused, if it was.
+/// The word for the refusal of a new bucket, if this reply is one.
 fn refusal_word(reply: &Reply) -> Option<&'static str>
     ensures { option_map (λ word. word.now) result ≡ refusal_word reply.now }
 {
@@ -19,7 +19,7 @@ fn refusal_word(reply: &Reply) -> Option<&'static str>
     }
 }
 
-/// What the making of a bucket says.
+/// What `mb` says: nothing, or the refusal.
 fn making_said(alloc: Global, why: Option<&str>) -> Result<Said, AllocError>
     ensures { IfOk result (λ what. what ≡ refused_or_fine (option_map (λ w. w.now) why.entry)) }
 {
@@ -30,7 +30,7 @@ fn making_said(alloc: Global, why: Option<&str>) -> Result<Said, AllocError>
 }
 
 impl Session {
-    /// Asks the store for a new bucket, and answers why it is refused, if it is.
+    /// Asks the store for a new bucket, and returns the word of the refusal if it is refused.
     fn ask_bucket(&mut self, name: &Text) -> Result<Option<&'static str>, AllocError>
         requires { IsCounted self.old }
         ensures word { IfOk result (λ word. option_map (λ w. w.now) word ≡ refusal_word

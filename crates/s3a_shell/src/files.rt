@@ -48,8 +48,8 @@ impl Session {
         }
     }
 
-    /// Makes a file of the input, and keeps or deletes the markers above it. Too many bytes are refused before all
-    /// else.
+    /// Makes a file of the input, and keeps or deletes the markers above it. An input over
+    /// `MOST_INPUT` is refused first, with `too-large`, and nothing is sent.
     pub(crate) fn put(
         &mut self,
         path: &S3Path,

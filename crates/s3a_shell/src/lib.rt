@@ -1,27 +1,39 @@
-//! The shell: a command on the files and directories of a store, what it says, and what it sends. (Hadoop
-//! FileSystem specification.)
+//! The shell: it does a command on the files and directories of a store. It returns the text of the
+//! command and the requests that it sent. (Hadoop FileSystem specification.)
 //!
 //! # What is proved
 //!
-//! `shell`: A command on a store does and says what the FileSystem specification has of its operation,
-//! by the tree of its bucket's objects (`Does`), and at each moment there stands what may stand then
-//! (`moments`); `mb`, `uploads` and `abort-uploads` what the store's rules have. Its sendings are the
-//! shell's, in event 0, each with the answer that was due, and the store that it leaves is what they
-//! make of the one that it was given. Each request is one of its operation, and what is not due is not sent (`asked`):
-//! `mkdir` puts no marker of a directory that stands, `cp` copies no key again that stood, `clean-markers` sends no empty
-//! batch, and a refused command sends looks alone. No command sends more requests than `most_requests` gives, by what
-//! its bucket holds (`few`): `stat` and `cat` send two at most, and `ls` one more for each entry. Other buckets stand,
-//! and so do all uploads but those that `abort-uploads` ends (`stays`); what was refused, or sent no change, leaves the
-//! store as it was.
-//! One that only looks sends no change (`reads`), and no upload is live at the end that was begun by
-//! the command (`ended`).
+//! `shell` does a command on a store:
 //!
-//! `work_of`: What a command but `job`, `gen` and `twins` is to do on what is held: `init` keeps a new store, or
-//! says that one stands; of the others, done by `shell` on the store that is held, or on a new one,
-//! what is refused or sent no change is to be said, with the store as it was, and else the store is to
-//! be kept as it was and then what was sent (`IsWork`). A command that only looks sends no change, and
-//! no upload is left that a command began (`reads`, `ended`), and no command sends more requests than `most_requests`
-//! gives (`few`). A fault of what is held is to be said.
+//! - A command does and says what the FileSystem specification has for its operation, on the tree
+//!   of its bucket's objects (`Does`). `mb`, `uploads` and `abort-uploads` follow the store's
+//!   rules.
+//! - At every point the store is in a state that the command may leave there (`moments`).
+//! - The requests are the shell's, in event 0. Each has the reply that S3 must give, and together
+//!   they make the store that the command leaves.
+//! - Each request is one of the command's operation, and the command sends none that it does not
+//!   need (`asked`). `mkdir` puts no marker for a directory that exists, and `cp` copies no key
+//!   that the target already has. `clean-markers` sends no empty batch, and a refused command only
+//!   looks.
+//! - No command sends more requests than `most_requests` gives for what its bucket holds (`few`).
+//!   `stat` and `cat` send at most two, and `ls` one more for each entry.
+//! - Other buckets are unchanged, and so are all uploads but those that `abort-uploads` ends
+//!   (`stays`).
+//! - A command that was refused or sent no change leaves the store as it was (`refused`, `same`).
+//!   One that only looks sends no change (`reads`).
+//! - At the end no upload is live that the command began (`ended`).
+//!
+//! `work_of` returns what a command other than `job`, `gen` and `twins` does on what the shelf was
+//! found to hold (`IsWork`):
+//!
+//! - `init` stores a new store, or says that one exists.
+//! - The others are done by `shell`, on the store that is held or on a new one.
+//! - If a command is refused or sends no change, its text is to be written, and the store stays as
+//!   it was.
+//! - Otherwise the store is to be stored as it was, and then what the command sent.
+//! - The promises of `shell` about changes, uploads and the number of requests hold here too
+//!   (`reads`, `ended` and `few` of `Done`).
+//! - If what is held is no store, its fault is reported.
 #![tactic(auto)]
 
 mod buckets;

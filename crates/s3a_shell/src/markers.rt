@@ -90,7 +90,7 @@ fn filled_said(alloc: Global, answer: Result<u64, FsRefusal>) -> Result<Said, Al
 }
 
 impl Session {
-    /// Tells the markers at a path and below it.
+    /// Lists the markers at a path and below it.
     pub(crate) fn markers(&mut self, path: &S3Path) -> Result<Said, AllocError>
         requires { IsCounted self.old }
         ensures did { IfOk result (λ what. Did path.now (Audits path.now.key) marker_lines self.old.store.scene

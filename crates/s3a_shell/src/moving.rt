@@ -14,7 +14,7 @@ use path_keys::S3Path;
 use s3_types::{Actor, Bytes};
 use std::alloc::{AllocError, Global};
 
-/// The refusal of a renaming.
+/// What `mv` says if it is refused.
 fn refused_move(alloc: Global, refusal: &RenameRefusal) -> Result<Said, AllocError>
     ensures { IfOk result (λ what. what ≡ refused_move refusal.now) }
 {
@@ -32,7 +32,7 @@ fn refused_move(alloc: Global, refusal: &RenameRefusal) -> Result<Said, AllocErr
     }
 }
 
-/// What a renaming says: nothing, or its refusal.
+/// What `mv` says: nothing, or its refusal.
 fn move_said(alloc: Global, answer: Result<(), RenameRefusal>) -> Result<Said, AllocError>
     ensures { IfOk result (λ what. what ≡ said_of_move answer) }
 {
@@ -42,7 +42,7 @@ fn move_said(alloc: Global, answer: Result<(), RenameRefusal>) -> Result<Said, A
     }
 }
 
-/// The refusal of a copy.
+/// What `cp` says if it is refused.
 fn refused_copy(alloc: Global, refusal: &CopyRefusal) -> Result<Said, AllocError>
     ensures { IfOk result (λ what. what ≡ refused_copy refusal.now) }
 {
@@ -67,7 +67,7 @@ fn copied_line(alloc: Global, count: CopyCount) -> Result<Bytes, AllocError>
     Bytes::new(alloc, line.into_bytes())
 }
 
-/// What a copy says: its line, or its refusal.
+/// What `cp` says: its line, or its refusal.
 fn copy_said(alloc: Global, answer: Result<CopyCount, CopyRefusal>) -> Result<Said, AllocError>
     ensures { IfOk result (λ what. what ≡ said_of_copy answer) }
 {

@@ -22,8 +22,13 @@ use s3_types::{Bytes, Entry, Journal, Outcome, Reply, let_go};
 use s3a_words::{Command, CommandKind};
 use std::alloc::{AllocError, Global};
 
-/// What a command of the shell leaves: the store; whether that is to be kept; whether the command was refused; what is
-/// to be written; and what was sent.
+/// The end of a command of the shell.
+///
+/// - `service`: the store that the command leaves.
+/// - `changed`: true if that store may differ from the one before.
+/// - `refused`: true if the command was refused.
+/// - `text`: the text to write.
+/// - `journal`: the requests that were sent.
 #[derive(Drop)]
 pub struct ShellEnd {
     pub service: Service,
@@ -65,7 +70,8 @@ fn has_changed(entries: &[Entry]) -> bool
     entries.iter().any(|entry| is_change(entry))
 }
 
-/// Whether a command only looks: `ls`, `stat`, `cat`, `uploads` and `markers` do. `shell` sends no change for it.
+/// True if the command only looks: `ls`, `stat`, `cat`, `uploads` and `markers`. `shell` sends no
+/// change for it.
 pub fn only_looks(command: &Command) -> bool
     ensures { result ≡ only_looks command.now }
 {
@@ -109,7 +115,7 @@ impl Session {
         }
     }
 
-    /// The end of a command.
+    /// Ends a command with its text.
     fn ended(self, said: Said) -> ShellEnd
         ensures below { AreBelow result.service.buckets result.service.next }
         ensures end { result ≡ record {
@@ -139,14 +145,23 @@ impl Session {
     }
 }
 
-/// Does a command of the shell on a store, where `bytes` are its input. `text` is what it says, or the line of its
-/// refusal: `refused WORD`, and behind a blank the value that is kept. `changed` tells whether some request was
-/// answered that is no read and no list and was not refused; where it is false, the store is as it was, and so it is
-/// where the command was refused. At any moment, wherever it stops, there stands what may stand then of the command
-/// (`MayStandAt`). Each request is one of the command's operation (`MaySend`): what a command does not want it does not
-/// send. It sends at most as many requests as `most_requests` gives, by what its bucket holds. One that only looks sends
-/// no change, and at the end no upload is live that the command began. Markers are kept, but by `put-drop`, and each
-/// request is sent once. (Hadoop FileSystem specification.)
+/// Does a command of the shell on a store; `bytes` are the command's input. (Hadoop FileSystem
+/// specification.)
+///
+/// - `text` is what the command says. If it is refused, it is the line `refused WORD`, where some
+///   words are followed by a blank and the value that the refusal names.
+/// - `changed` is true if some request that is no read and no list was answered and not refused. If
+///   it is false, or the command was refused, the store is as it was.
+/// - At every point, wherever the command stops, the store is as the command may leave it there
+///   (`MayStandAt`).
+/// - Each request is one of the command's operation (`MaySend`); the command sends none that it
+///   does not need. It sends at most as many as `most_requests` gives for what its bucket holds,
+///   and each once.
+/// - A command that only looks sends no change. At the end no upload is live that the command
+///   began.
+/// - Markers are kept, except by `put-drop`.
+///
+/// Fails with `AllocError` only if memory runs out.
 pub fn shell(
     alloc: Global,
     command: &Command,

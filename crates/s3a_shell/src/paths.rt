@@ -52,7 +52,7 @@ fn entry_lines(alloc: Global, entries: &[DirEntry]) -> Result<Bytes, AllocError>
     Bytes::new(alloc, lines.into_bytes())
 }
 
-/// What an operation says that answers a status.
+/// What `stat` says: its line, or its refusal.
 fn status_said(alloc: Global, answer: Result<Status, FsRefusal>) -> Result<Said, AllocError>
     ensures { IfOk result (λ what. what ≡ said status_line answer) }
 {
@@ -62,7 +62,7 @@ fn status_said(alloc: Global, answer: Result<Status, FsRefusal>) -> Result<Said,
     }
 }
 
-/// What an operation says that answers what a directory holds.
+/// What `ls` says: a line for each entry, or its refusal.
 fn list_said(alloc: Global, answer: Result<DirList, FsRefusal>) -> Result<Said, AllocError>
     ensures { IfOk result (λ what. what ≡ said entry_lines answer) }
 {
@@ -73,7 +73,7 @@ fn list_said(alloc: Global, answer: Result<DirList, FsRefusal>) -> Result<Said, 
 }
 
 impl Session {
-    /// What stands at a path.
+    /// Looks whether the path is a file or a directory.
     pub(crate) fn stat(&mut self, path: &S3Path) -> Result<Said, AllocError>
         requires { IsCounted self.old }
         ensures did { IfOk result (λ what. Did path.now (Stats path.now.key) status_line self.old.store.scene
@@ -88,7 +88,7 @@ impl Session {
         status_said(self.alloc, answer)
     }
 
-    /// What a directory holds.
+    /// Lists what a directory has.
     pub(crate) fn ls(&mut self, path: &S3Path) -> Result<Said, AllocError>
         requires { IsCounted self.old }
         ensures did { IfOk result (λ what. Did path.now (Lists path.now.key) entry_lines self.old.store.scene
@@ -104,7 +104,7 @@ impl Session {
         list_said(self.alloc, answer)
     }
 
-    /// The bytes of a file.
+    /// Reads the bytes of a file.
     pub(crate) fn cat(&mut self, path: &S3Path) -> Result<Said, AllocError>
         requires { IsCounted self.old }
         ensures did { IfOk result (λ what. Did path.now (Reads path.now.key) bytes_alone self.old.store.scene
@@ -135,7 +135,7 @@ impl Session {
         nothing_said(self.alloc, answer)
     }
 
-    /// Deletes a path, where it is recursive with all that is below it.
+    /// Deletes a path, and all below it if `recursive` is set.
     pub(crate) fn remove(&mut self, path: &S3Path, recursive: bool) -> Result<Said, AllocError>
         requires { IsCounted self.old }
         ensures did { IfOk result (λ what. Did path.now (Deletes recursive path.now.key) nothing self.old.store.scene

@@ -5,14 +5,14 @@ use fs_tree::FsRefusal;
 use s3_types::Bytes;
 use std::alloc::{AllocError, Global};
 
-/// What a command says: whether it was refused, and its text.
+/// What a command says: its text, and whether it was refused.
 #[derive(Drop)]
 pub struct Said {
     pub refused: bool,
     pub text: Bytes,
 }
 
-/// A text that is no refusal. Takes no memory.
+/// What a command that is not refused says. Takes no memory.
 pub fn fine(text: Bytes) -> Said
     ensures { result ≡ fine text }
 {
@@ -31,7 +31,7 @@ fn refused_line(alloc: Global, word: &str, kept: Option<&str>) -> Result<String,
     }
 }
 
-/// A refusal by its word and the value that it keeps.
+/// A refusal with its word and, for some words, the value that it names.
 pub fn refusing(alloc: Global, word: &str, kept: Option<&str>) -> Result<Said, AllocError>
     ensures { IfOk result (λ what. what ≡ refusing word.now (option_map (λ k. k.now) kept.entry)) }
 {
@@ -42,7 +42,7 @@ pub fn refusing(alloc: Global, word: &str, kept: Option<&str>) -> Result<Said, A
     })
 }
 
-/// The refusal of an operation.
+/// What a command says if its operation is refused.
 pub fn refused(alloc: Global, refusal: &FsRefusal) -> Result<Said, AllocError>
     ensures { IfOk result (λ what. what ≡ refused refusal.now) }
 {
@@ -57,7 +57,7 @@ pub fn refused(alloc: Global, refusal: &FsRefusal) -> Result<Said, AllocError>
     }
 }
 
-/// What an operation says that answers bytes.
+/// What an operation that returns bytes says: those bytes, or its refusal.
 pub fn bytes_said(alloc: Global, answer: Result<Bytes, FsRefusal>) -> Result<Said, AllocError>
     ensures { IfOk result (λ what. what ≡ said bytes_alone answer) }
 {
@@ -67,7 +67,7 @@ pub fn bytes_said(alloc: Global, answer: Result<Bytes, FsRefusal>) -> Result<Sai
     }
 }
 
-/// What an operation says that answers nothing.
+/// What an operation that returns nothing says: nothing, or its refusal.
 pub fn nothing_said(alloc: Global, answer: Result<(), FsRefusal>) -> Result<Said, AllocError>
     ensures { IfOk result (λ what. what ≡ said nothing answer) }
 {

@@ -14,13 +14,13 @@ use s3_types::{Actor, Entry, Journal, Outcome, Reply, Request};
 use std::alloc::{AllocError, Global};
 use store_link::MemStore;
 
-/// The event of all sendings.
+/// The event of all requests of the shell.
 pub(crate) const EVENT: u32 = 0;
 
-/// A request that gets no answer is not sent again; a store in memory answers each.
+/// The shell sends no request again: a store in memory answers each.
 pub(crate) const RETRIES: u32 = 0;
 
-/// A store on which a command is done, and what was sent to it.
+/// A store on which a command is done, and the requests that were sent to it.
 #[derive(Drop)]
 pub(crate) struct Session {
     pub(crate) alloc: Global,
@@ -28,7 +28,8 @@ pub(crate) struct Session {
     pub(crate) journal: Journal,
 }
 
-/// Want of memory: nothing else stops an operation whose requests are all answered.
+/// The error for memory that ran out. Nothing else stops an operation whose requests are all
+/// answered.
 pub(crate) fn wanting(stop: DriveStop) -> AllocError
     requires { stop ≢ DriveStop.StoreFault }
 {
@@ -87,7 +88,7 @@ impl Session {
         }
     }
 
-    /// Does a request, once there is room for its entry.
+    /// Applies a request to the store, after making room for its entry in the journal.
     pub(crate) fn answered(&mut self, request: &Request) -> Result<Reply, AllocError>
         requires counted { IsCounted self.old }
         ensures reply { IfOk result (λ reply. reply ≡ answer self.old.store.scene request.now) }
@@ -101,7 +102,7 @@ impl Session {
         self.store.apply(request)
     }
 
-    /// Writes down a sending that was answered. Takes no memory.
+    /// Writes a request and its reply into the journal. Takes no memory.
     pub(crate) fn write_down(&mut self, request: Request, reply: Reply)
         requires room { 0 < self.old.journal.room }
         requires few { length self.old.journal.entries + 1 < 2 ^ 62 }

@@ -17,7 +17,7 @@ use s3_types::{
 };
 use std::alloc::{AllocError, Global};
 
-/// What the keys of the uploads below a path begin with.
+/// The prefix of all keys below a path.
 fn prefix_of(alloc: Global, path: &S3Path) -> Result<Text, AllocError>
     ensures { IfOk result (λ prefix. prefix ≡ below path.now.key []) }
 {
@@ -25,7 +25,7 @@ fn prefix_of(alloc: Global, path: &S3Path) -> Result<Text, AllocError>
     Text::new(alloc, text)
 }
 
-/// The bytes of parts together.
+/// The sum of the parts' lengths in bytes.
 fn bytes_in(parts: &[PartSize]) -> u128
     ensures { result ≡ bytes_in parts.now }
 {
@@ -47,7 +47,7 @@ fn put_line(lines: &mut String, upload: &UploadRef, parts: &[PartSize]) -> Resul
     write!(lines, "{id} {count} {bytes} {key}\n")
 }
 
-/// Adds the line of an upload whose parts a reply tells.
+/// Adds the line of an upload whose parts are in a reply.
 fn put_reply(lines: &mut String, upload: &UploadRef, reply: &Reply) -> Result<(), AllocError>
     ensures { OnOk result (string_bytes lines.new ≡ string_bytes lines.old
         ++ upload_line upload.now (sizes_in reply.now)) }
@@ -67,7 +67,7 @@ fn aborted_line(alloc: Global, count: usize) -> Result<Bytes, AllocError>
 }
 
 impl Session {
-    /// The live uploads below a path, or None where there is no bucket.
+    /// The live uploads below a path, or None if the bucket does not exist.
     fn live_uploads(&mut self, path: &S3Path) -> Result<Option<UploadList>, AllocError>
         requires { IsCounted self.old }
         ensures found { IfOk result (λ found. found ≡ uploads_from self.old.store.scene path.now.bucket

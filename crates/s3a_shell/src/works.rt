@@ -17,21 +17,21 @@ use s3_types::{Bytes, Journal, MOST_MINIMUM, let_go};
 use s3a_words::{Command, CommandKind};
 use std::alloc::{AllocError, Global};
 
-/// Whether a command reads the input: `put`, `put-force` and `put-drop` do.
+/// True if the command reads the input: `put`, `put-force` and `put-drop`.
 pub fn takes_input(command: &Command) -> bool
     ensures { result ≡ takes_input command.now }
 {
     matches!(command.kind(), CommandKind::Puts)
 }
 
-/// Whether a command plays a job, or two: `job`, `gen` and `twins` do.
+/// True if the command runs jobs: `job`, `gen` and `twins`.
 pub fn plays(command: &Command) -> bool
     ensures { result ≡ plays command.now }
 {
     matches!(command.kind(), CommandKind::Plays)
 }
 
-/// What is to be said where the shelf holds no store.
+/// The work that reports that the shelf holds no store.
 fn faulty(alloc: Global, number: u8, place: u64) -> Result<Work, AllocError>
     ensures { IfOk result (λ work. work_in work ≡ works.Says Status.BadImage (Some (fault_text number place)) []) }
 {
@@ -42,7 +42,7 @@ fn faulty(alloc: Global, number: u8, place: u64) -> Result<Work, AllocError>
     }))
 }
 
-/// What is to be said where a store stands already.
+/// The work that refuses `init` because a store exists.
 fn exists(alloc: Global) -> Result<Work, AllocError>
     ensures { IfOk result (λ work.
         work_in work ≡ works.Says Status.Refused (Some (refused_line (codes "exists") None)) []) }
@@ -77,7 +77,7 @@ fn init_work(alloc: Global, minimum: Option<u64>, held: Held) -> Result<Work, Al
     }
 }
 
-/// What is to be said of a command that was refused, or sent no change to the store, whatever that was.
+/// The work that says the text of a command that was refused or sent no change.
 fn said(end: ShellEnd) -> Work
     requires same { (end.refused ≡ true) ⊎ (end.changed ≡ false) }
     ensures { (c : Content) → work_in result ≡ work_said end.refused end.changed c end.text end.journal.entries }
@@ -101,7 +101,7 @@ fn said(end: ShellEnd) -> Work
     })
 }
 
-/// What is to be done of what a command left.
+/// The work for the end of a command.
 fn work_in(end: ShellEnd, opening: Service) -> Work
     ensures { work_in result ≡ work_said end.refused end.changed opening end.text end.journal.entries }
 {
@@ -124,7 +124,7 @@ fn work_in(end: ShellEnd, opening: Service) -> Work
     }
 }
 
-/// A command that only looks is done on a store, which is not copied.
+/// Does a command that only looks on a store. It makes no copy of the store.
 fn looked(
     alloc: Global,
     command: &Command,
@@ -142,7 +142,8 @@ fn looked(
     }
 }
 
-/// A command is done on a store, of which a copy is kept as it was, unless the command only looks.
+/// Does a command on a store. Unless it only looks, a copy of the opening store is kept for the
+/// work.
 fn done(
     alloc: Global,
     command: &Command,
@@ -169,7 +170,7 @@ fn done(
     }
 }
 
-/// A command is done on what is held.
+/// Does a command on what is held.
 fn done_on(alloc: Global, command: &Command, bytes: Bytes, held: Held) -> Result<Work, AllocError>
     requires one { is_of_shell command.now ≡ true }
     requires sound { IsSound held }
@@ -185,10 +186,16 @@ fn done_on(alloc: Global, command: &Command, bytes: Bytes, held: Held) -> Result
     }
 }
 
-/// What a command but `job`, `gen` and `twins` is to do on what a shelf was found to hold, where `bytes` are its input.
-/// `init` keeps a new store where nothing is held, and is refused else. The others are done on the store that is held, or
-/// on a new one where nothing is; what is refused, and what sent no change, is to be said, and else the store is to be kept
-/// as it was, and then what was sent to it. What is no store is told with its first fault. Only want of memory is an error.
+/// The work of a command other than `job`, `gen` and `twins`, on what the shelf was found to hold;
+/// `bytes` are the command's input.
+///
+/// - `init` stores a new store if nothing is held, and is refused otherwise.
+/// - The others are done on the store that is held, or on a new one if none is.
+/// - If the command is refused or sends no change, its text is to be written. Otherwise the store
+///   is to be stored as it was, and then what was sent to it.
+/// - If what is held is no store, its first fault is reported.
+///
+/// Fails with `AllocError` only if memory runs out.
 pub fn work_of(
     alloc: Global,
     command: &Command,

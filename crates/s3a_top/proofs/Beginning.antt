@@ -1,4 +1,4 @@
--- Over which stores a job may begin.
+-- The stores with which a job may begin.
 use Rattle.durable_store.proofs.Found.{few_ids}
 use Rattle.job_world.specs.Worlds.{MayBegin}
 use Rattle.journal_log.proofs.Imaged.{new, one}
@@ -11,7 +11,7 @@ use Rattle.std.proofs.Common.{Bool, List, None, Option, Some, arith, cond, false
 use Rattle.store_image.specs.Content.{IsContent}
 use Rattle.std.specs.FinMap as map
 
--- one that can have an image
+-- A job may begin with a store that can be written as an image.
 pub image_begins : (c : Content) → IsContent c → MayBegin c
 image_begins c h = record { few = few_ids c h }
 
@@ -24,7 +24,7 @@ few_made c name None h = by (is_bucket name)
     by true = h
     by false = h
 
--- so can a new one in which a bucket was made
+-- A new store in which a bucket was made can be written as an image too.
 pub new_image : (name : List ℕ) (c : Content) → c ≡ apply_store (new_content MOST_MINIMUM) (MakeBucket name) → IsContent c
 new_image name c e =
     let first = new_content MOST_MINIMUM in

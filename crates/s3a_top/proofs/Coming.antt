@@ -1,4 +1,4 @@
--- What comes of words, by what came of their command.
+-- The outcome of words follows from the outcome of their command.
 use Rattle.exit_status.specs.Statuses.{code, written_text}
 use Rattle.s3a_shell.specs.Commanded.{plays}
 use Rattle.s3a_top.proofs.Crashing.{unmoved}
@@ -29,7 +29,7 @@ not_said (Some d) c is is_not = absurd (cc)
 -- ---- a command
 
 module _ {S : Type 0} (F : Sight S) (command : Command) (left rest : Option (List ℕ)) where
-  -- since its shelf was loaded, and before
+  -- the outcome since the load, extended to the time before the load
   pub job_from : (result : Result Work Stop) → IsTimed F → (old mid new : S) → F.held mid ≡ F.held old → F.answers Load old mid
       → CrashesLeave F old mid (F.may_leave old) → JobSince F command left rest mid new result → JobGoes F command left rest old new result
   job_from (Ok work) timed old mid new same answered load over = played_from F timed command left rest old mid new work same answered load
@@ -45,7 +45,7 @@ module _ {S : Type 0} (F : Sight S) (command : Command) (left rest : Option (Lis
       → Goes F command left rest old new result
   goes_store result old new is goes = record { job = λ e. not_both (plays command) e is; store = λ e. goes }
 
-  -- a stop is none of words that are no command
+  -- a command never stops with Usage
   none_usage : (old new : S) → Goes F command left rest old new (Err Usage) → ⊥
   none_usage old new goes = by (plays command) goes.job goes.store
     where
@@ -72,7 +72,7 @@ module _ {S : Type 0} (F : Sight S) (said : Option Command) (left rest : Option 
   same : (command c : Command) → said ≡ Some command → said ≡ Some c → command ≡ c
   same command c is e = cc
 
-  -- of a command
+  -- the words name a command
   pub comes_of : (command : Command) (done : Result Work Stop) (work : Work) → said ≡ Some command → Goes F command left rest old new done
       → Counted done i j m n → IsAnswered done work → ComesOf work
   comes_of command (Ok done) work is goes counted answered = subst ComesOf (sym answered) (record {
@@ -103,7 +103,7 @@ module _ {S : Type 0} (F : Sight S) (said : Option Command) (left rest : Option 
             (told_usage stop due text stopped.told e) goes));
       }
 
--- for a command there was no memory
+-- memory ran out for the command
 module _ {S : Type 0} (F : Sight S) (left : Option (List ℕ)) (old : S) (c : Command) (timed : IsTimed F) where
   pub job_wanting : JobHalted F c left left old old NoMemory
   job_wanting = record {
@@ -117,7 +117,7 @@ module _ {S : Type 0} (F : Sight S) (left : Option (List ℕ)) (old : S) (c : Co
   pub store_wanting : StoreHalted F c left left old old NoMemory
   store_wanting = record { reason = inl refl; same = refl; calls = inl refl; leaves = unmoved F old (F.may_leave old) timed (λ h is. is) }
 
--- of words that are none, or for which there was no memory
+-- the words name no command, or memory ran out for it
 module _ {S : Type 0} (F : Sight S) (said : Option Command) (left : Option (List ℕ)) (old : S) (i n : ℕ) (work : Work) where
   pub usage_comes : said ≡ None → IsStopped Usage work → ComesOf F said left left old old i i n n work
   usage_comes none stopped =

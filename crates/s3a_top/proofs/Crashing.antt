@@ -1,4 +1,4 @@
--- What crashes leave of a job and of a command, since the shelf was loaded and before.
+-- What crashes leave of a job and of a command, since the load and before it.
 use Rattle.durable_job.specs.declared.jobs.Jobs.{Jobs}
 use Rattle.durable_store.specs.Outcomes.{MightLeave}
 use Rattle.durable_store.specs.Stores.{found}
@@ -37,20 +37,20 @@ might_more (Says d t es) told P Q h f is = f is
 might_more (Saves c text es) told P Q h f is = told_more told (P h ⊎ IsMoment c es h) (Q h ⊎ IsMoment c es h)
     (λ o. ⊎_elim (λ l. inl (f l)) (λ m. inr m) o) is
 
--- ---- since the shelf was loaded, and before
+-- ---- since the load, and before it
 
 module _ {S : Type 0} (F : Sight S) where
-  -- nothing was called
+  -- the shelf was not called
   pub unmoved : (s : S) (P : Holding → Type 0) → IsTimed F → ((h : Holding) → F.may_leave s h → P h) → CrashesLeave F s s P
   unmoved s P timed f = started F s P (λ h left. f h (timed.only_now s h left))
 
-  -- the shelf was loaded alone
+  -- the shelf was only loaded
   pub loaded_alone : (old new : S) (command : Command) (told : Option Stored) (left rest : Option (List ℕ))
       → CrashesLeave F old new (F.may_leave old) → CrashesLeave F old new (MayHaveLeft (F.may_leave old) command told left rest)
   loaded_alone old new command told left rest load = widened F old new (F.may_leave old)
       (MayHaveLeft (F.may_leave old) command told left rest) load (λ h is. inl is)
 
-  -- the image of the opening store was to be put in place of what was held
+  -- the shelf was called to replace what it held by the image of the opening store
   pub image_left : (old new : S) (command : Command) (told : Option Stored) (left rest : Option (List ℕ)) (jobs : Jobs) (c : Content)
       → AreJobsOf command left rest jobs → Opens told jobs c → CrashesLeave F old new (λ h. F.may_leave old h ⊎ (h ≡ fresh (image c)))
       → CrashesLeave F old new (MayHaveLeft (F.may_leave old) command told left rest)
@@ -59,7 +59,7 @@ module _ {S : Type 0} (F : Sight S) where
       (λ h is. ⊎_elim (λ l. inl l) (λ e. inr (jobs, (c, (reads, (opens, e))))) is)
 
   module _ (timed : IsTimed F) where
-    -- what one after the load may leave, one before it may
+    -- what a crash after the load may leave, a crash before it may leave too
     pub earlier : (old mid : S) → CrashesLeave F old mid (F.may_leave old) → (h : Holding) → F.may_leave mid h → F.may_leave old h
     earlier old mid load h left = load.each h (timed.counts_now mid (F.moment old) h load.later left)
 

@@ -1,4 +1,4 @@
--- What comes of words, whether they ask for a trace or not.
+-- The outcome of words, whether they ask for a trace or not.
 use Rattle.durable_job.specs.Jobs.{nothing_told}
 use Rattle.durable_job.specs.declared.jobs.Told.{Told}
 use Rattle.durable_store.specs.Outcomes.{Tells}
@@ -20,7 +20,7 @@ use Rattle.s3a_words.specs.declared.command.Command.{Command}
 use Rattle.shelf.specs.Logged.{Sight}
 use Rattle.std.proofs.Common.{Bool, List, None, Option, Some, false, refl, sym, true, ℕ, ◌∙◌, ◌≡◌, ◌⊎◌}
 
--- all that is said of the status, of what was done or traced, and of words that are no command
+-- All that `run` says of the status, of what was done or traced, and of words that are no command.
 pub record Ends {S : Type 0} (F : Sight S) (words : List (List ℕ)) (left rest : Option (List ℕ)) (old new : S) (i j m n status : ℕ)
     (es : List Entry) (told : Told) (Says : List ℕ → Type 0) : Type 0 where
   pub due : IsDue status
@@ -41,7 +41,7 @@ pub record Ends {S : Type 0} (F : Sight S) (words : List (List ℕ)) (left rest 
 
 module _ {S : Type 0} (F : Sight S) (words : List (List ℕ)) (left rest : Option (List ℕ)) (old new : S) (i j m n status : ℕ)
     (es : List Entry) (told : Told) (Says : List ℕ → Type 0) where
-  -- they ask for a trace
+  -- the words ask for a trace
   ends_shown : asks_trace words ≡ true → Shows F (traced_in words) left rest old new i j m n status es told Says
       → Ends F words left rest old new i j m n status es told Says
   ends_shown asks h = record {
@@ -58,7 +58,7 @@ module _ {S : Type 0} (F : Sight S) (words : List (List ℕ)) (left rest : Optio
     command = λ e. named_trace words asks ∙ h.command e;
   }
 
-  -- they do not
+  -- the words ask for no trace
   ends_come : asks_trace words ≡ false → Comes F (command_of words) left rest old new i j m n status es told Says
       → Ends F words left rest old new i j m n status es told Says
   ends_come asks h = record {
@@ -82,7 +82,7 @@ module _ {S : Type 0} (F : Sight S) (words : List (List ℕ)) (left rest : Optio
   ends_either true asks comes shows = ends_shown asks (shows refl)
   ends_either false asks comes shows = ends_come asks (comes refl)
 
--- once that was written
+-- The same after the text was written.
 pub ends_written : {S : Type 0} (F : Sight S) (words : List (List ℕ)) (left rest : Option (List ℕ)) (old new : S) (i j m n : ℕ)
     (work : Work) (status due : ℕ) (before after : Option (List ℕ)) → due ≡ code work.answer.due
     → Writes status before after (written_text work.answer.due work.answer.text)

@@ -1,4 +1,4 @@
--- What is told where the work stopped before anything was done.
+-- The outcome if the program stopped before anything was done.
 use Rattle.durable_job.specs.declared.jobs.Jobs.{Jobs}
 use Rattle.durable_job.specs.declared.jobs.Told.{Told}
 use Rattle.durable_store.specs.Outcomes.{Tells}
@@ -30,7 +30,7 @@ use Rattle.std.proofs.Common.{Err, IsErrOf, List, None, Option, Some, ap, inl, i
 use Rattle.shelf.specs.declared.kept.ShelfStop.TheVariants as shelves
 use Rattle.exit_status.specs.declared.statuses.Status.TheVariants as statuses
 
--- ---- causes, where it is told what the shelf held
+-- ---- causes, where it is known what the shelf held
 
 pub sound_of : (told : Option Stored) (before : Held) → IsFound told before → is_sound before → IsSoundly told
 sound_of None before f h = tt
@@ -48,7 +48,7 @@ held_sound _ n = tt
 -- ---- a job
 
 module _ {S : Type 0} (F : Sight S) (command : Command) (left rest : Option (List ℕ)) where
-  -- the shelf was not loaded
+  -- the load failed
   pub load_halted : (old new : S) (fault : ShelfStop) → rest ≡ left → F.held new ≡ F.held old → CrashesLeave F old new (F.may_leave old)
       → ((IsErrOf {T = Held} {E = ShelfStop} (Err fault) shelves.Failed → ⊥) → F.answers Load old new)
       → (IsErrOf {T = Held} {E = ShelfStop} (Err fault) shelves.Failed → F.fails Load old new)
@@ -68,7 +68,7 @@ module _ {S : Type 0} (F : Sight S) (command : Command) (left rest : Option (Lis
         (F.held old) left rest leaves;
   }
 
-  -- nothing was called
+  -- the shelf was not called
   pub broke_at_once : (s : S) (stop : Stop) → IsTimed F → HasCause stop command (F.held s) left rest → JobBroke F command left rest s s stop
   broke_at_once s stop timed cause = record {
     cause = cause;
@@ -78,7 +78,7 @@ module _ {S : Type 0} (F : Sight S) (command : Command) (left rest : Option (Lis
         (MayHaveLeft (F.may_leave s) command (F.held s) left rest) timed (λ h is. inl is);
   }
 
-  -- the image of the opening store was not put there
+  -- the shelf failed to take the image of the opening store
   pub not_begun : (old new : S) (stop : Stop) (jobs : Jobs) (c : Content) → HasCause stop command (F.held old) left rest
       → AreJobsOf command left rest jobs → Opens (F.held old) jobs c → NotReplaced F c old new → JobBroke F command left rest old new stop
   not_begun old new stop jobs c cause reads opens not = record {
@@ -89,7 +89,7 @@ module _ {S : Type 0} (F : Sight S) (command : Command) (left rest : Option (Lis
         old new command (F.held old) left rest jobs c reads opens not.leaves;
   }
 
-  -- it stopped since
+  -- the job stopped after the load
   pub job_halted : IsTimed F → (old mid new : S) (stop : Stop) → F.held mid ≡ F.held old → F.answers Load old mid
       → CrashesLeave F old mid (F.may_leave old) → JobBroke F command left rest mid new stop → JobHalted F command left rest old new stop
   job_halted timed old mid new stop same answered load broke = record {
@@ -103,7 +103,7 @@ module _ {S : Type 0} (F : Sight S) (command : Command) (left rest : Option (Lis
   reads_so : {c : Command} → command ≡ c → reads_jobs c ≡ true → reads_jobs command ≡ true
   reads_so e h = ap reads_jobs e ∙ h
 
-  -- a stop whose text is made has a cause of want of memory too
+  -- if a stop has a text of its own and a cause, memory may run out instead
   made_cause : (stop : Stop) (told : Option Stored) → IsMade stop → HasCause stop command told left rest
       → HasCause NoMemory command told left rest
   made_cause (BadScript e) told m h = inr (h.0, (reads_so h.1.0 refl, taken_part left rest h.1.1.1.1))
@@ -111,7 +111,7 @@ module _ {S : Type 0} (F : Sight S) (command : Command) (left rest : Option (Lis
   made_cause (Image number place) told m h = inl h.1
   made_cause _ told m h = absurd m
 
-  -- and that was told
+  -- a stop of a job that was reported
   pub halted_told : (old new : S) (stop : Stop) (due : Status) (text : List ℕ) (es : List Entry) (told_so : Told)
       → JobHalted F command left rest old new stop → IsToldOf stop due text → IsIdle es told_so
       → JobStopped F command left rest old new (code due) es told_so (λ t. text ≡ t)
@@ -140,7 +140,7 @@ module _ {S : Type 0} (F : Sight S) (command : Command) (left rest : Option (Lis
 
 -- ---- another command
 
--- a stop whose text is its status's own is told by that
+-- A stop without a text of its own is reported by its status and the status's text.
 own_told : (stop : Stop) (due : Status) (text : List ℕ) → (IsMade stop → ⊥) → IsToldOf stop due text → (code due ≡ code (status_of stop))
     × (text ≡ stop_text stop)
 own_told stop due text own (inl told) = (ap code told.0, told.1)
@@ -183,7 +183,7 @@ no_command old new stop due text es told_so which same told idle = record {
   untouched = same;
 }
 
--- ---- the status that is told
+-- ---- the status that is reported
 
 pub told_counts : (status : ℕ) (stop : Stop) (due : Status) (text : List ℕ) (before after : ℕ) → (6 ≡ status → ⊥) → (7 ≡ status → ⊥)
     → (9 ≡ status → ⊥) → IsToldOf stop due text → Tells status (code (status_of stop)) before after → Tells status (code due) before after

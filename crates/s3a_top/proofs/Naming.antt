@@ -1,4 +1,4 @@
--- Which command words name, where they ask for a trace and where they do not.
+-- The command that words name, if they ask for a trace and if they do not.
 use Rattle.std.specs.Prelude.{Bool, List, None, Option, Some, [], bytes_eq, codes, drop, false, length, option_and_then, slice_get}
 use Rattle.std.specs.Prelude.{true, ℕ, ◌∷◌, ◌≡◌, ◌≤◌, if◌then◌else◌}
 use Rattle.std.specs.List.{list_all}
@@ -9,7 +9,7 @@ use Rattle.s3a_words.specs.declared.command.Command.{Command}
 use Rattle.s3a_words.specs.Words.{alone, command_of, is_plain, path_named, said, with_operand, with_path, with_paths, with_three, with_two}
 use Rattle.s3a_top.specs.Traces.{asks_trace, if_traceable, named_command, traced_command, traced_in}
 
--- ---- `trace` alone is the name of no command
+-- ---- `trace` alone names no command
 
 alone_none : alone (codes "trace") ≡ None
 unfolding alone
@@ -53,7 +53,7 @@ trace_none : (folder : List ℕ) (words : List (List ℕ)) → command_of (folde
 unfolding command_of
 trace_none folder words = none_either (list_all is_plain (codes "trace" ∷ words)) (said (codes "trace" ∷ words)) (unsaid words)
 
--- words that ask for a trace are no command
+-- Words that ask for a trace are no command themselves.
 pub trace_no_command : (words : List (List ℕ)) → asks_trace words ≡ true → command_of words ≡ None
 trace_no_command [] e = absurd (cc)
 trace_no_command (folder ∷ []) e = absurd (cc)
@@ -61,13 +61,13 @@ trace_no_command (folder ∷ word ∷ words) e =
     subst (λ (w : List ℕ). command_of (folder ∷ w ∷ words) ≡ None) (sym ((bytes_eq-Decides word (codes "trace")).0 e))
     (trace_none folder words)
 
--- ---- the words behind `trace`
+-- ---- the words after `trace`
 
 pub asked_some : (words : List (List ℕ)) → asks_trace words ≡ true → 1 ≤ length words
 asked_some [] e = absurd (cc)
 asked_some (folder ∷ words) e = omega arith
 
--- the second word is `trace`, or there is none
+-- The words ask for a trace exactly if the second word, which exists, is `trace`.
 pub asked_word : (words : List (List ℕ)) (word : List ℕ) → slice_get words 1 ≡ Some word → asks_trace words ≡ bytes_eq word (codes "trace")
 asked_word [] word e = absurd (cc)
 asked_word (folder ∷ []) word e = absurd (cc)
@@ -79,7 +79,7 @@ asked_none [] e = refl
 asked_none (folder ∷ []) e = refl
 asked_none (folder ∷ second ∷ words) e = absurd (cc)
 
--- the command behind `trace` is that of the words behind the folder
+-- The command after `trace` is the one that the words without the folder name.
 pub behind_trace : (words : List (List ℕ)) → option_and_then if_traceable (command_of (drop 1 words)) ≡ traced_in words
 unfolding command_of
 behind_trace [] = refl
@@ -87,7 +87,7 @@ behind_trace (folder ∷ words) = refl
 
 -- ---- what words name
 
--- they ask for a trace
+-- The words ask for a trace: the traced command is the one after `trace`.
 pub traced_so : (words : List (List ℕ)) → asks_trace words ≡ true → traced_command words ≡ traced_in words
 unfolding traced_command
 traced_so words e = rw e refl
@@ -96,7 +96,7 @@ pub named_trace : (words : List (List ℕ)) → asks_trace words ≡ true → na
 unfolding named_command
 named_trace words e = rw e refl
 
--- they do not
+-- The words ask for no trace: there is no traced command.
 pub untraced : (words : List (List ℕ)) → asks_trace words ≡ false → traced_command words ≡ None
 unfolding traced_command
 untraced words e = rw e refl

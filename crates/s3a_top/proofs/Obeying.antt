@@ -1,4 +1,4 @@
--- What comes of a command but a job.
+-- The outcome of a command that runs no job.
 use Rattle.durable_store.specs.Outcomes.{CallsBy, HasImages, IsAnswer, IsDurableNow, IsHeld, IsSound, MightLeave, WhereSound}
 use Rattle.durable_store.specs.Outcomes.IsAnswer.{said, saved}
 use Rattle.durable_store.specs.Works.{IsPlain, IsSaid, Work as Doing}
@@ -31,7 +31,7 @@ use Rattle.shelf.specs.declared.kept.ShelfStop.TheVariants as shelves
 
 -- ---- what was done
 
--- the statuses of answers are none of a failed input
+-- The status of an answer is never one for a failed input or for bad words.
 pub answer_own : (work : Doing) (due : Status) (text : Option (List ℕ)) (es : List Entry) → IsAnswer work due text es → IsPlain work
     → IsWorked due
 answer_own _ _ _ _ (said d t es) plain = said_own d plain
@@ -72,7 +72,7 @@ module _ {S : Type 0} (F : Sight S) where
     quiet,
   )
 
-  -- since the shelf was loaded, and before
+  -- the outcome since the load, extended to the time before the load
   work_from : IsTimed F → (work : Doing) (old mid new : S) (status : Status) (es : List Entry) (Told : List ℕ → Type 0)
       → F.held mid ≡ F.held old → CrashesLeave F old mid (F.may_leave old)
       → WorkDone F work mid new status es Told → WorkDone F work old new status es Told
@@ -86,7 +86,7 @@ module _ {S : Type 0} (F : Sight S) where
     images = h.images;
   }
 
--- ---- causes, where it is told what the shelf held
+-- ---- causes, where it is known what the shelf held
 
 pub reason_of : (stop : Stop) (command : Command) (told : Option Stored) (before : Held) (left rest : Option (List ℕ)) → IsFound told before
     → HasReasonIn stop command before left rest → HasReason stop command told left rest
@@ -95,7 +95,7 @@ reason_of NoMemory command told before left rest f (inl h) = inl h
 reason_of NoMemory command told before left rest f (inr h) = inr (sound_of told before f h.0, h.1)
 reason_of _ command told before left rest f h = absurd h
 
--- memory was wanting behind the input
+-- Memory ran out after the input was read.
 wanting_behind : (takes : Bool) (command : Command) (before : Held) (left rest : Option (List ℕ)) (bytes : List ℕ) → is_sound before
     → takes_input command ≡ takes → IsInput takes left rest bytes → HasReasonIn NoMemory command before left rest
 wanting_behind true command before left rest bytes sound e h = inr (sound, (e, taken_part left rest (read_taken left rest bytes h)))
@@ -107,10 +107,10 @@ wanting_reason command Nothing left rest bytes h = wanting_behind (takes_input c
 wanting_reason command (Store c) left rest bytes h = wanting_behind (takes_input command) command (Store c) left rest bytes tt refl h
 wanting_reason command (Faulty number place) left rest bytes h = inl h.1
 
--- ---- since the shelf was loaded, and before
+-- ---- since the load, and before it
 
 module _ {S : Type 0} (F : Sight S) (command : Command) (left rest : Option (List ℕ)) where
-  -- the shelf was not loaded
+  -- the load failed
   pub load_stopped : (old new : S) (fault : ShelfStop) → rest ≡ left → F.held new ≡ F.held old → CrashesLeave F old new (F.may_leave old)
       → ((IsErrOf {T = Held} {E = ShelfStop} (Err fault) shelves.Failed → ⊥) → F.answers Load old new)
       → (IsErrOf {T = Held} {E = ShelfStop} (Err fault) shelves.Failed → F.fails Load old new)

@@ -1,4 +1,4 @@
--- From what is to be said to what was written.
+-- From the text that is to be written to the text that was written.
 use Rattle.durable_job.specs.declared.jobs.Jobs.{Jobs}
 use Rattle.durable_job.specs.declared.jobs.Told.{Told}
 use Rattle.durable_store.specs.Works.{Work as Doing}
@@ -17,7 +17,7 @@ use Rattle.s3a_words.specs.declared.command.Command.{Command}
 use Rattle.shelf.specs.Logged.{Sight}
 use Rattle.std.proofs.Common.{List, Option, inl, inr, subst, sym, ℕ, ⊎_elim, ◌≡◌, ◌⊎◌}
 
--- one of two texts
+-- One of two texts, each mapped.
 said_out : (P Q A B C D : Type 0) → (A → C) → (B → D) → (P × A) ⊎ (Q × B) → (P × C) ⊎ (Q × D)
 said_out P Q A B C D f g (inl h) = inl (h.0, f h.1)
 said_out P Q A B C D f g (inr h) = inr (h.0, g h.1)
@@ -182,7 +182,7 @@ module _ (A B : List ℕ → Type 0) (f : (t : List ℕ) → A t → B t) {S : T
       command = h.command;
     }
 
--- what was to be said was written, by its own number of the status
+-- The text that was to be written was written, with the number of its status.
 pub comes_written : {S : Type 0} (F : Sight S) (said : Option Command) (left rest : Option (List ℕ)) (old new : S) (i j m n : ℕ)
     (work : Work) (status due : ℕ) (before after : Option (List ℕ)) → due ≡ code work.answer.due
     → Writes status before after (written_text work.answer.due work.answer.text)

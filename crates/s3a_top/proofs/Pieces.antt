@@ -5,7 +5,8 @@ use Rattle.std.proofs.Common.{Err, List, None, Ok, OnErr, Option, Result, Some, 
 use Rattle.std.proofs.Common.{refl, subst, sym, take, ℕ, [], ◌++◌, ◌+◌, ◌<◌, ◌∙◌, ◌≡◌, ◌≤◌}
 use Rattle.std.proofs.lemmas.List.{append-nil, drop_all, drop_at, length-take, take-append-drop, take_all, take_at}
 
--- what was left before is what was read so far and what is left, where the source tells it
+-- Holds if what was left before is what was read so far and what is left now. For an input whose bytes are not known it only says that they
+-- stay unknown.
 abbrev pub IsReadSoFar : Option (List ℕ) → Option (List ℕ) → List ℕ → Type 0
 IsReadSoFar None now all = now ≡ None
 IsReadSoFar (Some left) now all = (rest : List ℕ) × (now ≡ Some rest) × (left ≡ all ++ rest)
@@ -28,7 +29,7 @@ more_read None now after all n buffer h t = subst (λ (o : Option (List ℕ)). T
 more_read (Some left) now after all n buffer h t = more_told left all h.0 after n buffer h.2
     (subst (λ (o : Option (List ℕ)). Takes o after n buffer) h.1 t)
 
--- what was read was taken
+-- What was read so far was taken from the input.
 pub part_read : (before now : Option (List ℕ)) (all : List ℕ) → length all ≤ 67108865 → IsReadSoFar before now all → TakesPart before now
 part_read None now all size h = h
 part_read (Some left) now all size h = (
@@ -40,7 +41,7 @@ part_read (Some left) now all size h = (
   ),
 )
 
--- and so was what was read behind it
+-- What was read after that was taken from the input too.
 pub more_taken : (before now after : Option (List ℕ)) (all : List ℕ) (n : ℕ) (buffer : List ℕ) → length all + n ≤ 67108865
     → IsReadSoFar before now all → Takes now after n buffer → TakesPart before after
 more_taken before now after all n buffer size h t =
@@ -55,7 +56,7 @@ pub taken_part : (left rest : Option (List ℕ)) → IsTaken left rest → Takes
 taken_part None rest h = h
 taken_part (Some bytes) rest h = (67108865, (lit≤ tt, h))
 
--- all that may be read was read
+-- As many bytes were read as may be read.
 pub full_read : (before after : Option (List ℕ)) (all : List ℕ) → length all ≡ 67108865 → IsReadSoFar before after all
     → IsRead before after all
 full_read None after all size h = h
@@ -77,14 +78,14 @@ ended_told left all rest (Some others) n buffer size e t none some =
           (nothing ∙ sym (ap (drop 67108865) same ∙ drop_all 67108865 all size)),
     )
 
--- the input has ended
+-- The input has ended.
 pub ended_read : (before now after : Option (List ℕ)) (all : List ℕ) (n : ℕ) (buffer : List ℕ) → length all ≤ 67108865
     → IsReadSoFar before now all → Takes now after n buffer → n ≡ 0 → 0 < length buffer → IsRead before after all
 ended_read None now after all n buffer size h t none some = subst (λ (o : Option (List ℕ)). Takes o after n buffer) h t
 ended_read (Some left) now after all n buffer size h t none some = ended_told left all h.0 after n buffer size h.2
     (subst (λ (o : Option (List ℕ)). Takes o after n buffer) h.1 t) none some
 
--- some first bytes of a text were written behind what was written before, and these are left
+-- Holds if some first bytes of a text were appended to what was written before, and these bytes are left.
 abbrev pub IsWrittenSoFar : Option (List ℕ) → Option (List ℕ) → List ℕ → List ℕ → Type 0
 IsWrittenSoFar before now text rest = (front : List ℕ) × (text ≡ front ++ rest) × Appends before now front
 
@@ -119,7 +120,7 @@ pub some_written : (before now : Option (List ℕ)) (text rest : List ℕ) → I
 some_written before now text rest h =
     (length h.0, subst (Appends before now) (sym (ap (take (length h.0)) h.1 ∙ take_at h.0 rest (length h.0) refl)) h.2)
 
--- what holds after any outcome holds after an error
+-- What holds after any outcome holds after an error.
 pub on_error : {X Y P : Type 0} (r : Result X Y) → P → OnErr r P
 on_error (Ok x) p = tt
 on_error (Err y) p = p

@@ -1,4 +1,4 @@
--- What is promised of jobs that were played.
+-- The promise for jobs that ran.
 use Rattle.durable_job.specs.Jobs.{AreFinished, verdict_of}
 use Rattle.durable_job.specs.Pace.{LacksSince}
 use Rattle.durable_job.specs.Played.{HaveEventsLeft, IsHeld, IsPlayed}
@@ -28,9 +28,9 @@ use Rattle.std.proofs.Common.{List, None, Option, Some, ap, append_assoc, arith,
 use Rattle.std.proofs.Common.{◌∙◌, ◌∷◌, ◌≡◌, ◌⊎◌}
 use Rattle.store_image.specs.Content.{IsContent}
 
--- ---- what is kept
+-- ---- what is stored
 
--- what is held whole is held with all of the earlier events
+-- If all changes are held, all those of earlier events are.
 whole_part : (held : Option Stored) (c : Content) (es : List Entry) → Holds held c (changes es) → HoldsPart held c es
 whole_part held c es holds = record { part = changes es; holds = holds; begins = begins_all (changes es); earlier = all_earlier }
   where
@@ -40,7 +40,7 @@ whole_part held c es holds = record { part = changes es; holds = holds; begins =
         let parts : changes es ≡ changes (front ++ e ∷ []) ++ changes back = ap changes whole ∙ changes_append (front ++ e ∷ []) back in
         (changes back, sym parts)
 
--- a run to its end was not cut short
+-- A run that went to its end was not cut short.
 never : {A : Type 0} (due : ℕ) → IsToEnd due → (due ≡ 5) ⊎ (due ≡ 9) → A
 never due (inl e) (inl h) = absurd (omega (arith, e, h))
 never due (inl e) (inr h) = absurd (omega (arith, e, h))
@@ -67,7 +67,7 @@ module _ {S : Type 0} (F : Sight S) where
     last_is to_end h left = ⊎_elim (λ e. last c es (F.held new) (F.may_leave new) e.holds e.durable h left)
         (λ e. never due to_end (short_due jobs c loaded new due es told Says e)) ended
 
--- ---- since the shelf was loaded, and before
+-- ---- since the load, and before it
 
 pub played_from : {S : Type 0} (F : Sight S) → IsTimed F
     → (command : Command) (left rest : Option (List ℕ)) (old loaded new : S) (work : Work) → F.held loaded ≡ F.held old
@@ -92,7 +92,7 @@ played_from F timed command left rest old loaded new work same answered load ove
       };
     }
 
--- ---- what is kept of a run, and what is said of it
+-- ---- what is stored of a run, and what is written of it
 
 module _ {S : Type 0} (F : Sight S) (command : Command) (jobs : Jobs) (c : Content) (kept : Kept) (old new : S) (due : ℕ) (text : List ℕ)
     (played : IsPlayed F jobs c kept old new) (image : IsContent c) where
@@ -132,7 +132,7 @@ module _ {S : Type 0} (F : Sight S) (command : Command) (jobs : Jobs) (c : Conte
     ended = ended_so kept.stop played.held played.finished played.short told;
   }
 
-  -- where this is what was sent and told
+  -- with other names for what was sent and reported
   pub ran_of : (es : List Entry) (told : Told) → es ≡ kept.journal.entries → told ≡ kept.told → IsTold kept.stop command kept due text
       → JobRan F command jobs c old new due es told (λ t. text ≡ t)
   ran_of es told sent same is =
@@ -140,7 +140,7 @@ module _ {S : Type 0} (F : Sight S) (command : Command) (jobs : Jobs) (c : Conte
       subst (λ (l : List Entry). JobRan F command jobs c old new due l told Says) (sym sent)
       (subst (λ (x : Told). JobRan F command jobs c old new due kept.journal.entries x Says) (sym same) (ran_so is))
 
--- jobs that were played, by what is answered to them
+-- Jobs that ran, and the work that answers them.
 pub over_of : {S : Type 0} (F : Sight S) (command : Command) (left rest : Option (List ℕ)) (jobs : Jobs) (c : Content) (kept : Kept)
     (old new : S) (work : Work) → AreJobsOf command left rest jobs → Opens (F.held old) jobs c → IsPlayed F jobs c kept old new
     → IsContent c

@@ -1,4 +1,4 @@
--- What was read of the input, and what it is.
+-- The bytes that were read from the input, and what they read as.
 use Rattle.basics.specs.Reading.{Fails}
 use Rattle.durable_job.specs.declared.jobs.Jobs.{Jobs}
 use Rattle.durable_job.specs.declared.jobs.Jobs.TheVariants.{One, Two}
@@ -21,11 +21,11 @@ use Rattle.job_script.specs.declared.fault.ScriptFault.TheVariants as faults
 use Rattle.twin_script.specs.Fault as twins
 use Rattle.twin_script.specs.declared.fault.TwinFault.TheVariants as twin_faults
 
--- ---- what refuses all that is over the limit
+-- ---- a reader that refuses everything over the limit
 
 module _ {A E : Type 0} (read : List ℕ → Result A E) (large : E) (too_large : (bytes : List ℕ) → 67108864 < length bytes → read bytes ≡ Err
     large) where
-  -- what it reads is within it
+  -- bytes that it reads are within the limit
   small : (bytes : List ℕ) (x : A) → read bytes ≡ Ok x → length bytes ≤ 67108864
   small bytes x e = by (nat_le (length bytes) 67108864) refl
     where
@@ -36,7 +36,7 @@ module _ {A E : Type 0} (read : List ℕ → Result A E) (large : E) (too_large 
           let refused = too_large bytes long in
           absurd (cc)
 
-  -- what was read of the input reads as the whole does
+  -- the bytes that were read from the input read as the whole input does
   read_whole : (bytes all : List ℕ) → all ≡ take 67108865 bytes → (b : Bool) → nat_le (length bytes) 67108865 ≡ b → read all ≡ read bytes
   read_whole bytes all h true e =
       let short : length bytes ≤ 67108865 = grind (arith, nat_tests) in
@@ -47,7 +47,7 @@ module _ {A E : Type 0} (read : List ℕ → Result A E) (large : E) (too_large 
       let size : length all ≡ 67108865 = ap length h ∙ length-take-le 67108865 bytes most in
       too_large all (omega (arith, size)) ∙ sym (too_large bytes (omega (arith, long)))
 
-  -- the input was this, and nothing of it is left
+  -- the input was read whole, and nothing is left of it
   all_read : (left rest : Option (List ℕ)) (all : List ℕ) (x : A) → IsRead left rest all → read all ≡ Ok x → IsAllRead read left rest x
   all_read None rest all x r e = r
   all_read (Some bytes) rest all x r e =
@@ -61,7 +61,7 @@ module _ {A E : Type 0} (read : List ℕ → Result A E) (large : E) (too_large 
       let few = small bytes x h.0 in
       (67108865, (lit≤ tt, h.1 ∙ ap Some (sym (drop_all 67108865 bytes (omega (arith, few))))))
 
-  -- it was a fault
+  -- reading the input gives this fault
   fault_of : (left rest : Option (List ℕ)) (all : List ℕ) (e : E) → IsRead left rest all → read all ≡ Err e → IsFaultOf read left e
   fault_of None rest all e r h = tt
   fault_of (Some bytes) rest all e r h = sym (read_whole bytes all r.0 (nat_le (length bytes) 67108865) refl) ∙ h
@@ -81,7 +81,7 @@ pub no_script : (left rest : Option (List ℕ)) (all : List ℕ) (e : ScriptFaul
     → IsFaultOf script_of left e
 no_script left rest all e r h = fault_of script_of faults.TooLarge script_large left rest all e r h
 
--- a fault that is no want of memory is the one that reading gives
+-- A fault other than memory that ran out is the one that reading gives.
 pub fails_is : (e : ScriptFault) (read : Result Script ScriptFault) → e ≢ faults.NoMemory → Fails script.wanting e read → read ≡ Err e
 fails_is faults.NoMemory read n h = absurd (n refl)
 fails_is e read n h = h

@@ -1,4 +1,4 @@
--- What is known of a result by what its function's callee says of it.
+-- What follows for a result from the contract of the callee.
 use Rattle.durable_job.specs.declared.jobs.Jobs.{Jobs}
 use Rattle.s3a_top.proofs.Pieces.{read_taken, taken_part}
 use Rattle.s3a_top.proofs.Readings.{jobs_are, no_script, no_twins}
@@ -17,7 +17,7 @@ jobs_read both (Ok jobs) left rest all bytes r same h = jobs_are both left rest 
     (subst (λ (b : List ℕ). AreJobsIn both b jobs) same h)
 jobs_read both (Err stop) left rest all bytes r same h = tt
 
--- both kinds are read from the input
+-- The commands for one job and for two both read it from the input.
 pub is_reader : (both : Bool) → reads_jobs (reader both) ≡ true
 is_reader false = refl
 is_reader true = refl

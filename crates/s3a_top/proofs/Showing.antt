@@ -1,4 +1,4 @@
--- What comes of words that ask for a trace, by what came of the command that they name.
+-- The outcome of words that ask for a trace follows from the outcome of the command that they name.
 use Rattle.durable_job.specs.declared.jobs.Jobs.TheVariants.{Two}
 use Rattle.durable_store.proofs.Found.{few_ids}
 use Rattle.durable_store.specs.Outcomes.{IsSound, Tells}
@@ -41,19 +41,19 @@ use Rattle.twin_script.specs.TwinScripts as twin_scripts
 
 -- ---- what a command does on what is held
 
--- a command that is not `twins` plays no two jobs
+-- A command other than `twins` does not run two jobs.
 pub not_two : (command : Command) (left rest : Option (List ℕ)) (t : twin_scripts.Twins) → (command ≡ Twins → ⊥)
     → AreJobsOf command left rest (Two t) → ⊥
 not_two Twins left rest t single h = single refl
 not_two _ left rest t single h = h
 
--- the store on which a command is done has ids left
+-- The store on which a command is done has upload ids left.
 pub few_in : (held : Held) → IsSound held → (store_in held).next ≤ 2 ^ 62
 few_in (Store c) sound = few_ids c sound
 few_in Nothing sound = omega arith
 few_in (Faulty number place) sound = omega arith
 
--- what a command sends was answered as was due
+-- Each request of a command has the reply that S3 must give.
 done_honest : (command : Command) (bytes : List ℕ) (c : Content) (work : Doing) → Done command bytes c work → IsHonest c (shown_sends work)
 done_honest command bytes c work d =
     subst (IsHonest c) (sym (ap shown_sends d.is ∙ by d.what.refused (has_changed d.sent) d.what.text)) d.honest
@@ -63,7 +63,7 @@ done_honest command bytes c work d =
     by false true text = refl
     by false false text = refl
 
--- where none is sent, there is none to be answered
+-- So it is for `init`, which sends none.
 init_honest : (minimum : Option ℕ) (before : Held) → IsHonest (store_in before) (shown_sends (init_work minimum before))
 unfolding init_work
 init_honest minimum Nothing = tt
@@ -83,7 +83,7 @@ sends_honest (Init minimum) bytes before work is =
     subst (λ (w : Doing). IsHonest (store_in before) (shown_sends w)) (sym is) (init_honest minimum before)
 sends_honest command bytes before work is = held_honest command bytes before work is
 
--- the statuses with which it ends
+-- The statuses with which a traced command may end.
 pub shown_own : (work : Doing) → IsPlain work → IsWorked (shown_status work) × (code (shown_status work) ≢ 5)
 shown_own (Says due text sent) plain = by due plain
   where
@@ -94,14 +94,14 @@ shown_own (Says due text sent) plain = by due plain
     by _ h = absurd h
 shown_own _ plain = (tt, λ e. cc)
 
--- what is answered of its work is answered of the command
+-- An answer that shows the command's work shows the command.
 pub answer_shown : {E : Type 0} (command : Command) (bytes : List ℕ) (before : Held) (work : Doing) (result : Result Answer E)
     → IsWork command bytes before work → IsPlain work → IfOk result (IsShownOf before work)
     → IfOk result (AnswerShown command bytes before)
 answer_shown command bytes before work (Ok answer) does plain shown = record { work = work; does = does; plain = plain; shown = shown }
 answer_shown command bytes before work (Err error) does plain shown = tt
 
--- neither the input nor the shelf failed
+-- Neither the input nor the shelf failed.
 pub shown_counts : (command : Command) (bytes : List ℕ) (before : Held) (answer : Answer) (work : Work) (left rest n : ℕ)
     → work.answer ≡ answer → AnswerShown command bytes before answer → rest ≡ left → Counted (Ok work) left rest n n
 shown_counts command bytes before answer work left rest n is h same =
@@ -110,9 +110,9 @@ shown_counts command bytes before answer work left rest n is h same =
     counted_done work left rest n n (subst IsWorked (sym due) own.0) same
     (subst (λ (s : Status). Tells 5 (code s) n n) (sym due) (tells_none 5 (code (shown_status h.work)) n n own.1 refl))
 
--- ---- since the shelf was loaded
+-- ---- since the load
 
--- it was loaded, or that failed
+-- The load was answered, or failed.
 pub load_ended : {S : Type 0} (F : Sight S) (old new : S) (fault : ShelfStop)
     → ((IsErrOf {T = Held} {E = ShelfStop} (Err fault) shelves.Failed → ⊥) → F.answers Load old new)
     → (IsErrOf {T = Held} {E = ShelfStop} (Err fault) shelves.Failed → F.fails Load old new)
@@ -171,7 +171,7 @@ module _ {S : Type 0} (F : Sight S) (command : Command) (left rest : Option (Lis
       → StoreTraces F command left rest old new result → Traces F command left rest old new result
   traces_store result is loaded goes = record { job = λ e. not_both (plays command) e is; store = λ e. goes; loaded = loaded }
 
-  -- a stop is none of words that are no command
+  -- a trace never stops with Usage
   no_usage : Traces F command left rest old new (Err Usage) → ⊥
   no_usage goes = by (plays command) goes.job goes.store
     where
@@ -200,7 +200,7 @@ module _ {S : Type 0} (F : Sight S) (named : Option Command) (left rest : Option
   same : (command c : Command) → named ≡ Some command → named ≡ Some c → command ≡ c
   same command c is e = cc
 
-  -- of a command
+  -- the words name a command
   pub shows_of : (command : Command) (done : Result Work Stop) (work : Work) → named ≡ Some command
       → Traces F command left rest old new done → Counted done i j m n → IsAnswered done work → ShowsOf work
   shows_of command (Ok done) work is goes counted answered = subst ShowsOf (sym answered) (record {
@@ -233,7 +233,7 @@ module _ {S : Type 0} (F : Sight S) (named : Option Command) (left rest : Option
             (subst (λ (s : Stop). Traces F command left rest old new (Err s)) (told_usage stop due text stopped.told e) goes));
       }
 
--- of words that name none, or for which there was no memory
+-- The words name no command, or memory ran out for it.
 module _ {S : Type 0} (F : Sight S) (named : Option Command) (left : Option (List ℕ)) (old : S) (i n : ℕ) (work : Work) where
   pub usage_shows : named ≡ None → IsStopped Usage work → ShowsOf F named left left old old i i n n work
   usage_shows none stopped =

@@ -30,15 +30,15 @@ use Rattle.exit_status.specs.declared.statuses.Status.TheVariants as statuses
 
 -- ---- counts of faults
 
--- another status is due
+-- The status is another one, and the count is unchanged.
 pub tells_none : (status due before after : ℕ) → due ≢ status → after ≡ before → Tells status due before after
 tells_none status due before after other same = record { rose = λ e. absurd (other e); stands = λ n. same }
 
--- this one is
+-- The status is this one, and the count rose.
 pub tells_one : (status before after : ℕ) → before < after → Tells status status before after
 tells_one status before after rose = record { rose = λ e. rose; stands = λ n. absurd (n refl) }
 
--- what is done has not the status of a failed input
+-- Work that was done does not have the status of a failed input.
 pub worked_read : (s : Status) → IsWorked s → code s ≢ 3
 worked_read statuses.Done h = λ e. cc
 worked_read statuses.Refused h = λ e. cc
@@ -48,7 +48,7 @@ worked_read statuses.StoreFault h = λ e. cc
 worked_read statuses.NoMemory h = λ e. cc
 worked_read _ h = absurd h
 
--- nor that of words that are none
+-- Nor that of words that are no command.
 pub worked_usage : (s : Status) → IsWorked s → code s ≢ 2
 worked_usage statuses.Done h = λ e. cc
 worked_usage statuses.Refused h = λ e. cc
@@ -58,7 +58,7 @@ worked_usage statuses.StoreFault h = λ e. cc
 worked_usage statuses.NoMemory h = λ e. cc
 worked_usage _ h = absurd h
 
--- nor that of a failed output
+-- Nor that of a failed output.
 pub worked_due : (s : Status) → IsWorked s → IsDue (code s)
 worked_due statuses.WriteFault h = absurd h
 worked_due s h = (s, (λ e. cc, refl))
@@ -77,7 +77,7 @@ verdict_counts statuses.StoreFault before after h same = tells_none 5 8 before a
 verdict_counts statuses.NoMemory before after h same = tells_none 5 9 before after (λ e. cc) same
 verdict_counts _ before after h same = absurd h
 
--- of a job that was played
+-- A job that ran.
 pub played_counts : (stop : Option ShelfStop) (due : Status) (before after : ℕ) → IsOfStop stop due → Counts stop before after
     → Tells 5 (code due) before after
 played_counts None due before after h counts = verdict_counts due before after h counts
@@ -100,7 +100,7 @@ stop_worked (Some shelves.NoMemory) due h = subst IsWorked (sym h) tt
 
 -- ---- causes
 
--- what was taken from the input was its jobs
+-- What was taken from the input was the command's jobs.
 pub jobs_taken : (command : Command) (left rest : Option (List ℕ)) (jobs : Jobs) → AreJobsOf command left rest jobs
     → TakesIfRead command left rest
 jobs_taken Job left rest (One w) h = inr (refl, script_part left rest w h)
@@ -108,7 +108,7 @@ jobs_taken Twins left rest (Two t) h = inr (refl, twins_part left rest t h)
 jobs_taken (Gen seed tasks files) left rest (One w) h = inl h.1
 jobs_taken _ left rest jobs h = absurd h
 
--- a command that may not read takes no input
+-- A command that may not read the input has none.
 pub reads_less : (command : Command) → may_read (Some command) ≡ false → takes_input command ≡ false
 reads_less Job e = refl
 reads_less Twins e = refl
@@ -129,7 +129,7 @@ module _ (command : Command) (told : Option Stored) (left rest : Option (List �
   shelf_cause shelves.Failed jobs reads = inr (jobs, reads)
   shelf_cause shelves.NoMemory jobs reads = wanting_cause (jobs_taken command left rest jobs reads)
 
--- ---- what is counted
+-- ---- both counts
 
 pub counted_done : (work : Work) (left rest before after : ℕ) → IsWorked work.answer.due → rest ≡ left
     → Tells 5 (code work.answer.due) before after → Counted (Ok work) left rest before after
@@ -140,7 +140,7 @@ counted_done work left rest before after own same shelf = record {
   shelf = shelf;
 }
 
--- neither the input nor the shelf failed
+-- Neither the input nor the shelf failed.
 pub counted_none : (stop : Stop) (left rest before after : ℕ) → code (status_of stop) ≢ 3 → code (status_of stop) ≢ 5 → rest ≡ left
     → after ≡ before → Counted (Err stop) left rest before after
 counted_none stop left rest before after three five same still = record {
@@ -166,7 +166,7 @@ pub load_counts : (A : Type 0) (stop : ShelfStop) (before after : ℕ) → Count
 load_counts A shelves.Failed before after counts = counts
 load_counts A shelves.NoMemory before after counts = counts
 
--- the jobs were not read
+-- The jobs could not be read.
 pub counted_read : (A : Type 0) (stop : Stop) (command : Command) (left rest : Option (List ℕ)) (before after count : ℕ)
     → IsReadStop stop command left rest → CountsReads {A = A} (Err stop) before after → Counted (Err stop) before after count count
 counted_read A ReadFault command left rest before after count h counts = record
@@ -179,7 +179,7 @@ counted_read A NoMemory command left rest before after count h counts = counted_
     counts refl
 counted_read A _ command left rest before after count h counts = absurd h
 
--- nor were the bytes of a command's input
+-- The bytes of a command's input could not be read.
 pub counted_bytes : (A : Type 0) (stop : Stop) (command : Command) (held : Held) (left rest : Option (List ℕ)) (before after count : ℕ)
     → HasReasonIn stop command held left rest → CountsReads {A = A} (Err stop) before after → Counted (Err stop) before after count count
 counted_bytes A ReadFault command held left rest before after count h counts = record

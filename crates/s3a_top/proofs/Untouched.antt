@@ -18,7 +18,7 @@ use Rattle.std.proofs.Common.{ap, inl, inr, refl, subst, sym, ◌∙◌}
 use Rattle.std.proofs.lemmas.Bool.{false≢true}
 use Rattle.std.specs.Prelude.{Bool, List, Option, Some, false, true, ℕ, ◌≡◌, ◌⊎◌}
 
--- the answer to what was to be saved has what was sent, and is no refusal
+-- The answer to work that saves has what was sent, and is no refusal.
 saved_sent : (work : Work) (due : Status) (text : Option (List ℕ)) (es : List Entry) → IsAnswer work due text es
     → (c : Content) (t : List ℕ) (sent : List Entry) → work ≡ Saves c t sent
     → (es ≡ sent) × (due ≡ Refused → ⊥)
@@ -27,12 +27,12 @@ saved_sent _ _ _ _ (saved d u es) c t sent e = (cc, λ f. cc)
 saved_sent _ _ _ _ _ c t sent e = (cc, λ f. cc)
 
 module _ {S : Type 0} (F : Sight S) (status : Status) (text : Option (List ℕ)) (es : List Entry) (old new : S) where
-  -- what is said does not call the shelf
+  -- work that only says something does not call the shelf
   said_calls : (work : Work) (d : Status) (t : Option (List ℕ)) (sent : List Entry) → work ≡ Says d t sent
       → CallsBy F work status old new → new ≡ old
   said_calls work d t sent e calls = let same : old ≡ new = subst (λ (w : Work). CallsBy F w status old new) e calls in sym same
 
-  -- why a command changes nothing
+  -- the reasons for which a command changes nothing
   abbrev ChangesNone : Command → Type 0
   ChangesNone command = (only_looks command ≡ true) ⊎ ((status ≡ Refused) ⊎ (has_changed es ≡ false))
 

@@ -1,4 +1,4 @@
--- Which statuses are due of a job and of a command.
+-- The statuses of a job and of a command.
 use Rattle.durable_job.specs.Jobs.{verdict_of, verdict_of_two}
 use Rattle.durable_job.specs.declared.jobs.Jobs.{Jobs}
 use Rattle.durable_job.specs.declared.jobs.Jobs.TheVariants.{One, Two}
@@ -47,11 +47,11 @@ decided_final other NotBegun h = h
 decided_final other Unended h = inr (inl refl)
 decided_final other (EndedSo e) h = end_final e
 
--- a verdict is 0, 1, 8 or 9
+-- A verdict is 0, 1, 8 or 9.
 verdict_final : (w : Script) (xs : List EventEnd) → IsFinal (verdict w xs)
 verdict_final w xs = decided_final (verdict_or 1 (past w xs).setup) (past w xs).commit (decided_final 1 (past w xs).setup (inr (inl refl)))
 
--- so is the first of two that is not 0
+-- So is the first of two verdicts that is not 0, or 0 if both are.
 first_final : (first second : ℕ) → IsFinal first → IsFinal second → IsFinal (verdict_of_two first second)
 first_final first second h k = by (first == 0)
   where

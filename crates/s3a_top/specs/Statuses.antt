@@ -1,4 +1,4 @@
--- What is due and what is written.
+-- The statuses before writing, and the texts that are written.
 use Rattle.durable_job.specs.Jobs.{nothing_told}
 use Rattle.durable_job.specs.declared.jobs.Told.{Told}
 use Rattle.exit_status.specs.Statuses.{code}
@@ -14,11 +14,11 @@ use Rattle.std.specs.Prelude.{List, Option, codes, ℕ, [], ◌++◌, ◌∷◌,
 use Rattle.twin_script.specs.declared.fault.TwinFault.{TwinFault}
 use Rattle.twin_script.specs.Fault as twins
 
--- what may be due: any of them but that of a failed output
+-- Holds if this is the number of a status other than `WriteFault`, so it may be the status before writing.
 abbrev pub IsDue : ℕ → Type 0
 IsDue due = (s : Status) × ((s ≢ WriteFault) × (due ≡ code s))
 
--- what comes with work that was done: no words that are none, no failed device but the shelf, and no bad script
+-- Holds for the statuses that work which was done may have: no faulty words, no failed input or output, no bad script.
 abbrev pub IsWorked : Status → Type 0
 IsWorked Usage = ⊥
 IsWorked ReadFault = ⊥
@@ -26,20 +26,20 @@ IsWorked WriteFault = ⊥
 IsWorked BadScript = ⊥
 IsWorked _ = Unit {0}
 
--- the line of bytes that are no script: the fault's number and its line, 0 where it has none
+-- The line that reports an invalid script: the fault's number and its line, 0 if it has none.
 unfoldable pub script_fault_text : ScriptFault → List ℕ
 script_fault_text e = codes "script fault " ++ (decimal (number_of e) ++ (codes " at line " ++ (decimal (line_of e) ++ 10 ∷ [])))
 
--- the line of bytes that are no two scripts with an order: the same of their fault
+-- The line that reports two invalid scripts or their order: the fault's number and its line, 0 if it has none.
 unfoldable pub twin_fault_text : TwinFault → List ℕ
 twin_fault_text e = codes "twin fault " ++ (decimal (twins.number_of e) ++ (codes " at line " ++ (decimal (twins.line_of e) ++ 10 ∷ [])))
 
--- the text went out whole, or, where the sink failed, its first bytes
+-- The whole text was appended, or, if the sink failed (status 4), some first bytes of it.
 pub record Writes (status : ℕ) (before after : Option (List ℕ)) (text : List ℕ) : Type 0 where
   pub whole : status ≢ 4 → Appends before after text
   pub partly : status ≡ 4 → WritesSome before after text
 
--- nothing was sent
+-- Nothing was sent, and no jobs are reported.
 pub record IsIdle (es : List Entry) (told : Told) : Type 0 where
   pub entries : es ≡ []
   pub nothing : told ≡ nothing_told

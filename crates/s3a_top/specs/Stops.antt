@@ -11,7 +11,7 @@ use Rattle.std.specs.Prelude.{List, ℕ}
 use Rattle.shelf.specs.declared.kept.ShelfStop.TheVariants as shelves
 use Rattle.exit_status.specs.declared.statuses.Status.TheVariants as statuses
 
--- the exit status of a stop
+-- The exit status of each stop.
 abbrev pub status_of : Stop → Status
 status_of Usage = statuses.Usage
 status_of ReadFault = statuses.ReadFault
@@ -20,12 +20,12 @@ status_of (Image number place) = statuses.BadImage
 status_of NoMemory = statuses.NoMemory
 status_of _ = statuses.BadScript
 
--- the stop that a shelf's failed call is
+-- The stop for a failed call of the shelf.
 abbrev pub of_shelf : ShelfStop → Stop
 of_shelf shelves.Failed = ShelfFault
 of_shelf shelves.NoMemory = NoMemory
 
--- the line that a stop says
+-- The line that the program writes for each stop.
 abbrev pub stop_text : Stop → List ℕ
 stop_text Usage = usage_text
 stop_text ReadFault = read_text

@@ -1,4 +1,4 @@
--- What comes of `trace`: what a command would send is shown, and nothing is kept.
+-- The outcome of `trace`: the requests that a command would send are shown, and nothing is stored.
 use Rattle.durable_job.specs.Jobs.{KeepsOne, nothing_told}
 use Rattle.durable_job.specs.declared.jobs.Jobs.TheVariants.{One}
 use Rattle.durable_job.specs.declared.jobs.Told.{Told}
@@ -30,36 +30,36 @@ use Rattle.exit_status.specs.declared.statuses.Status.TheVariants as statuses
 
 -- ---- the words
 
--- The second word is `trace`.
+-- True if the second word is `trace`.
 abbrev pub asks_trace : List (List ℕ) → Bool
 asks_trace (folder ∷ word ∷ words) = bytes_eq word (codes "trace")
 asks_trace _ = false
 
--- The commands that can be traced: all but `init` and `twins`.
+-- The command, if it can be traced: any but `init` and `twins`.
 abbrev pub if_traceable : Command → Option Command
 if_traceable (Init minimum) = None
 if_traceable Twins = None
 if_traceable command = Some command
 
--- The command that follows the word `trace`, if there is one that can be traced.
+-- The command after the word `trace`, if there is one that can be traced.
 abbrev pub traced_in : List (List ℕ) → Option Command
 traced_in (folder ∷ words) = option_and_then if_traceable (command_of words)
 traced_in _ = None
 
--- The command whose requests these words ask to see.
+-- The command whose requests these words ask to see, if they ask for a trace.
 unfoldable pub traced_command : List (List ℕ) → Option Command
 traced_command words = cond (asks_trace words) (traced_in words) None
 
--- The command that these words name, whether it is to be done or to be traced.
+-- The command that these words name, to do or to trace.
 unfoldable pub named_command : List (List ℕ) → Option Command
 named_command words = cond (asks_trace words) (traced_in words) (command_of words)
 
 -- ---- a job
 
--- A job ran over the store that the shelf holds, to its end, and its trace is said. Nothing of it is kept.
+-- A job ran to its end over the store that the shelf holds, and its trace is written. Nothing of it is stored.
 pub record JobTraced {S : Type 0} (F : Sight S) (command : Command) (left rest : Option (List ℕ)) (old new : S)
     (due : ℕ) (es : List Entry) (told : Told) (Says : List ℕ → Type 0) : Type 0 where
-  -- the script is the command's, and the store that the run began with is the shelf's
+  -- the script is the command's, and the run began with the shelf's store
   pub script : Script
   pub opening : Content
   pub reads : AreJobsOf command left rest (One script)
@@ -67,7 +67,7 @@ pub record JobTraced {S : Type 0} (F : Sight S) (command : Command) (left rest :
   -- all that is promised of a job holds of what the trace shows, and each event has its end
   pub promised : KeepsOne script opening es told
   pub finished : Finished script opening es told.picks told.ends
-  -- the trace is said, with the status that the job ends with
+  -- the trace is written, with the status that the job ends with
   pub status : due ≡ verdict script told.ends
   pub said : Says (trace_text script opening es told.ends)
   -- the shelf was loaded, and called for nothing else
@@ -75,28 +75,28 @@ pub record JobTraced {S : Type 0} (F : Sight S) (command : Command) (left rest :
 
 -- ---- another command
 
--- The store on which a command is done: a new one where nothing is held.
+-- The store on which a command is done: a new one if none is held.
 abbrev pub store_in : Held → Content
 store_in (Store c) = c
 store_in _ = new_content MOST_MINIMUM
 
--- What a traced command says: the trace of its requests, or what it says itself where it is refused or finds no store.
+-- The text of a traced command: the trace of its requests, or its own text if it is refused or finds no store.
 abbrev pub shown_text : Held → Work → List ℕ
 shown_text before (Says statuses.Done text sent) = requests_text (store_in before) sent
 shown_text before (Says due text sent) = written_text due text
 shown_text before (Saves opening text sent) = requests_text (store_in before) sent
 
--- The status with which it ends.
+-- The status with which a traced command ends.
 abbrev pub shown_status : Work → Status
 shown_status (Says due text sent) = due
 shown_status (Saves opening text sent) = statuses.Done
 
--- What it sends.
+-- The requests that a command sends.
 abbrev pub shown_sends : Work → List Entry
 shown_sends (Says due text sent) = sent
 shown_sends (Saves opening text sent) = sent
 
--- A command was done on what the shelf holds, and the trace of its requests is said. Nothing of it is kept.
+-- A command was done on what the shelf holds, and the trace of its requests is written. Nothing of it is stored.
 pub record StoreTraced {S : Type 0} (F : Sight S) (command : Command) (left rest : Option (List ℕ)) (old new : S)
     (due : ℕ) (es : List Entry) (Says : List ℕ → Type 0) : Type 0 where
   -- what the shelf held
@@ -105,24 +105,24 @@ pub record StoreTraced {S : Type 0} (F : Sight S) (command : Command) (left rest
   -- the bytes of the input
   pub bytes : List ℕ
   pub input : IsInput (reads_input command before) left rest bytes
-  -- what the command is to say or to keep, and what it sends for that
+  -- what the command says or stores, and what it sends for that
   pub work : Work
   pub does : IsWork command bytes before work
   pub sent : es ≡ shown_sends work
-  -- what is said of it
+  -- the status and the text of the trace
   pub status : due ≡ code (shown_status work)
   pub said : Says (shown_text before work)
   -- the shelf was loaded, and called for nothing else
   pub load : F.answers Load old new
 
--- ---- what comes of words that ask for a trace, where this is the command that they name
+-- ---- the outcome of words that ask for a trace of this command
 
--- The shelf was called once at most, to be loaded.
+-- Holds if the shelf was called at most once, to load it.
 abbrev pub IsLoaded : {S : Type 0} → Sight S → S → S → Type 0
 IsLoaded F old new = (old ≡ new) ⊎ (F.fails Load old new ⊎ F.answers Load old new)
 
--- The status that is due is one of the program's, by the counts of faults of the input and of the shelf, and what was traced or stopped
--- is as the headline has it.
+-- The status before writing is one of the program's and fits the counts of faults of the input (`i`, `j`) and of the shelf (`m`, `n`). What
+-- was traced, or stopped, is as the headline has it.
 pub record Shows {S : Type 0} (F : Sight S) (named : Option Command) (left rest : Option (List ℕ)) (old new : S) (i j m n status : ℕ)
     (es : List Entry) (told : Told) (Says : List ℕ → Type 0) : Type 0 where
   pub due : IsDue status

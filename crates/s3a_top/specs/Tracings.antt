@@ -1,4 +1,4 @@
--- What the tracing of a command gives before its text is written.
+-- The outcome of tracing a command, before its text is written.
 use Rattle.durable_job.specs.Jobs.{KeepsOne}
 use Rattle.durable_job.specs.declared.jobs.Jobs.TheVariants.{One}
 use Rattle.durable_job.specs.declared.jobs.Told.{Told}
@@ -26,20 +26,20 @@ use Rattle.shelf.specs.Logged.{Sight, Stored}
 use Rattle.std.specs.Prelude.{Err, List, Ok, Option, Result, false, true, ℕ, [], ◌≡◌}
 use Rattle.trace_text.specs.Trace.{trace_text}
 
--- ---- behind the load
+-- ---- after the load
 
--- What is told of a job alone.
+-- The report of chosen attempts and ends for a job that runs alone.
 abbrev pub told_alone : List Pick → List EventEnd → Told
 told_alone picks ends = record { picks = picks; ends = ends; second_picks = []; second_ends = [] }
 
--- A job's script ran over a store to its end, and the trace of that is answered.
+-- A job's script ran over a store to its end, and the answer is its trace.
 pub record RunShown (w : Script) (c : Content) (work : Work) : Type 0 where
   pub promised : KeepsOne w c work.answer.sent.entries work.told
   pub finished : Finished w c work.answer.sent.entries work.told.picks work.told.ends
   pub status : code work.answer.due ≡ verdict w work.told.ends
   pub said : IsWritten work.answer (trace_text w c work.answer.sent.entries work.told.ends)
 
--- The script of that is the command's, and the store is what is held, where that is told.
+-- The job that was shown is the command's, and it opened with the store on the shelf.
 pub record JobShown (command : Command) (told : Option Stored) (left rest : Option (List ℕ)) (work : Work) : Type 0 where
   pub script : Script
   pub opening : Content
@@ -47,25 +47,25 @@ pub record JobShown (command : Command) (told : Option Stored) (left rest : Opti
   pub opens : Opens told (One script) opening
   pub shown : RunShown script opening work
 
--- What comes of the tracing of a job.
+-- The outcome of tracing a job.
 abbrev pub JobShows : Command → Option Stored → (left rest : Option (List ℕ)) → Result Work Stop → Type 0
 JobShows command told left rest (Ok work) = JobShown command told left rest work
 JobShows command told left rest (Err stop) = HasCause stop command told left rest
 
--- What a command does on what is held is answered so: the trace of what it sends, or what it says itself.
+-- The answer shows what a command does: the trace of what it sends, or the text that the command itself says.
 pub record IsShownOf (before : Held) (work : Doing) (answer : Answer) : Type 0 where
   pub sent : answer.sent.entries ≡ shown_sends work
   pub status : answer.due ≡ shown_status work
   pub said : IsWritten answer (shown_text before work)
 
--- A command was done on what is held, and that is answered.
+-- A command was done on what is held, and the answer shows it.
 pub record AnswerShown (command : Command) (bytes : List ℕ) (before : Held) (answer : Answer) : Type 0 where
   pub work : Doing
   pub does : IsWork command bytes before work
   pub plain : IsPlain work
   pub shown : IsShownOf before work answer
 
--- The bytes of that are the command's input, and what is held is what was found.
+-- The bytes of that command are its input, and it was done on what was found on the shelf.
 pub record StoreShown (command : Command) (told : Option Stored) (left rest : Option (List ℕ)) (work : Work) : Type 0 where
   pub before : Held
   pub found : IsFound told before
@@ -74,26 +74,26 @@ pub record StoreShown (command : Command) (told : Option Stored) (left rest : Op
   pub shown : AnswerShown command bytes before work.answer
   pub quiet : IsQuiet work
 
--- What comes of the tracing of another command.
+-- The outcome of tracing another command.
 abbrev pub StoreShows : Command → Option Stored → (left rest : Option (List ℕ)) → Result Work Stop → Type 0
 StoreShows command told left rest (Ok work) = StoreShown command told left rest work
 StoreShows command told left rest (Err stop) = HasReason stop command told left rest
 
 -- ---- over a shelf
 
--- What comes of the tracing of a job, before the text of a stop is made.
+-- The outcome of tracing a job, before the text of a stop is made.
 abbrev pub JobTraces : {S : Type 0} → Sight S → Command → (left rest : Option (List ℕ)) (old new : S) → Result Work Stop → Type 0
 JobTraces F command left rest old new (Ok work) =
     JobTraced F command left rest old new (code work.answer.due) work.answer.sent.entries work.told (IsWritten work.answer)
 JobTraces F command left rest old new (Err stop) = JobHalted F command left rest old new stop
 
--- What comes of the tracing of another command, before the text of a stop is made.
+-- The outcome of tracing another command, before the text of a stop is made.
 abbrev pub StoreTraces : {S : Type 0} → Sight S → Command → (left rest : Option (List ℕ)) (old new : S) → Result Work Stop → Type 0
 StoreTraces F command left rest old new (Ok work) =
     StoreTraced F command left rest old new (code work.answer.due) work.answer.sent.entries (IsWritten work.answer) × IsQuiet work
 StoreTraces F command left rest old new (Err stop) = StoreHalted F command left rest old new stop
 
--- What comes of the tracing of a command: the shelf was loaded, and called for nothing else.
+-- The outcome of tracing a command: the shelf was loaded, and called for nothing else.
 pub record Traces {S : Type 0} (F : Sight S) (command : Command) (left rest : Option (List ℕ)) (old new : S)
     (result : Result Work Stop) : Type 0 where
   pub job : plays command ≡ true → JobTraces F command left rest old new result

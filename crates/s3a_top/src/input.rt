@@ -5,14 +5,15 @@ use s3_types::MOST_SCRIPT_BYTES;
 use shelf::{Failed, Source};
 use std::alloc::{AllocError, AllocFailed, Global};
 
-/// Why the input was not read.
+/// Why the input could not be read.
 #[derive(Clone, Copy, PartialEq, Eq)]
 pub enum InputFault {
     Failed,
     NoMemory,
 }
 
-/// Reads the input to its end, or to one byte over the limit.
+/// Reads the input to its end, but no more than `MOST_SCRIPT_BYTES + 1` bytes. Fails with `Failed`
+/// if the input fails, and with `NoMemory` if memory runs out.
 pub fn read_input<Q: Source>(alloc: Global, input: &mut Q) -> Result<Vec<u8>, InputFault>
     ensures calm { OnOk result (Q.faults input.new ≡ Q.faults input.old) }
     ensures failed { IsErrOf result InputFault.Failed → Q.faults input.old < 2 ^ 64 - 1 → Q.faults input.old

@@ -30,7 +30,7 @@ use shelf::kept::{Shelf, ShelfStop};
 use std::alloc::{AllocError, Global};
 use twin_script::Twins;
 
-/// Makes the destination's bucket in a store, whatever is answered.
+/// Sends the request that makes the destination's bucket, and ignores the reply.
 fn make_bucket(service: &mut Service, jobs: &Jobs) -> Result<(), AllocError>
     requires { service.old.next < 2 ^ 63 }
     ensures { OnOk result (service.new ≡ apply_store service.old (Request.MakeBucket (dest_of jobs.now).bucket)) }
@@ -47,7 +47,7 @@ fn make_bucket(service: &mut Service, jobs: &Jobs) -> Result<(), AllocError>
     }
 }
 
-/// A new store in which the destination's bucket was made.
+/// Makes a new store that has the destination's bucket.
 fn new_store(alloc: Global, jobs: &Jobs) -> Result<Service, AllocError>
     ensures opening { IfOk result (λ service. opening_in Held.Nothing jobs.now ≡ Some service) }
     ensures image { IfOk result IsContent }
@@ -62,7 +62,7 @@ fn new_store(alloc: Global, jobs: &Jobs) -> Result<Service, AllocError>
     }
 }
 
-/// The status that a verdict is: 0, 1, 8 or 9.
+/// The status with this number, which is 0, 1, 8 or 9.
 pub fn status_of(verdict: u8) -> Status
     requires { IsFinal verdict }
     ensures which { IsVerdict result }
@@ -76,7 +76,7 @@ pub fn status_of(verdict: u8) -> Status
     }
 }
 
-/// What is said of a job alone that was played to its end: its report, or the summary of one that was made.
+/// The text for one job that ran to its end: its report, or the summary if `gen` made the script.
 fn one_text(
     alloc: Global,
     command: &Command,
@@ -96,7 +96,7 @@ fn one_text(
     }
 }
 
-/// The report of two jobs that were played to the end of their order.
+/// The report of two jobs that ran to the end of their order.
 fn both_text(
     alloc: Global,
     due: u8,
@@ -119,7 +119,7 @@ fn both_text(
     twins_report(alloc, due, sent, &twins.order, first, second)
 }
 
-/// What is said of jobs that were played to their end.
+/// The text for jobs that ran to their end.
 fn text_of(alloc: Global, command: &Command, kept: &Kept) -> Result<Bytes, AllocError>
     ensures { IfOk result (λ text. text ≡ job_text command.now kept.now.verdict (length kept.now.journal.entries)
         kept.now.told kept.now.jobs) }
@@ -131,7 +131,8 @@ fn text_of(alloc: Global, command: &Command, kept: &Kept) -> Result<Bytes, Alloc
     }
 }
 
-/// The status and the text of jobs that were played to their end, or want of memory for that.
+/// The status and the text for jobs that ran to their end, or `NoMemory` if memory runs out for the
+/// text.
 fn reported(alloc: Global, command: &Command, kept: &Kept) -> (Status, Option<Bytes>)
     requires { IsFinal kept.now.verdict }
     ensures which { IsVerdict result.0 }
@@ -143,7 +144,7 @@ fn reported(alloc: Global, command: &Command, kept: &Kept) -> (Status, Option<By
     }
 }
 
-/// The status and the text of jobs that were played, by why they stopped.
+/// The status and the text for jobs that ran, according to why they stopped.
 fn told(alloc: Global, command: &Command, kept: &Kept) -> (Status, Option<Bytes>)
     requires { IsFinal kept.now.verdict }
     ensures which { IsOfStop kept.now.stop result.0 }
@@ -156,7 +157,7 @@ fn told(alloc: Global, command: &Command, kept: &Kept) -> (Status, Option<Bytes>
     }
 }
 
-/// What is answered to jobs that were played.
+/// The work that answers jobs that ran.
 fn answered(alloc: Global, command: &Command, kept: Kept) -> Work
     requires { IsFinal kept.verdict }
     ensures sent { result.answer.sent ≡ kept.journal }
@@ -185,7 +186,7 @@ fn answered(alloc: Global, command: &Command, kept: Kept) -> Work
     }
 }
 
-/// The store that jobs open with: the one that is held, or a new one.
+/// The store with which jobs open: the one that the shelf holds, or a new one with their bucket.
 pub fn opened(alloc: Global, held: Held, jobs: &Jobs) -> Result<Service, AllocError>
     requires some { is_sound held }
     requires sound { IsSound held }
@@ -199,7 +200,7 @@ pub fn opened(alloc: Global, held: Held, jobs: &Jobs) -> Result<Service, AllocEr
     }
 }
 
-/// Plays the jobs of a command, `job`, `twins` or `gen`, over what the shelf was found to hold.
+/// Runs the jobs of the command `job`, `twins` or `gen` over what was found on the shelf.
 pub fn job<Q: Source, F: Shelf>(
     input: &mut Q,
     shelf: &mut F,

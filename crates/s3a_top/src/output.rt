@@ -4,7 +4,8 @@ ghost use Rattle.s3a_top.specs.Bytes.{WritesSome};
 
 use shelf::{Failed, Sink};
 
-/// Writes all bytes, piece by piece, and sees that they have gone out.
+/// Writes all bytes, piece by piece, and flushes the output. After `Failed` some first bytes of
+/// them may have been written.
 pub fn write_output<K: Sink>(out: &mut K, bytes: &[u8]) -> Result<(), Failed>
     ensures calm { OnOk result (K.faults out.new ≡ K.faults out.old) }
     ensures failed { OnErr result (K.faults out.old < 2 ^ 64 - 1 → K.faults out.old < K.faults out.new) }

@@ -1,8 +1,12 @@
 use durable_job::Told;
 use s3_types::Journal;
 
-/// What a run did: the status that the program ends with, the status that was due before anything was
-/// written, every sending, and what is told of the jobs: the picks of each job's commit, and the ends of its events.
+/// What a run did.
+///
+/// - `status`: the status that the program ends with.
+/// - `due`: the status before anything was written.
+/// - `journal`: every request of the run, in order.
+/// - `told`: for each job the chosen attempts of its commit, and the ends of its events.
 #[derive(Drop)]
 pub struct Report {
     pub status: u8,

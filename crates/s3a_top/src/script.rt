@@ -15,7 +15,7 @@ use shelf::Source;
 use std::alloc::Global;
 use twin_script::{TwinFault, read_twins};
 
-/// The job whose script these bytes are.
+/// Reads these bytes as the script of one job.
 fn script_in(alloc: Global, bytes: &[u8]) -> Result<Jobs, Stop>
     ensures jobs { IfOk result (λ jobs. AreJobsIn false bytes.now jobs) }
     ensures stop { IfErr result (λ stop. IsNone stop false bytes.now) }
@@ -27,7 +27,7 @@ fn script_in(alloc: Global, bytes: &[u8]) -> Result<Jobs, Stop>
     }
 }
 
-/// The two jobs whose scripts and order these bytes are.
+/// Reads these bytes as two scripts and the order of their turns.
 fn twins_in(alloc: Global, bytes: &[u8]) -> Result<Jobs, Stop>
     ensures jobs { IfOk result (λ jobs. AreJobsIn true bytes.now jobs) }
     ensures stop { IfErr result (λ stop. IsNone stop true bytes.now) }
@@ -39,7 +39,7 @@ fn twins_in(alloc: Global, bytes: &[u8]) -> Result<Jobs, Stop>
     }
 }
 
-/// The jobs that these bytes tell: one, or both.
+/// Reads these bytes as one job, or as two if `both` is set.
 fn jobs_in(alloc: Global, both: bool, bytes: &[u8]) -> Result<Jobs, Stop>
     ensures jobs { IfOk result (λ jobs. AreJobsIn both bytes.now jobs) }
     ensures stop { IfErr result (λ stop. IsNone stop both bytes.now) }
@@ -51,7 +51,8 @@ fn jobs_in(alloc: Global, both: bool, bytes: &[u8]) -> Result<Jobs, Stop>
     }
 }
 
-/// Reads one job from the input, or both, which is taken to its end, or to one byte over the limit.
+/// Reads one job from the input, or two if `both` is set. At most `MOST_SCRIPT_BYTES + 1` bytes are
+/// taken from the input.
 fn read_jobs<Q: Source>(alloc: Global, input: &mut Q, both: bool) -> Result<Jobs, Stop>
     requires { Q.faults input.old < 2 ^ 64 - 1 }
     ensures jobs { IfOk result (λ jobs. AreJobsOf (reader both) (Q.left input.old) (Q.left input.new) jobs) }
@@ -65,8 +66,8 @@ fn read_jobs<Q: Source>(alloc: Global, input: &mut Q, both: bool) -> Result<Jobs
     }
 }
 
-/// The jobs of a command that plays some: `job` and `twins` read them from the input, and `gen` makes one of its numbers, with
-/// nothing taken from the input.
+/// The jobs that a command runs. `job` and `twins` read them from the input. `gen` makes one from
+/// its numbers and takes nothing from the input.
 pub fn jobs_for<Q: Source>(alloc: Global, input: &mut Q, command: &Command) -> Result<Jobs, Stop>
     requires count { Q.faults input.old < 2 ^ 64 - 1 }
     requires one { plays command.now ≡ true }

@@ -13,7 +13,7 @@ use shelf::kept::ShelfStop;
 use std::alloc::{AllocError, Global};
 use twin_script::TwinFault;
 
-/// Why the work stopped before anything was sent.
+/// Why the program stopped before it sent anything.
 #[derive(Clone, Copy, PartialEq, Eq)]
 pub enum Stop {
     /// The words are no command.
@@ -22,16 +22,17 @@ pub enum Stop {
     ReadFault,
     /// The shelf failed.
     ShelfFault,
-    /// The input is no script.
+    /// The input is not a valid script.
     Script(ScriptFault),
-    /// The input is no two scripts with an order.
+    /// The input is not two valid scripts with an order.
     Twins(TwinFault),
-    /// What the shelf holds is no store: the fault's number, and its place in bytes from the start.
+    /// The shelf holds something that is no store: the fault's number, and its place in bytes from
+    /// the start.
     Image { number: u8, place: u64 },
     NoMemory,
 }
 
-/// The line that tells of bytes that are no script: `script fault NUMBER at line LINE`.
+/// The line that reports an invalid script: `script fault NUMBER at line LINE`.
 #[tactic(auto, unfolding(crate::specs::Statuses::script_fault_text))]
 fn script_fault_text(alloc: Global, fault: ScriptFault) -> Result<Bytes, AllocError>
     ensures { IfOk result (λ text. text ≡ script_fault_text fault) }
@@ -42,7 +43,7 @@ fn script_fault_text(alloc: Global, fault: ScriptFault) -> Result<Bytes, AllocEr
     Bytes::new(alloc, text.into_bytes())
 }
 
-/// The line that tells of bytes that are no two scripts with an order: `twin fault NUMBER at line LINE`.
+/// The line that reports two invalid scripts or their order: `twin fault NUMBER at line LINE`.
 #[tactic(auto, unfolding(crate::specs::Statuses::twin_fault_text))]
 fn twin_fault_text(alloc: Global, fault: TwinFault) -> Result<Bytes, AllocError>
     ensures { IfOk result (λ text. text ≡ twin_fault_text fault) }
@@ -54,7 +55,7 @@ fn twin_fault_text(alloc: Global, fault: TwinFault) -> Result<Bytes, AllocError>
 }
 
 impl Stop {
-    /// The stop that a shelf made.
+    /// The stop for a failed call of the shelf.
     pub fn of_shelf(fault: ShelfStop) -> Stop
         ensures { result ≡ of_shelf fault }
     {
@@ -64,7 +65,7 @@ impl Stop {
         }
     }
 
-    /// The status that says it.
+    /// The status with which the program reports this stop.
     pub fn status(self) -> Status
         ensures { result ≡ status_of self }
     {
@@ -79,7 +80,7 @@ impl Stop {
         }
     }
 
-    /// Its text, where that is not its status's own.
+    /// The text of this stop, or `None` if the text of its status is written instead.
     fn text(self, alloc: Global) -> Result<Option<Bytes>, AllocError>
         ensures told { IfOk result (λ text. written_text (status_of self) text ≡ stop_text self) }
         ensures made { OnErr result (IsMade self) }
@@ -93,7 +94,7 @@ impl Stop {
     }
 }
 
-/// A status and a text with nothing done.
+/// Work that did nothing, with this status and this text.
 fn said(alloc: Global, due: Status, text: Option<Bytes>) -> Work
     ensures due { result.answer.due ≡ due }
     ensures text { result.answer.text ≡ text }
@@ -103,7 +104,7 @@ fn said(alloc: Global, due: Status, text: Option<Bytes>) -> Work
     quiet(alloc, Answer { due, text, sent })
 }
 
-/// What is answered to a stop: its text, or want of memory where there was none for that.
+/// The work that reports a stop. If memory runs out for its text, the status is `NoMemory`.
 pub fn stopped(alloc: Global, stop: Stop) -> Work
     ensures { IsStopped stop result }
 {
@@ -113,7 +114,7 @@ pub fn stopped(alloc: Global, stop: Stop) -> Work
     }
 }
 
-/// What is answered to what was done, or to a stop.
+/// The work that was done, or the one that reports the stop.
 pub fn answered(alloc: Global, done: Result<Work, Stop>) -> Work
     ensures { IsAnswered done result }
 {

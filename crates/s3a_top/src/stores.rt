@@ -18,7 +18,7 @@ use shelf::Source;
 use shelf::kept::Shelf;
 use std::alloc::Global;
 
-/// Whether a command reads the input, by what was found on the shelf.
+/// True if the command reads its input, given what was found on the shelf.
 fn reads_input(command: &Command, held: &Held) -> bool
     ensures exact { result ≡ reads_input command.now held.now }
     ensures takes { result ≡ true → takes_input command.now ≡ true }
@@ -30,7 +30,7 @@ fn reads_input(command: &Command, held: &Held) -> bool
     }
 }
 
-/// The bytes of a command's input, where it reads it.
+/// The command's input, or no bytes if the command does not read it.
 pub fn read_bytes<Q: Source>(
     alloc: Global,
     input: &mut Q,
@@ -60,8 +60,8 @@ pub fn read_bytes<Q: Source>(
     }
 }
 
-/// Does a command that plays no jobs on what the shelf was found to hold, with the bytes of its input where it has one. After an error
-/// the shelf was not called.
+/// Does a command that runs no job on what was found on the shelf, with the input if the command
+/// has one. If it fails, the shelf was not called.
 pub fn commanded<Q: Source, F: Shelf>(
     input: &mut Q,
     shelf: &mut F,

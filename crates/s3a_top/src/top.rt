@@ -29,7 +29,7 @@ use shelf::kept::Shelf;
 use shelf::{Sink, Source};
 use std::alloc::Global;
 
-/// Does a command on what the shelf holds.
+/// Loads the shelf and does a command on what it holds.
 fn do_command<Q: Source, F: Shelf>(
     input: &mut Q,
     shelf: &mut F,
@@ -53,7 +53,7 @@ fn do_command<Q: Source, F: Shelf>(
     }
 }
 
-/// Does what the words say, with the text that is to be written.
+/// Does the command that the words name.
 fn do_words<Q: Source, F: Shelf>(
     alloc: Global,
     words: &[Text],
@@ -82,7 +82,7 @@ fn do_words<Q: Source, F: Shelf>(
     }
 }
 
-/// Does what the words say, or shows what it would send, with the text that is to be written.
+/// Does the command that the words name, or shows its requests if the words ask for a trace.
 fn worked<Q: Source, F: Shelf>(alloc: Global, words: &[Text], input: &mut Q, shelf: &mut F) -> Work
     requires source_count { Q.faults input.old < 2 ^ 64 - 1 }
     requires shelf_count { F.faults shelf.old < 2 ^ 64 - 1 }
@@ -103,7 +103,8 @@ fn worked<Q: Source, F: Shelf>(alloc: Global, words: &[Text], input: &mut Q, she
     }
 }
 
-/// Writes the text that is due, and answers the status that comes of it.
+/// Writes the text of the work, and returns the status of the program: 4 if writing failed, else
+/// the work's own.
 fn say<K: Sink>(out: &mut K, work: &Work) -> u8
     requires count { K.faults out.old < 2 ^ 64 - 1 }
     requires due { IsDue (code work.now.answer.due) }
@@ -119,20 +120,32 @@ fn say<K: Sink>(out: &mut K, work: &Work) -> u8
     }
 }
 
-/// Does what the words say: word 0 is the folder that the shelf stands for, word 1 the command. `init`
-/// or `init MIN` makes an empty store whose parts but the last have at least MIN bytes, 1 to 5,242,880;
-/// `mb NAME` makes a bucket; `ls`, `stat`, `cat`, `put`, `put-force`, `put-drop`, `mkdir`, `rm`, `rmr`,
-/// `uploads` and `abort-uploads` with a path, and `mv` with two, do as the FileSystem specification says of
-/// the operation that they name; `cp` with two paths does as the FileSystem shell does, and leaves what stands already;
-/// `markers`, `clean-markers` and `fill-markers` with a path do as S3A's marker tool; `job` reads a script from the input, plays it over the store that the shelf
-/// holds, and writes the report; `twins` reads two scripts and an order from the input, plays both jobs by it, and writes the
-/// report of both; `gen SEED TASKS FILES` plays in the same way a script that it makes of these numbers, with nothing
-/// taken from the input, and writes a line that sums the job up. The shelf takes the image of the store that a job or a
-/// changing command opens with in place of what it holds, and after each event, or after the command, each change that was
-/// made, so that a stop at any moment leaves one of the run's. `trace` before another command than `init` and `twins` shows what
-/// it would send over what the shelf holds, and keeps nothing: of `job` and `gen` the trace of the whole run, of other
-/// commands the lines of their requests. The report's status is one of [`Status`]; what was sent
-/// before the shelf failed or memory was wanting is in the report.
+/// Runs the program. Word 0 is the folder that the shelf stands for, word 1 names the command:
+///
+/// - `init` or `init MIN` makes an empty store. Each part of an upload but the last must have at
+///   least MIN bytes, 1 to 5,242,880.
+/// - `mb NAME` makes a bucket.
+/// - `ls`, `stat`, `cat`, `put`, `put-force`, `put-drop`, `mkdir`, `rm`, `rmr`, `uploads` and
+///   `abort-uploads` with a path, and `mv` with two, do the operation of the FileSystem
+///   specification that they name.
+/// - `cp` with two paths copies as the FileSystem shell does, and does not overwrite what exists.
+/// - `markers`, `clean-markers` and `fill-markers` with a path do as S3A's marker tool does.
+/// - `job` reads a script from the input, runs it over the store that the shelf holds, and writes
+///   the report.
+/// - `twins` reads two scripts and an order from the input, runs both jobs in that order, and
+///   writes the report of both.
+/// - `gen SEED TASKS FILES` makes a script from these numbers and runs it as `job` does. It takes
+///   nothing from the input and writes a line that sums the job up.
+/// - `trace` before any other command than `init` and `twins` shows what the command would send
+///   over what the shelf holds, and stores nothing. For `job` and `gen` it shows the trace of the
+///   whole run, for other commands the lines of their requests.
+///
+/// A job or a command that changes the store first replaces what the shelf holds by the image of
+/// the store that it opens with. Then the shelf takes each change, after each event or after the
+/// command. So a stop at any point leaves one of the states of the run.
+///
+/// The report's status is one of [`Status`]. The report has what was sent before the shelf failed
+/// or memory ran out.
 pub fn run<Q: Source, F: Shelf, K: Sink>(
     alloc: Global,
     words: &[Text],
@@ -144,7 +157,8 @@ pub fn run<Q: Source, F: Shelf, K: Sink>(
     requires shelf_count { F.faults shelf.old < 2 ^ 64 - 1 }
     requires sink_count { K.faults out.old < 2 ^ 64 - 1 }
 
-    // The status, and when it is one of a fault. A failed write or flush gives 4, whatever was due.
+    // The status, and when it reports a fault. A failed write or flush gives 4, whatever the status
+    // would have been.
     ensures due { IsDue result.due }
     ensures read { Tells 3 result.due (Q.faults input.old) (Q.faults input.new) }
     ensures shelf { Tells 5 result.due (F.faults shelf.old) (F.faults shelf.new) }
@@ -152,15 +166,16 @@ pub fn run<Q: Source, F: Shelf, K: Sink>(
     ensures otherwise { result.status ≢ 4 → result.status ≡ result.due }
     ensures out { result.status ≢ 4 → K.is_out out.new }
 
-    // A job, by the input's script or by one that is made, or two, by the input's scripts and order: they were played, and
-    // the promise holds of all that was sent, or it stopped before their first event.
+    // A command that runs jobs, one or two. Either they ran, and the promise holds of all that was
+    // sent, or the program stopped before their first event.
     ensures job { (c : words_said.Command) → command_of words.now ≡ Some c → plays c ≡ true
         → JobPlayed F.sight c (Q.left input.old) (Q.left input.new) shelf.old shelf.new result.due
         result.journal.entries result.told (Writes result.status (K.written out.old) (K.written out.new))
         ⊎ JobStopped F.sight c (Q.left input.old) (Q.left input.new) shelf.old shelf.new result.due
         result.journal.entries result.told (Writes result.status (K.written out.old) (K.written out.new)) }
 
-    // Another command: it was done on what the shelf holds, or it stopped before anything was done.
+    // Another command: either it was done on what the shelf holds, or it stopped before anything
+    // was done.
     ensures store { (c : words_said.Command) → command_of words.now ≡ Some c → plays c ≡ false
         → StoreDone F.sight c (Q.left input.old) (Q.left input.new) shelf.old shelf.new result.due
         result.journal.entries (Writes result.status (K.written out.old) (K.written out.new))
@@ -169,23 +184,23 @@ pub fn run<Q: Source, F: Shelf, K: Sink>(
     ensures quiet { (c : words_said.Command) → command_of words.now ≡ Some c → plays c ≡ false
         → result.told ≡ nothing_told }
 
-    // A trace of a job: it ran over the store that the shelf holds, the promise holds of all that the trace shows, and
-    // nothing is kept; or it stopped before its first event.
+    // A trace of a job. Either it ran over the store that the shelf holds, the promise holds of all
+    // that the trace shows, and nothing is stored; or it stopped before its first event.
     ensures trace_job { (c : words_said.Command) → traced_command words.now ≡ Some c → plays c ≡ true
         → JobTraced F.sight c (Q.left input.old) (Q.left input.new) shelf.old shelf.new result.due
         result.journal.entries result.told (Writes result.status (K.written out.old) (K.written out.new))
         ⊎ JobStopped F.sight c (Q.left input.old) (Q.left input.new) shelf.old shelf.new result.due
         result.journal.entries result.told (Writes result.status (K.written out.old) (K.written out.new)) }
 
-    // A trace of another command: it was done on what the shelf holds, its requests are shown, and nothing is kept; or it
-    // stopped before anything was done.
+    // A trace of another command. Either it was done on what the shelf holds, its requests are
+    // shown, and nothing is stored; or it stopped before anything was done.
     ensures trace_store { (c : words_said.Command) → traced_command words.now ≡ Some c → plays c ≡ false
         → StoreTraced F.sight c (Q.left input.old) (Q.left input.new) shelf.old shelf.new result.due
         result.journal.entries (Writes result.status (K.written out.old) (K.written out.new))
         ⊎ StoreStopped F.sight c (Q.left input.old) (Q.left input.new) shelf.old shelf.new result.due
         result.journal.entries (Writes result.status (K.written out.old) (K.written out.new)) }
 
-    // A trace calls the shelf once at most, to load it.
+    // A trace calls the shelf at most once, to load it.
     ensures trace_loads { asks_trace words.now ≡ true → IsLoaded F.sight shelf.old shelf.new }
 
     // Words that are no command.

@@ -44,7 +44,7 @@ use trace_text::{DryRun, dry_run, requests_text};
 
 // ---- the words
 
-/// Whether words ask for a trace.
+/// True if the words ask for a trace.
 pub fn asks_trace(words: &[Text]) -> bool
     ensures { result ≡ asks_trace words.now }
 {
@@ -54,7 +54,7 @@ pub fn asks_trace(words: &[Text]) -> bool
     }
 }
 
-/// Whether a command can be traced: any but `init` and `twins`.
+/// True if the command can be traced: any but `init` and `twins`.
 fn is_traceable(command: &Command) -> bool
     ensures can { result ≡ true → if_traceable command.now ≡ Some command.now }
     ensures single { result ≡ true → command.now ≡ Command.Twins → ⊥ }
@@ -67,7 +67,7 @@ fn is_traceable(command: &Command) -> bool
     }
 }
 
-/// A command, where it can be traced.
+/// The same command, or `Usage` if it cannot be traced.
 fn if_traceable(command: Command) -> Result<Command, WordFault>
     ensures same { IfOk result (λ traced. traced ≡ command) }
     ensures single { IfOk result (λ traced. traced ≡ Command.Twins → ⊥) }
@@ -81,7 +81,8 @@ fn if_traceable(command: Command) -> Result<Command, WordFault>
     }
 }
 
-/// The command that follows the word `trace`, where it can be traced.
+/// Reads the command after the word `trace`. Fails with `Usage` if there is none or it cannot be
+/// traced.
 fn read_traced(alloc: Global, words: &[Text]) -> Result<Command, WordFault>
     requires { asks_trace words.now ≡ true }
     ensures exact { Reads (traced_in words.now) result }
@@ -97,7 +98,7 @@ fn read_traced(alloc: Global, words: &[Text]) -> Result<Command, WordFault>
 
 // ---- a job
 
-/// The script of a job alone.
+/// The script of a job that runs alone.
 fn script_alone(jobs: Jobs) -> Script
     requires { (t : Twins) → jobs ≡ Jobs.Two t → ⊥ }
     ensures { jobs ≡ Jobs.One result }
@@ -108,7 +109,7 @@ fn script_alone(jobs: Jobs) -> Script
     }
 }
 
-/// What is answered to a run that was made to be shown.
+/// The work that shows a run.
 fn shown_run(alloc: Global, run: DryRun) -> Result<Work, AllocError>
     requires { IsFinal run.status }
     ensures shown { (w : scripts.Script) (c : Content) → IsDryRun w c run → IfOk result (RunShown w c) }
@@ -146,7 +147,7 @@ fn shown_run(alloc: Global, run: DryRun) -> Result<Work, AllocError>
     }
 }
 
-/// Runs a job over a store, and shows the run.
+/// Runs a job over a store and shows the run.
 fn show_job(alloc: Global, script: Script, service: Service) -> Result<Work, AllocError>
     requires { MayBegin service }
     ensures shown { IfOk result (RunShown script service) }
@@ -158,7 +159,7 @@ fn show_job(alloc: Global, script: Script, service: Service) -> Result<Work, All
     }
 }
 
-/// Runs the job of a command over what the shelf was found to hold, and shows the run.
+/// Runs the job of a command over what was found on the shelf, and shows the run.
 fn trace_job<Q: Source>(input: &mut Q, asked: Asked<'_>, held: Held) -> Result<Work, Stop>
     requires count { Q.faults input.old < 2 ^ 64 - 1 }
     requires fit { IsBounded asked.command.now }
@@ -195,7 +196,7 @@ fn trace_job<Q: Source>(input: &mut Q, asked: Asked<'_>, held: Held) -> Result<W
 
 // ---- another command
 
-/// The store on which a command is done, once more: a new one where nothing is held.
+/// A copy of the store on which a command is done, or a new store if none is held.
 fn store_of(alloc: Global, held: &Held) -> Result<Service, AllocError>
     ensures { IfOk result (λ service. service ≡ store_in held.now) }
 {
@@ -205,7 +206,7 @@ fn store_of(alloc: Global, held: &Held) -> Result<Service, AllocError>
     }
 }
 
-/// What is answered of what a command sent: the trace of it.
+/// The answer that shows the requests that a command sent.
 fn shown_sends(alloc: Global, opening: Service, sent: Journal) -> Result<Answer, AllocError>
     requires next { opening.next ≤ 2 ^ 62 }
     requires honest { IsHonest opening sent.entries }
@@ -230,8 +231,8 @@ fn shown_sends(alloc: Global, opening: Service, sent: Journal) -> Result<Answer,
     }
 }
 
-/// What is answered of what a command was to say: the trace of what it sent, or what it says itself where it did not end with
-/// Done.
+/// The answer that shows the requests that a command sent. If the command did not end with `Done`,
+/// its own answer.
 fn shown_answer(alloc: Global, opening: Service, answer: Answer) -> Result<Answer, AllocError>
     requires next { opening.next ≤ 2 ^ 62 }
     requires honest { IsHonest opening answer.sent.entries }
@@ -251,8 +252,8 @@ fn shown_answer(alloc: Global, opening: Service, answer: Answer) -> Result<Answe
     }
 }
 
-/// What is answered of what a command was to do: the trace of what it sent, or what it says itself where it did not end with
-/// Done.
+/// The answer that shows the requests of a command's work. If the command did not end with `Done`,
+/// its own answer.
 fn shown_work(alloc: Global, opening: Service, work: Doing) -> Result<Answer, AllocError>
     requires next { opening.next ≤ 2 ^ 62 }
     requires honest { IsHonest opening (sends_in (work_in work)) }
@@ -272,7 +273,7 @@ fn shown_work(alloc: Global, opening: Service, work: Doing) -> Result<Answer, Al
     }
 }
 
-/// Does a command that plays no jobs on what is held, and shows what it sent.
+/// Does a command that runs no job on what is held, and shows what it sent.
 fn show_store(
     alloc: Global,
     command: &Command,
@@ -301,8 +302,8 @@ fn show_store(
     }
 }
 
-/// Does a command that plays no jobs on what the shelf was found to hold, with the bytes of its input where it has one, and
-/// shows what it sent.
+/// Does a command that runs no job on what was found on the shelf, with its input if it has one,
+/// and shows what it sent.
 fn trace_store<Q: Source>(input: &mut Q, asked: Asked<'_>, held: Held) -> Result<Work, Stop>
     requires count { Q.faults input.old < 2 ^ 64 - 1 }
     requires fit { IsBounded asked.command.now }
@@ -328,7 +329,7 @@ fn trace_store<Q: Source>(input: &mut Q, asked: Asked<'_>, held: Held) -> Result
 
 // ---- a command
 
-/// Shows what a command would send over what the shelf holds. The shelf is loaded, and called for nothing else.
+/// Shows what a command would send over what the shelf holds. The shelf is called only to load it.
 fn trace_command<Q: Source, F: Shelf>(
     input: &mut Q,
     shelf: &mut F,
@@ -353,7 +354,7 @@ fn trace_command<Q: Source, F: Shelf>(
     }
 }
 
-/// Shows what the command behind the word `trace` would send.
+/// Shows what the command after the word `trace` would send.
 pub fn traced<Q: Source, F: Shelf>(
     alloc: Global,
     words: &[Text],

@@ -8,14 +8,14 @@ use durable_store::Answer;
 use job_model::{EndList, PickList};
 use std::alloc::Global;
 
-/// What is answered, and what is told of the jobs' events.
+/// What the program is to answer, with the ends and chosen attempts of the jobs that it ran.
 #[derive(Drop)]
 pub struct Work {
     pub answer: Answer,
     pub told: Told,
 }
 
-/// Nothing is told.
+/// The `Told` of a program that ran no job: all its lists are empty.
 fn nothing(alloc: Global) -> Told
     ensures { result ≡ nothing_told }
 {
@@ -27,7 +27,7 @@ fn nothing(alloc: Global) -> Told
     }
 }
 
-/// What is answered where no job was played.
+/// Makes the work of a command that ran no job.
 pub fn quiet(alloc: Global, answer: Answer) -> Work
     ensures answer { result.answer ≡ answer }
     ensures quiet { IsQuiet result }
@@ -39,7 +39,7 @@ pub fn quiet(alloc: Global, answer: Answer) -> Work
 }
 
 impl Work {
-    /// What is to be written. Takes no memory.
+    /// The text to write: the answer's own, or else the text of its status. Takes no memory.
     pub fn written(&self) -> &[u8]
         ensures { result.now ≡ written_text self.now.answer.due self.now.answer.text }
     {

@@ -13,7 +13,7 @@ abbrev Of : Option Command → Type 0
 Of None = Unit {0}
 Of (Some c) = IsBounded c
 
--- it is so of the command that there is
+-- Holds for the command, if there is one.
 record AreBounded (o : Option Command) : Type 0 where
   so : Of o
 
@@ -23,7 +23,7 @@ none = record { so = tt }
 is : (c : Command) → IsBounded c → AreBounded (Some c)
 is c h = record { so = h }
 
--- one or the other
+-- One of two commands.
 either : (b : Bool) (o p : Option Command) → AreBounded o → AreBounded p → AreBounded (cond b o p)
 either true o p h g = h
 either false o p h g = g
@@ -32,7 +32,7 @@ and_then : {A : Type 0} (f : A → Option Command) (o : Option A) → ((a : A) �
 and_then f None h = none
 and_then f (Some a) h = h a
 
--- so it is where no command among those names a number
+-- It holds if no command among those names a number.
 ruleset each = (either, and_then, is, none)
 
 alone_bounded : (name : List ℕ) → AreBounded (alone name)
@@ -60,7 +60,7 @@ two_bounded : (name first second : List ℕ) → AreBounded (with_two name first
 unfolding with_two with_paths
 two_bounded name first second = search each depth 40
 
--- a number that a word writes, if it writes one, is within its bounds
+-- Holds if the number, if there is one, is within these bounds.
 abbrev Within : ℕ → ℕ → Option ℕ → Type 0
 Within low high None = Unit {0}
 Within low high (Some n) = (low ≤ n) × (n ≤ high)

@@ -1,4 +1,4 @@
--- A word writes a number exactly where it is the number's decimal text.
+-- A word writes a number exactly if it is the number's decimal text.
 use Rattle.s3a_words.specs.Numbers.{WritesDecimals, is_number, number_in}
 use Rattle.std.proofs.Common.{List, None, Some, ap, arith, false, get_or, length, nat_le, not, refl, subst, true, ℕ, ◌&&◌, ◌<◌, ◌==◌, ◌^◌}
 use Rattle.std.proofs.Common.{◌||◌, ◌≡◌, ◌≤◌}
@@ -15,7 +15,7 @@ use Rattle.std.specs.Str.Parse.{digits_value}
 own : IsNumeralModel (λ ds. all_ascii_digits ds ≡ true) (digits_value 10)
 own = numerals_by_value (λ ds. all_ascii_digits ds ≡ true) tells_all_ascii_digits
 
--- what is tested of a number's word
+-- The tests that the word of a number passes.
 record IsWord (word : List ℕ) : Type 0 where
   some : 0 < length word
   few : length word ≤ 18
@@ -46,7 +46,7 @@ written word is =
     let few : digits_value 10 word < 2 ^ 64 = omega (arith, small word is) in
     decimal-digits_value own word is.digits is.some is.first few
 
--- a word that is no decimal text writes no number
+-- A word that is no decimal text writes no number.
 pub none_written : (word : List ℕ) → ((n : ℕ) → n < 10 ^ 18 → decimal n ≡ word → ⊥) → number_in word ≡ None
 unfolding number_in
 none_written word other =
@@ -63,13 +63,13 @@ is_word word is =
     let few : nat_le (length word) 18 ≡ true = le-leb (length word) 18 is.few in
     rw (some, few, is.digits, test_of (get_or word 0 0) (length word) is.first) refl
 
--- the text of a number begins with 0 only where it is one digit
+-- The decimal text of a number begins with 0 only if it has one digit.
 lone_zero : (n : ℕ) → n < 2 ^ 64 → get_or (decimal n) 0 0 ≡ 48 → length (decimal n) ≡ 1
 lone_zero n h z =
     let none : n < 10 = grind (arith, first_decimal n) in
     rw (decimal_digit n none) refl
 
--- a number's decimal text of at most 18 digits writes it
+-- A decimal text of at most 18 digits writes its number.
 pub decimal_written : (n : ℕ) (word : List ℕ) → n < 2 ^ 64 → decimal n ≡ word → length word ≤ 18 → number_in word ≡ Some n
 unfolding number_in
 decimal_written n word h e few =
@@ -83,7 +83,7 @@ decimal_written n word h e few =
     } in
     subst (λ (w : List ℕ). number_in w ≡ Some n) e (rw (is_word (decimal n) is, value) refl)
 
--- what a word writes is its decimal text
+-- The number that a word writes has the word as its decimal text.
 written_number : (word : List ℕ) (n : ℕ) → number_in word ≡ Some n → (n < 10 ^ 18) × (decimal n ≡ word)
 unfolding number_in
 written_number word n h =

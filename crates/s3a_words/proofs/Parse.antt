@@ -1,4 +1,4 @@
--- What clap makes of words that do not begin with `-`.
+-- How clap reads words that do not begin with `-`.
 use Rattle.clap.proofs.OnLiterals.{clap_on_literals}
 use Rattle.clap.proofs.WalkLemmas.{first_value-rows}
 use Rattle.clap.specs.Faults.{fault_of, is_simple_and_free, step_fault, walk_fault}
@@ -21,7 +21,7 @@ use Rattle.std.specs.Prelude.{Err, IfOk, IsErr, Ok, Result}
 use Rattle.std.specs.Str.{bytes_eq}
 use Rattle.clap.specs.declared.error.kind.ErrorKind.TheVariants as kind
 
--- clap takes the word for no flag
+-- Clap does not take the word for a flag.
 record IsBare (word : Text) : Type 0 where
   long : long_of word ≡ None
   short : short_of word ≡ None
@@ -41,7 +41,7 @@ bare_word (x ∷ xs) h = go (x == 45) refl
 abbrev top : Shape
 top = (built grammar).top
 
--- the walk at a place, with nothing waiting
+-- The walk at a place, with nothing waiting.
 abbrev at : Held → ℕ → Walk
 at h place = record { held = h; waiting = idle; position = place; is_trailing = false; stopped = None }
 
@@ -78,7 +78,7 @@ third_held a b c = (after c (second_held a b) 3).held
 abbrev fourth_held : Text → Text → Text → Text → Held
 fourth_held a b c d = (after d (third_held a b c) 4).held
 
--- whether clap takes words, by their walk
+-- True if clap takes the words after this walk.
 takes_after : Walk → Bool → Bool
 takes_after w passed = entered_passes (built grammar) w.stopped
     && (passed && (settle_passes top.rules top.args_override_self w.held
@@ -89,7 +89,7 @@ takes_is : (words : List Text) → takes grammar words ≡ takes_after (walk top
 unfolding takes_after
 takes_is words = refl
 
--- the words that rows give
+-- The words that rows give.
 abbrev pub given_in : List Row → List Text
 given_in rows =
     listed (first_of (codes "command") rows)
@@ -97,7 +97,7 @@ given_in rows =
     (listed (first_of (codes "second") rows)
     (listed (first_of (codes "third") rows) [])))
 
--- the words that a walk's rows give
+-- The words that a walk's rows give.
 given_after : Walk → List Text
 given_after w = given_in (finished top.rules w.held)
 
@@ -105,7 +105,7 @@ given_is : (words : List Text) → given_in (matches_of grammar words) ≡ given
 unfolding given_after
 given_is words = refl
 
--- clap takes the words, and its matches give them
+-- Clap takes the words, and its matches give them.
 record IsRead (words : List Text) : Type 0 where
   taken : takes grammar words ≡ true
   given : given_in (matches_of grammar words) ≡ words
@@ -177,7 +177,7 @@ module _ (a b c d : Text) (is_a : IsBare a) (is_b : IsBare b) (is_c : IsBare c) 
   unfolding takes_after given_after
   read_four = read_by (a ∷ b ∷ c ∷ d ∷ []) (at (fourth_held a b c d) 5) walks_four passes_four refl refl
 
-  -- one word more is an argument that clap does not know
+  -- a fifth word is an argument that clap does not know
   fails_five : (e : Text) (rest : List Text) → IsBare e
       → walk_fault top [] (at nothing_held 1) (a ∷ b ∷ c ∷ d ∷ e ∷ rest) ≡ kind.UnknownArgument ∷ []
   fails_five e rest is_e = fails_four (e ∷ rest) ∙ fails e rest (fourth_held a b c d) 5 is_e
@@ -187,7 +187,7 @@ first_fails first next x e h =
     let no : x ∷ [] ≡ [] = sym (ap (λ k. or_else k next) e) ∙ h in
     cc
 
--- no word, and more than four, are refused
+-- Clap refuses no word, and more than four words.
 none_fails : fault_of grammar [] ≡ [] → ⊥
 unfolding clap_on_literals
 none_fails h =
@@ -203,7 +203,7 @@ five_fail a b c d e rest is_a is_b is_c is_d is_e h =
 one_plain : (word : Text) (rest : List Text) → list_all is_plain (word ∷ rest) ≡ true → IsBare word × (list_all is_plain rest ≡ true)
 one_plain word rest h = let both = and_parts (is_plain word) (list_all is_plain rest) h in (bare_word word both.0, both.1)
 
--- what the words of a command come to
+-- Words are either taken by clap, or refused and no command.
 data Count : List Text → Type 0 where
   counted : (words : List Text) → IsRead words → Count words
   uncounted : (words : List Text) → (fault_of grammar words ≡ [] → ⊥) → said words ≡ None → Count words
@@ -236,7 +236,7 @@ count (a ∷ b ∷ c ∷ d ∷ e ∷ rest) h =
     let at_e = one_plain e rest at_d.1 in
     uncounted _ (five_fail a b c d e rest at_a.0 at_b.0 at_c.0 at_d.0 at_e.0) refl
 
--- clap finds a fault only where it does not take the words
+-- Words that clap does not take are no command.
 pub refused : (words : List Text) → list_all is_plain words ≡ true → (takes grammar words ≡ true → ⊥) → said words ≡ None
 refused words h not_taken = go (count words h) not_taken
   where
@@ -244,7 +244,7 @@ refused words h not_taken = go (count words h) not_taken
     go (counted ws is) other = absurd (other is.taken)
     go (uncounted ws faulty none) other = none
 
--- where clap gives no matches of words that it takes only for want of memory
+-- If clap gives no matches, and for words that it takes only because memory ran out, the words name no command.
 pub without : {E : Type 0} (words : List Text) (r : Result (Option ArgMatches) E) → IfOk r (λ o. o ≡ None)
     → (takes grammar words ≡ true → IsErr r)
     → list_all is_plain words ≡ true → IfOk r (Gives words)
@@ -253,7 +253,7 @@ without words (Ok o) none wanting h = subst (Gives words) (sym none) (refused wo
     let no : false ≡ true = wanting taken in
     cc))
 
--- words that have no fault are those that the matches give
+-- Words without a fault are those that the matches give.
 pub read : (words : List Text) → list_all is_plain words ≡ true → fault_of grammar words ≡ [] → given_in (matches_of grammar words) ≡ words
 read words h none = go (count words h) none
   where
@@ -267,7 +267,7 @@ is_free = refl
 pub is_simply_built : is_simple grammar ≡ true
 is_simply_built = refl
 
--- what matches give, by their rows
+-- The words that matches give are those of their rows.
 pub given_of : (m : ArgMatches) → given m ≡ given_in (rows_of (found_of m))
 given_of m = λ i.
     listed (first_value-rows (found_of m) (codes "command") i)

@@ -8,11 +8,11 @@ use Rattle.s3a_words.specs.declared.command.CommandKind.{CommandKind}
 use Rattle.s3a_words.specs.declared.command.CommandKind.TheVariants.{Aborts, Begins, Changes, Looks, Plays, Puts}
 use Rattle.std.specs.Prelude.{Bool, List, false, true, ℕ, []}
 
--- the root of a bucket
+-- The root of a bucket.
 abbrev root_of : List ℕ → Path
 root_of bucket = record { bucket = bucket; key = [] }
 
--- a command that names no path has the root of no bucket
+-- The table of the commands: their kind and their path. A command that names no path has the root of the bucket with the empty name.
 abbrev pub row_of : Command → CommandKind × Path
 row_of (Init minimum) = (Begins, root_of [])
 row_of (Mb name) = (Changes, root_of name)
@@ -36,31 +36,31 @@ row_of Job = (Plays, root_of [])
 row_of (Gen seed tasks files) = (Plays, root_of [])
 row_of Twins = (Plays, root_of [])
 
--- what a command does with a store and with the input
+-- What a command does with a store and with the input.
 abbrev pub kind_of : Command → CommandKind
 kind_of command = (row_of command).0
 
--- the path that a command names; the root of no bucket where it names none
+-- The path that a command names, or the root of the bucket with the empty name if it names none.
 abbrev pub path_of : Command → Path
 path_of command = (row_of command).1
 
--- it works on the buckets of a store
+-- True for the kinds that work on the buckets of a store.
 abbrev pub is_on_buckets : CommandKind → Bool
 is_on_buckets Begins = false
 is_on_buckets Plays = false
 is_on_buckets _ = true
 
--- a command that changes nothing
+-- True for the kind that changes nothing.
 abbrev pub is_look : CommandKind → Bool
 is_look Looks = true
 is_look _ = false
 
--- a command that makes a file of the input
+-- True for the kind that makes a file of the input.
 abbrev pub is_put : CommandKind → Bool
 is_put Puts = true
 is_put _ = false
 
--- a command that plays a job, or two
+-- True for the kind that runs one job or two.
 abbrev pub is_play : CommandKind → Bool
 is_play Plays = true
 is_play _ = false

@@ -6,27 +6,27 @@ use Rattle.std.specs.Prelude.{◌<◌, ◌==◌, ◌^◌, ◌||◌, ◌↔◌, �
 use Rattle.std.specs.Str.{all_ascii_digits}
 use Rattle.std.specs.Str.Parse.{digits_value}
 
--- a number is 1 to 18 decimal digits, of which the first is no 0 unless it is the only one
+-- True if the word is 1 to 18 decimal digits. The first digit is 0 only if it is the only one.
 abbrev pub is_number : List ℕ → Bool
 is_number word = nat_le 1 (length word) && nat_le (length word) 18 && all_ascii_digits word &&
     (length word == 1 || not (slice_index word 0 == 48))
 
--- the number that a word writes
+-- The number that a word writes, if it writes one.
 unfoldable pub number_in : List ℕ → Option ℕ
 number_in word = if is_number word then Some (digits_value 10 word) else None
 
--- a word writes a number exactly where it is the decimal text of one below 10^18
+-- Holds if the word writes a number exactly when it is the decimal text of one below 10^18.
 abbrev pub WritesDecimals : List ℕ → Type 0
 WritesDecimals word = (n : ℕ) → (number_in word ≡ Some n) ↔ ((n < 10 ^ 18) × (decimal n ≡ word))
 
--- the least size of a part is 1 to 5,242,880 bytes
+-- True for 1 to 5,242,880, the bytes that the least size of a part may have.
 abbrev pub is_minimum : ℕ → Bool
 is_minimum n = nat_le 1 n && nat_le n MOST_MINIMUM
 
--- the least size of a part that a word writes
+-- The least size of a part that a word writes, if it writes one.
 unfoldable pub minimum_in : List ℕ → Option ℕ
 minimum_in word = option_and_then (λ n. if is_minimum n then Some n else None) (number_in word)
 
--- the number from `least` to `most` that a word writes
+-- The number that a word writes, if it is from `least` to `most`.
 unfoldable pub number_within : ℕ → ℕ → List ℕ → Option ℕ
 number_within least most word = option_and_then (λ n. if nat_le least n && nat_le n most then Some n else None) (number_in word)

@@ -1,4 +1,4 @@
--- What the program's words say: the folder, the name of a command, and its operands.
+-- The command that the program's words name: the folder, the name of a command, and its operands.
 use Rattle.path_keys.specs.Paths.{Path, path_in}
 use Rattle.path_keys.specs.declared.fault.PathFault.{PathFault}
 use Rattle.s3_types.specs.declared.limits.TheConstants.{MOST_MINIMUM}
@@ -13,20 +13,20 @@ use Rattle.std.specs.List.{list_all, starts_with}
 use Rattle.std.specs.Prelude.{Bool, Err, List, None, Ok, Option, Result, Some, bytes_eq, codes, if◌then◌else◌, nat_eq, not, option_and_then}
 use Rattle.std.specs.Prelude.{option_map, ℕ, [], ◌∷◌, ◌≡◌, ◌≤◌}
 
--- a word that does not begin with `-`
+-- True if the word does not begin with `-`.
 abbrev pub is_plain : List ℕ → Bool
 is_plain word = not (starts_with nat_eq word (codes "-"))
 
--- what was read, unless it is a fault
+-- The path that was read, or None for a fault.
 abbrev pub unless_fault : Result Path PathFault → Option Path
 unless_fault (Ok path) = Some path
 unless_fault (Err fault) = None
 
--- the path that a word names
+-- The path that a word names, if it is a path.
 unfoldable pub path_named : List ℕ → Option Path
 path_named word = unless_fault (path_in word)
 
--- what a name says alone
+-- The command with this name and no operand.
 unfoldable pub alone : List ℕ → Option Command
 alone name =
     if bytes_eq name (codes "job") then Some Job
@@ -34,7 +34,7 @@ alone name =
     else if bytes_eq name (codes "init") then Some (Init None)
     else None
 
--- what a name says with a path
+-- The command with this name and a path.
 unfoldable pub with_path : List ℕ → Path → Option Command
 with_path name path =
     if bytes_eq name (codes "ls") then Some (Ls path)
@@ -53,35 +53,35 @@ with_path name path =
     else if bytes_eq name (codes "fill-markers") then Some (FillMarkers path)
     else None
 
--- what a name says with an operand: a number, a bucket's name, or a path
+-- The command with this name and one operand: a number, a bucket's name, or a path.
 unfoldable pub with_operand : List ℕ → List ℕ → Option Command
 with_operand name operand =
     if bytes_eq name (codes "init") then option_map (λ n. Init (Some n)) (minimum_in operand)
     else if bytes_eq name (codes "mb") then Some (Mb operand)
     else option_and_then (with_path name) (path_named operand)
 
--- what a name says with two paths
+-- The command with this name and two paths.
 unfoldable pub with_paths : List ℕ → Path → Path → Option Command
 with_paths name from to =
     if bytes_eq name (codes "mv") then Some (Mv from to)
     else if bytes_eq name (codes "cp") then Some (Cp from to)
     else None
 
--- what a name says with two operands, which are paths
+-- The command with this name and two operands, which must be paths.
 unfoldable pub with_two : List ℕ → List ℕ → List ℕ → Option Command
 with_two name first second = option_and_then (λ from. option_and_then (with_paths name from) (path_named second)) (path_named first)
 
--- the script that a seed, a number of tasks and a number of files make
+-- The `gen` command with this seed, number of tasks and number of files.
 unfoldable pub made : List ℕ → List ℕ → List ℕ → Option Command
 made seed tasks files =
     option_and_then (λ s. option_and_then (λ t. option_map (λ f. Gen s t f) (number_within 1 50 files)) (number_within 1 200 tasks))
     (number_within 0 4294967295 seed)
 
--- what a name says with three operands
+-- The command with this name and three operands.
 unfoldable pub with_three : List ℕ → List ℕ → List ℕ → List ℕ → Option Command
 with_three name first second third = if bytes_eq name (codes "gen") then made first second third else None
 
--- what the words behind the folder say
+-- The command that the words after the folder name.
 abbrev pub said : List (List ℕ) → Option Command
 said (name ∷ []) = alone name
 said (name ∷ operand ∷ []) = with_operand name operand
@@ -89,18 +89,18 @@ said (name ∷ first ∷ second ∷ []) = with_two name first second
 said (name ∷ first ∷ second ∷ third ∷ []) = with_three name first second third
 said _ = None
 
--- the command that the words are: no word behind the folder begins with `-`
+-- The command that all words name; no word after the folder begins with `-`.
 unfoldable pub command_of : List (List ℕ) → Option Command
 command_of [] = None
 command_of (folder ∷ words) = if list_all is_plain words then said words else None
 
--- the numbers that a command names are within their bounds
+-- Holds if the numbers that the command names are within their bounds.
 abbrev pub IsBounded : Command → Type 0
 IsBounded (Init (Some bytes)) = (1 ≤ bytes) × (bytes ≤ MOST_MINIMUM)
 IsBounded (Gen seed tasks files) = (seed ≤ 4294967295) × (1 ≤ tasks) × (tasks ≤ 200) × (1 ≤ files) × (files ≤ 50)
 IsBounded _ = Unit {0}
 
--- the command that there is, or Usage exactly where there is none, unless memory was wanting
+-- Holds if the result is this command, or Usage if there is none, or NoMemory.
 abbrev pub Reads : Option Command → Result Command WordFault → Type 0
 Reads there (Ok command) = there ≡ Some command
 Reads there (Err Usage) = there ≡ None

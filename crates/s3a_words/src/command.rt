@@ -4,24 +4,26 @@ ghost use Rattle.s3a_words.specs.Kinds.{kind_of};
 use path_keys::S3Path;
 use s3_types::Text;
 
-/// What the program is told to do.
+/// A command of the program, as its words name it.
 #[derive(Drop)]
 pub enum Command {
-    /// Makes an empty store, with this least size of a part in bytes, 1 to 5,242,880, where one is given.
+    /// Makes an empty store. `minimum`, 1 to 5,242,880, is the least size of a part in bytes, if it
+    /// is given.
     Init { minimum: Option<u64> },
     /// Makes a bucket.
     Mb { name: Text },
     /// Lists a directory, or a file by itself.
     Ls { path: S3Path },
-    /// Tells what stands at a path.
+    /// Says whether a path is a file or a directory.
     Stat { path: S3Path },
-    /// Gives the bytes of a file.
+    /// Writes the bytes of a file.
     Cat { path: S3Path },
-    /// Makes a file of the input, where none stands.
+    /// Makes a file of the input, if none exists at the path.
     Put { path: S3Path },
-    /// Makes a file of the input, also where one stands.
+    /// Makes a file of the input, and overwrites one that exists.
     PutForce { path: S3Path },
-    /// Makes a file of the input, where none stands, and deletes the markers of the directories above it.
+    /// Makes a file of the input, if none exists at the path, and deletes the markers of the
+    /// directories above it.
     PutDrop { path: S3Path },
     /// Makes a directory.
     Mkdir { path: S3Path },
@@ -37,21 +39,23 @@ pub enum Command {
     Uploads { path: S3Path },
     /// Aborts the live uploads below a path.
     AbortUploads { path: S3Path },
-    /// Tells the markers at a path and below it.
+    /// Lists the markers at a path and below it.
     Markers { path: S3Path },
-    /// Deletes the markers at a path and below it whose directories stand without them.
+    /// Deletes the markers at a path and below it whose directories exist without them.
     CleanMarkers { path: S3Path },
-    /// Puts the markers at a path and below it that directories lack.
+    /// Puts the markers that directories at a path and below it lack.
     FillMarkers { path: S3Path },
-    /// Plays a script that is read from the input.
+    /// Runs a job whose script is read from the input.
     Job,
-    /// Plays a job whose script is made of a seed, with 1 to 200 tasks of 1 to 50 files each, and sums it up in a line.
+    /// Makes a script from a seed, with 1 to 200 tasks of 1 to 50 files each, runs it, and sums the
+    /// job up in a line.
     Gen { seed: u32, tasks: u32, files: u32 },
-    /// Plays two scripts at one destination, in the order of turns that stands behind them in the input.
+    /// Runs two jobs at one destination. The input has their scripts and after them the order of
+    /// turns.
     Twins,
 }
 
-/// Why words are not read as a command.
+/// Why the words could not be read as a command.
 #[derive(Clone, Copy)]
 pub enum WordFault {
     /// The words are no command.
@@ -72,12 +76,12 @@ pub enum CommandKind {
     Puts,
     /// Ends uploads.
     Aborts,
-    /// Plays a job, or two.
+    /// Runs one job or two.
     Plays,
 }
 
 impl Command {
-    /// What the command does with a store and with the input.
+    /// What the command does with a store and with the input, by the table `row_of`.
     pub fn kind(&self) -> CommandKind
         ensures { result ≡ kind_of self.now }
     {

@@ -1,4 +1,4 @@
-//! The words behind the folder, as clap reads them.
+//! Reads the words after the folder with clap.
 ghost use Rattle.std.specs.Prelude.{◌≡◌, ◌↔◌, IfOk, IsErr, None, true};
 ghost use Rattle.std.specs.List.{list_all};
 ghost use Rattle.clap.specs.Words.{app_of, kind_of};
@@ -11,7 +11,7 @@ use clap::{Arg, ArgMatches, Command, Error};
 use s3_types::{Text, let_go};
 use std::alloc::{AllocError, Global};
 
-/// The name of a command, and up to three operands.
+/// The grammar of the words: the name of a command, and up to three operands.
 fn grammar<'a>(alloc: Global) -> Result<Command<'a>, AllocError>
     ensures { IfOk result (λ command. app_of command ≡ grammar) }
 {
@@ -32,7 +32,7 @@ pub fn as_texts<'a>(alloc: Global, words: &'a [Text]) -> Result<Vec<&'a str>, Al
     words.iter().map(|word| word.as_str()).collect(alloc)
 }
 
-/// No matches, unless clap wanted memory.
+/// No matches for any error of clap but `OutOfMemory`.
 fn without_matches<T>(error: &Error) -> Result<Option<T>, AllocError>
     ensures none { IfOk result (λ o. o ≡ None) }
     ensures memory { IsErr result ↔ (kind_of error.now ≡ ErrorKind.OutOfMemory) }
@@ -43,7 +43,7 @@ fn without_matches<T>(error: &Error) -> Result<Option<T>, AllocError>
     Ok(None)
 }
 
-/// The matches of words of which none begins with `-`, or none where the words say nothing.
+/// Clap's matches for words of which none begins with `-`, or None if the words are no command.
 pub fn matches_in<'a>(
     alloc: Global,
     words: &'a [&'a str],

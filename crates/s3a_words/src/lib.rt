@@ -1,9 +1,10 @@
-//! The words of the program: which command they are.
+//! The words of the command line: which command they name.
 //!
 //! # What is proved
 //!
-//! `read_words`: Exactly the command that the words are, or Usage exactly where they are none.
-//! `Command::kind`: Of each command what it does with a store and with the input, by one table.
+//! - `read_words` returns exactly the command that the words name, and `Usage` exactly if they name
+//!   none.
+//! - `Command::kind` returns what each command does with a store and with the input, by one table.
 #![tactic(auto)]
 
 mod command;

@@ -7,7 +7,7 @@ use std::alloc::{AllocError, Global};
 /// The most digits of a number.
 const MOST_DIGITS: usize = 18;
 
-/// The number that a word writes: the word is the number's own text.
+/// The number that a word writes, if the word is the decimal text of one with at most 18 digits.
 #[tactic(auto, unfolding(crate::specs::Numbers::number_in))]
 fn number_in(alloc: Global, word: &str) -> Result<Option<u64>, AllocError>
     ensures exact { IfOk result (λ o. o ≡ number_in word.now) }
@@ -26,7 +26,7 @@ fn number_in(alloc: Global, word: &str) -> Result<Option<u64>, AllocError>
     Ok(Some(number))
 }
 
-/// The least size of a part in bytes that a word writes.
+/// The least size of a part in bytes that a word writes, if it is 1 to 5,242,880.
 #[tactic(auto, unfolding(crate::specs::Numbers::minimum_in))]
 pub fn minimum_in(alloc: Global, word: &str) -> Result<Option<u64>, AllocError>
     ensures { IfOk result (λ o. o ≡ minimum_in word.now) }
@@ -37,7 +37,7 @@ pub fn minimum_in(alloc: Global, word: &str) -> Result<Option<u64>, AllocError>
     }
 }
 
-/// The number from `least` to `most` that a word writes.
+/// The number that a word writes, if it is from `least` to `most`.
 #[tactic(auto, unfolding(crate::specs::Numbers::number_within))]
 pub fn number_within(
     alloc: Global,

@@ -11,13 +11,13 @@ use path_keys::{PathFault, S3Path};
 use s3_types::{Text, let_go};
 use std::alloc::{AllocError, Global};
 
-/// The most tasks of a script that is made.
+/// The most tasks of a script that `gen` makes.
 const MOST_TASKS: u32 = 200;
 
-/// The most files of one of its tasks.
+/// The most files of one task of such a script.
 const MOST_FILES: u32 = 50;
 
-/// The path that a word names.
+/// The path that a word names, if it is a path.
 #[tactic(auto, unfolding(crate::specs::Words::path_named))]
 fn path_named(alloc: Global, word: &str) -> Result<Option<S3Path>, AllocError>
     ensures { IfOk result (λ path. path ≡ path_named word.now) }
@@ -29,7 +29,7 @@ fn path_named(alloc: Global, word: &str) -> Result<Option<S3Path>, AllocError>
     }
 }
 
-/// What a name says alone.
+/// The command with this name and no operand.
 #[tactic(auto, unfolding(crate::specs::Words::alone))]
 fn alone(name: &str) -> Option<Command>
     ensures { result ≡ alone name.now }
@@ -42,7 +42,7 @@ fn alone(name: &str) -> Option<Command>
     }
 }
 
-/// What a name says with a path.
+/// The command with this name and a path.
 #[tactic(auto, unfolding(crate::specs::Words::with_path))]
 fn with_path(name: &str, path: S3Path) -> Option<Command>
     ensures { result ≡ with_path name.now path }
@@ -69,7 +69,7 @@ fn with_path(name: &str, path: S3Path) -> Option<Command>
     }
 }
 
-/// What a name says with an operand.
+/// The command with this name and one operand.
 #[tactic(auto, unfolding(crate::specs::Words::with_operand))]
 fn with_operand(alloc: Global, name: &str, operand: &str) -> Result<Option<Command>, AllocError>
     ensures { IfOk result (λ o. o ≡ with_operand name.now operand.now) }
@@ -92,7 +92,7 @@ fn with_operand(alloc: Global, name: &str, operand: &str) -> Result<Option<Comma
     }
 }
 
-/// What a name says with two paths.
+/// The command with this name and two paths.
 #[tactic(auto, unfolding(crate::specs::Words::with_paths))]
 fn with_paths(name: &str, from: S3Path, to: S3Path) -> Option<Command>
     ensures { result ≡ with_paths name.now from to }
@@ -107,7 +107,7 @@ fn with_paths(name: &str, from: S3Path, to: S3Path) -> Option<Command>
     }
 }
 
-/// What a name says with two operands, which are paths.
+/// The command with this name and two operands, which must be paths.
 #[tactic(auto, unfolding(crate::specs::Words::with_two))]
 fn with_two(
     alloc: Global,
@@ -133,7 +133,7 @@ fn with_two(
     }
 }
 
-/// The script that a seed, a number of tasks and a number of files make.
+/// The `gen` command with this seed, number of tasks and number of files.
 #[tactic(auto, unfolding(crate::specs::Words::made))]
 fn made(alloc: Global, seed: &str, tasks: &str, files: &str) -> Result<Option<Command>, AllocError>
     ensures { IfOk result (λ o. o ≡ made seed.now tasks.now files.now) }
@@ -150,7 +150,7 @@ fn made(alloc: Global, seed: &str, tasks: &str, files: &str) -> Result<Option<Co
     }
 }
 
-/// What a name says with three operands.
+/// The command with this name and three operands.
 #[tactic(auto, unfolding(crate::specs::Words::with_three))]
 fn with_three(
     alloc: Global,
@@ -167,14 +167,14 @@ fn with_three(
     }
 }
 
-/// Whether no word begins with `-`.
+/// True if no word begins with `-`.
 fn are_plain(words: &[Text]) -> bool
     ensures { result ≡ list_all is_plain words.now }
 {
     words.iter().all(|word| !word.as_str().starts_with("-"))
 }
 
-/// What the words that matches give say.
+/// The command that clap's matches name.
 fn said(alloc: Global, matches: &ArgMatches<'_>) -> Result<Option<Command>, AllocError>
     ensures { IfOk result (λ o. o ≡ said (given matches.now)) }
 {
@@ -193,7 +193,7 @@ fn said(alloc: Global, matches: &ArgMatches<'_>) -> Result<Option<Command>, Allo
     with_three(alloc, name, first, second, third)
 }
 
-/// The command that the words are.
+/// The command that the words name.
 #[tactic(auto, unfolding(crate::specs::Words::command_of))]
 fn command_in(alloc: Global, words: &[Text]) -> Result<Option<Command>, AllocError>
     ensures { IfOk result (λ o. o ≡ command_of words.now) }
@@ -211,13 +211,21 @@ fn command_in(alloc: Global, words: &[Text]) -> Result<Option<Command>, AllocErr
     }
 }
 
-/// The command that the words are: word 0 is the folder, word 1 the command's name, and the others are its
-/// operands. The commands are `init`, `init MIN`, `mb NAME`, `job`, `twins`, `gen SEED TASKS FILES`, with a path `ls`,
-/// `stat`, `cat`, `put`, `put-force`, `put-drop`, `mkdir`, `rm`, `rmr`, `uploads`, `abort-uploads`, `markers`,
-/// `clean-markers` and `fill-markers`, and with two paths `mv` and `cp`. No word behind the folder begins with `-`. A
-/// number has 1 to 18 decimal digits, no sign and no leading zero; MIN is from 1 to 5,242,880, SEED from 0 to
-/// 4,294,967,295, TASKS from 1 to 200 and FILES from 1 to 50. A path is one that `S3Path::read` takes. Usage comes exactly
-/// where the words are no command, so for `--help` too.
+/// Reads the command that the words name: word 0 is the folder, word 1 the command's name, and the
+/// others are its operands.
+///
+/// - Without operand: `init`, `job` and `twins`.
+/// - With a path: `ls`, `stat`, `cat`, `put`, `put-force`, `put-drop`, `mkdir`, `rm`, `rmr`,
+///   `uploads`, `abort-uploads`, `markers`, `clean-markers` and `fill-markers`.
+/// - With two paths: `mv` and `cp`.
+/// - With other operands: `init MIN`, `mb NAME` and `gen SEED TASKS FILES`.
+///
+/// No word after the folder begins with `-`. A number has 1 to 18 decimal digits, no sign and no
+/// leading zero. MIN is from 1 to 5,242,880, SEED from 0 to 4,294,967,295, TASKS from 1 to 200 and
+/// FILES from 1 to 50. A path is one that `S3Path::read` accepts.
+///
+/// Fails with `Usage` exactly if the words name no command, so for `--help` too, and with
+/// `NoMemory` only if memory runs out.
 pub fn read_words(alloc: Global, words: &[Text]) -> Result<Command, WordFault>
     ensures exact { Reads (command_of words.now) result }
     ensures bounded { IfOk result IsBounded }

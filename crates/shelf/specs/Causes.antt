@@ -1,9 +1,9 @@
--- What follows where a file was bad.
+-- What a load says of a bad log.
 use Rattle.std.specs.Prelude.{ℕ, Result, Ok, Err}
 use Rattle.shelf.specs.declared.kept.LoadFault.{LoadFault}
 use Rattle.shelf.specs.declared.kept.LoadFault.TheVariants.{Failed, TooLarge, BadLog, NoMemory}
 
--- P holds of the place of a bad log
+-- If the load returned BadLog, P holds of the place that it names.
 abbrev pub IfBadLog : {A : Type 0} → Result A LoadFault → (ℕ → Type 0) → Type 0
 IfBadLog (Ok x) P = Unit {0}
 IfBadLog (Err Failed) P = Unit {0}

@@ -6,13 +6,13 @@ use Rattle.shelf.specs.declared.calls.Calls.{Calls}
 use Rattle.shelf.specs.Logged.{Holding, Stored, HasBaseLength, IsWithinLog}
 use Rattle.shelf.specs.Logged.Holding.{Nothing, Stands}
 
--- what it holds, whether it takes appends, and its calls
+-- A shelf in memory: what it holds, whether it takes appends, and the counts of its calls.
 pub record Stocked : Type 0 where
   pub held : Option Held
   pub takes : Bool
   pub calls : Calls
 
--- what is held, beside which there is no file
+-- What a shelf in memory holds; its file has length 0, since there is none.
 abbrev pub stock : Option Held → Stored
 stock None = record { holding = Nothing; base_length = 0; file_length = 0 }
 stock (Some held) = record { holding = Stands held; base_length = length held.base; file_length = 0 }

@@ -6,9 +6,9 @@ ghost use Rattle.shelf.specs.declared.calls.Calls.{Calls as Counted};
 
 use crate::device::{CallList, Failed};
 
-/// Which calls of a device in memory fail: those that are named by their numbers from 1, and each one after
-/// the first `stop`. With it go the number of calls, of those that failed, and of these that found no memory,
-/// each at most 2^64 - 1.
+/// The counts of a device in memory, and which of its calls fail: those that `fail` names by their
+/// numbers from 1, and each one after `stop`. `made` counts all calls, `faults` those that failed,
+/// and `wanting` those that ran out of memory. Each count is at most 2^64 - 1.
 #[derive(Drop)]
 pub struct Calls {
     pub made: u64,
@@ -29,7 +29,7 @@ fn is_behind(stop: Option<u64>, call: u64) -> bool
 }
 
 impl Calls {
-    /// No call yet. Takes no memory.
+    /// The counts before the first call. Takes no memory.
     pub fn new(fail: CallList, stop: Option<u64>) -> Calls
         ensures { result ≡ unused fail stop }
     {
@@ -50,7 +50,7 @@ impl Calls {
         is_behind(self.stop, next) || self.fail.as_slice().contains(&next)
     }
 
-    /// Counts one more call, and its fault where it is to fail.
+    /// Counts one more call. Fails, and counts a fault, if that call is to fail.
     pub fn next(&mut self) -> Result<(), Failed>
         ensures answered { OnOk result (Answers self.old self.new) }
         ensures broken { OnErr result (Fails self.old self.new) }
@@ -65,7 +65,7 @@ impl Calls {
         Ok(())
     }
 
-    /// Counts the fault of the last call, which found no memory.
+    /// Counts the last call as one that ran out of memory.
     pub fn starve(&mut self) -> Failed
         ensures fails { (before : Counted) → Answers before self.old → Fails before self.new }
         ensures failed { Rose self.old.faults self.new.faults }

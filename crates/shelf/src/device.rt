@@ -3,29 +3,30 @@ ghost use Rattle.shelf.specs.Devices.{Rose, Takes, Appends};
 
 use s3_types::Sequence;
 
-/// A device failed.
+/// A call of a device failed.
 #[derive(Clone, Copy, Debug, PartialEq, Eq)]
 pub struct Failed;
 
-/// Calls of an object, by their numbers from 1.
+/// Numbers of calls, counted from 1.
 pub type CallList = Sequence<u64>;
 
-/// Where input comes from.
+/// A source of input.
 pub trait Source {
-    /// The bytes that are left, where they are told.
+    /// The bytes that are left, if the source shows them.
     ghost left: { Self → Option (List ℕ) };
 
-    /// How many calls failed so far, at most 2^64 - 1.
+    /// How many calls have failed so far, at most 2^64 - 1.
     ghost faults: { Self → ℕ };
 
-    /// What a call that was answered may make of it, where it says which of its calls fail.
+    /// How a call that succeeds may change the source, if it shows which of its calls fail.
     ghost answers: { Self → Self → Type 0 };
 
-    /// What one that failed may make of it.
+    /// How a call that fails may change it.
     ghost fails: { Self → Self → Type 0 };
 
-    /// Takes the first bytes that are left into the buffer's front and answers how many. 0 for a buffer
-    /// that is not empty is the end of the input. A call that failed took nothing.
+    /// Takes the first bytes that are left into the front of the buffer, and returns how many. It
+    /// returns 0 for a buffer that is not empty only at the end of the input. A failed call takes
+    /// nothing.
     fn read(&mut self, buffer: &mut [u8]) -> Result<usize, Failed>
         ensures count { IfOk result (λ n. n ≤ length buffer.old) }
         ensures taken { IfOk result (λ n. Takes (left self.old) (left self.new) n buffer.new) }
@@ -36,25 +37,25 @@ pub trait Source {
         ensures same { OnErr result (left self.new ≡ left self.old) };
 }
 
-/// Where text goes.
+/// A sink for output.
 pub trait Sink {
-    /// The bytes written so far, where they are told.
+    /// The bytes written so far, if the sink shows them.
     ghost written: { Self → Option (List ℕ) };
 
-    /// How many calls failed so far, at most 2^64 - 1.
+    /// How many calls have failed so far, at most 2^64 - 1.
     ghost faults: { Self → ℕ };
 
-    /// All that was written has gone out.
+    /// Everything that was written has gone out.
     ghost is_out: { Self → Type 0 };
 
-    /// What a call that was answered may make of it, where it says which of its calls fail.
+    /// How a call that succeeds may change the sink, if it shows which of its calls fail.
     ghost answers: { Self → Self → Type 0 };
 
-    /// What one that failed may make of it.
+    /// How a call that fails may change it.
     ghost fails: { Self → Self → Type 0 };
 
-    /// Writes the first bytes of a piece and answers how many. 0 for a piece that is not empty is a
-    /// fault. A call that failed wrote nothing.
+    /// Writes the first bytes of a piece, and returns how many. Returning 0 for a piece that is
+    /// not empty counts as a fault. A failed call writes nothing.
     fn write(&mut self, piece: &[u8]) -> Result<usize, Failed>
         ensures count { IfOk result (λ n. n ≤ length piece.now) }
         ensures appended { IfOk result (λ n. Appends (written self.old) (written self.new) (take n piece.now)) }
@@ -65,7 +66,7 @@ pub trait Sink {
         ensures broken { OnErr result (fails self.old self.new) }
         ensures same { OnErr result (written self.new ≡ written self.old) };
 
-    /// Sees that what was written has gone out.
+    /// Sends out everything that was written.
     fn flush(&mut self) -> Result<(), Failed>
         ensures out { OnOk result (is_out self.new) }
         ensures same { written self.new ≡ written self.old }

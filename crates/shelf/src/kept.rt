@@ -1,4 +1,5 @@
-//! A shelf that takes changes one by one, so that a stop of the program keeps what was done until then.
+//! A shelf that takes changes one by one, so that if the program stops, the changes made until
+//! then are kept.
 ghost use Rattle.std.specs.Prelude.{◌≡◌, ℕ, ◌⊎◌, IfOk, OnOk, OnErr, IsErrOf, true};
 ghost use Rattle.log_format.specs.Change.{is_changing};
 ghost use Rattle.shelf.specs.Devices.{Rose};
@@ -13,18 +14,18 @@ pub use log_format::{Held, RequestList};
 pub use memory::MemShelf;
 use s3_types::Request;
 
-/// Why a shelf gave nothing.
+/// Why a load returned no store.
 #[derive(Clone, Copy, PartialEq, Eq)]
 pub enum LoadFault {
     Failed,
     /// The base has more than [`MOST_BASE`] bytes, or the file more than [`MOST_FILE`].
     TooLarge,
-    /// The file is bad at this place in bytes from the start.
+    /// The file is bad at this place, in bytes from its start.
     BadLog(u64),
     NoMemory,
 }
 
-/// Why a shelf did not give or take what was asked.
+/// Why an append failed.
 #[derive(Clone, Copy, PartialEq, Eq)]
 pub enum ShelfStop {
     Failed,
@@ -37,19 +38,21 @@ pub const MOST_BASE: u64 = 1_073_741_824;
 /// The most bytes of a file that a shelf loads.
 pub const MOST_FILE: u64 = 2_147_483_648;
 
-/// Where a store is kept: its image, which is the base, and the changes after it.
+/// A place that keeps a store: its image, which is the base, and the changes after it.
 pub trait Shelf {
-    /// What is told of it: what it holds, what its calls make of it, and what a crash leaves.
+    /// What it shows to contracts: what it holds, how its calls change it, and what a crash
+    /// leaves.
     ghost sight: { Sight Self };
 
-    /// How many calls failed so far, at most 2^64 - 1.
+    /// How many calls have failed so far, at most 2^64 - 1.
     ghost faults: { Self → ℕ };
 
-    /// It takes appends: from a `replace` that answers Ok until a call of it answers Failed.
+    /// It takes appends: from a `replace` that returns Ok until one of its calls returns Failed.
     ghost takes_appends: { Self → Type 0 };
 
-    /// What is held, which stays. TooLarge comes exactly where the base or the file is too large, and
-    /// BadLog where it is not and the file is bad at that place. At Ok a crash leaves what was loaded.
+    /// Returns what it holds, and leaves it there. Fails with TooLarge exactly if the base or the
+    /// file is too large, and with BadLog if neither is and the file is bad at that place. After
+    /// Ok, a crash leaves what was loaded.
     fn load(&mut self) -> Result<Option<Held>, LoadFault>
         ensures loaded { IfOk result (λ loaded. IsLoaded (sight.held self.old) loaded) }
         ensures large { IsErrOf result LoadFault.TooLarge → IsTooLarge (sight.held self.old) }
@@ -65,9 +68,9 @@ pub trait Shelf {
         ensures broken { IsErrOf result LoadFault.Failed → sight.fails Load self.old self.new }
         ensures calm { (IsErrOf result LoadFault.Failed → ⊥) → faults self.new ≡ faults self.old };
 
-    /// Holds this base and no changes in place of what is held. After a fault the shelf holds what it
-    /// held. A crash within the call leaves what one before it may leave, or the new base, and at Ok the
-    /// new base.
+    /// Holds this base and no changes in place of what it held. After a fault it holds what it
+    /// held before. A crash during the call leaves what a crash before it may leave, or the new
+    /// base. After Ok it leaves the new base.
     fn replace(&mut self, bytes: &[u8]) -> Result<(), Failed>
         ensures replaced { OnOk result (HoldsFresh (sight.held self.old) (sight.held self.new) bytes.now) }
         ensures appends { OnOk result (takes_appends self.new) }
@@ -82,9 +85,9 @@ pub trait Shelf {
         ensures broken { OnErr result (sight.fails Replace self.old self.new) }
         ensures calm { OnOk result (faults self.new ≡ faults self.old) };
 
-    /// Adds a change behind those that are held. A crash within the call leaves the changes before it, with
-    /// the new one or without, and at Ok with it. After a fault of the shelf the changes are as before or
-    /// grew by this one; after want of memory all is as before.
+    /// Adds a change after those that it holds. A crash during the call leaves the changes of
+    /// before, with or without the new one; after Ok, with it. After Failed, the changes are as
+    /// before or include the new one. After NoMemory everything is as before.
     fn append(&mut self, change: &Request) -> Result<(), ShelfStop>
         requires changing { is_changing change.now ≡ true }
         requires appends { takes_appends self.old }
@@ -105,9 +108,9 @@ pub trait Shelf {
         ensures broken { IsErrOf result ShelfStop.Failed → sight.fails Append self.old self.new }
         ensures calm { (IsErrOf result ShelfStop.Failed → ⊥) → faults self.new ≡ faults self.old };
 
-    /// What its moments are.
+    /// How its times follow one another.
     ghost timed: { IsTimed sight };
 
-    /// By which lengths a load decides what is too large.
+    /// The lengths by which a load decides what is too large.
     ghost measured: { IsMeasured sight takes_appends };
 }

@@ -1,18 +1,26 @@
-//! The outside of the program: where its input comes from, where its text goes and where its store is
-//! kept. Each device counts its faults. The objects in memory tell their bytes; those over the system's
-//! streams tell nothing of them.
+//! The devices through which the program meets the outside: a source of input, a sink for output,
+//! and a shelf that keeps the store. Each device counts its faults. Contracts see the bytes of the
+//! devices in memory. They see nothing of the bytes of devices over the system's streams.
 //!
 //! # What is proved
 //!
-//! traits `Source`, `Sink`, `kept::Shelf`, and their devices: The traits say what a call takes, gives,
-//! writes or keeps, that a count of faults rises exactly where a call fails and never falls, and which calls
-//! fail. Of a shelf they say what a crash may leave at each moment; that it takes appends from a `replace`
-//! that answers Ok until a call of it answers Failed, and no load begins that (`begins_none`, `ends`); that
-//! an append that was out of memory leaves all as before (`same`, `kept`); and by which lengths a load is
-//! too large (`measured`). A sink whose `flush` answered Ok says that all that was written has gone out. The
-//! devices in memory meet them: of their calls those fail that are named, and no other but for want of
-//! memory, which they count apart. Those over the system's streams meet them too. Left open: what the
-//! system's streams give and take: they tell nothing of it. A `MemShelf` does not tell what a crash leaves.
+//! The traits `Source`, `Sink` and `kept::Shelf` say:
+//!
+//! - What a call takes, returns, writes or keeps, and which calls fail.
+//! - A count of faults rises exactly when a call fails, and never falls.
+//! - What a crash of a shelf may leave, at every point.
+//! - A shelf takes appends from a `replace` that returns Ok until one of its calls returns Failed.
+//!   No load starts that (`begins_none`, `ends`).
+//! - An append that ran out of memory leaves everything as before (`same`, `kept`).
+//! - The lengths by which a load is too large (`measured`).
+//! - After a `flush` that returned Ok, everything that was written has gone out.
+//!
+//! The devices in memory meet the traits. Their named calls fail, and no others, except when
+//! memory runs out; they count those faults apart. The devices over the system's streams meet the
+//! traits too.
+//!
+//! Left open: which bytes the system's streams give and take, since their devices say nothing of
+//! them. A `MemShelf` does not say what a crash leaves.
 #![tactic(auto)]
 
 mod calls;

@@ -9,7 +9,7 @@ use s3_types::Bytes;
 use std::alloc::Global;
 use std::marker::Model;
 
-/// Copies what fits of the bytes into the buffer's front, and answers how many they are.
+/// Copies as many of the bytes as fit to the front of the buffer, and returns how many.
 fn copy_front(bytes: &[u8], buffer: &mut [u8]) -> usize
     ensures count { result ≡ min (length bytes.now) (length buffer.old) }
     ensures front { take result buffer.new ≡ take result bytes.now }
@@ -19,7 +19,7 @@ fn copy_front(bytes: &[u8], buffer: &mut [u8]) -> usize
     n
 }
 
-/// Bytes in memory as a source, of which the calls that are named fail.
+/// Bytes in memory as a source. The calls that are named fail.
 #[derive(Drop)]
 pub struct MemSource {
     bytes: Bytes,
@@ -39,7 +39,7 @@ impl Model for MemSource {
 }
 
 impl MemSource {
-    /// Takes no memory.
+    /// The bytes as a source, of which the calls in `fail` fail. Takes no memory.
     pub fn new(bytes: Bytes, fail: CallList) -> MemSource
         ensures { result ≡ record { bytes = bytes; calls = unused fail None } }
     {
@@ -86,7 +86,7 @@ impl Model for SureSource {
 }
 
 impl SureSource {
-    /// Takes no memory.
+    /// The bytes as a source that never fails. Takes no memory.
     pub fn new(bytes: Bytes) -> SureSource
         ensures { result ≡ bytes }
     {
@@ -110,7 +110,7 @@ impl Source for SureSource {
     }
 }
 
-/// A sink in memory, of which the calls that are named fail.
+/// A sink in memory. The calls that are named fail.
 #[derive(Drop)]
 pub struct MemSink {
     bytes: Vec<u8>,
@@ -127,7 +127,7 @@ impl Model for MemSink {
 }
 
 impl MemSink {
-    /// Takes no memory.
+    /// An empty sink, of which the calls in `fail` fail. Takes no memory.
     pub fn new(alloc: Global, fail: CallList) -> MemSink
         ensures { result ≡ record { bytes = []; out = 0; calls = unused fail None } }
     {
@@ -138,7 +138,7 @@ impl MemSink {
         }
     }
 
-    /// What was written.
+    /// Returns the bytes that were written.
     pub fn bytes(&self) -> &[u8]
         ensures { result.now ≡ self.now.bytes }
     {
@@ -157,7 +157,7 @@ impl Sink for MemSink {
 
     ghost fails = { λ s t. calls_of.Fails s.calls t.calls };
 
-    /// A piece that finds no memory is a fault.
+    /// Counts as a fault if memory runs out.
     fn write(&mut self, piece: &[u8]) -> Result<usize, Failed> {
         self.calls.next()?;
         match self.bytes.extend_from_slice(piece) {

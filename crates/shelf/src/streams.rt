@@ -4,7 +4,7 @@ use crate::device::{Failed, Sink, Source};
 use std::io;
 use std::marker::Model;
 
-/// A reader of the system as a source. It tells nothing of its bytes.
+/// A reader of the system as a source. It shows nothing of its bytes.
 #[derive(Drop)]
 pub struct StdSource<I> {
     input: I,
@@ -20,7 +20,7 @@ impl<I> Model for StdSource<I> {
 }
 
 impl<I: io::Read + Drop> StdSource<I> {
-    /// A source over this reader, of which nothing is told.
+    /// A source over this reader.
     pub fn new(input: I) -> StdSource<I>
         ensures { result ≡ 0 }
     {
@@ -48,7 +48,7 @@ impl<I: io::Read + Drop> Source for StdSource<I> {
     }
 }
 
-/// A writer of the system as a sink. It tells nothing of its bytes.
+/// A writer of the system as a sink. It shows nothing of its bytes.
 #[derive(Drop)]
 pub struct StdSink<O> {
     output: O,
@@ -65,7 +65,7 @@ impl<O> Model for StdSink<O> {
 }
 
 impl<O: io::Write + Drop> StdSink<O> {
-    /// A sink over this writer, of which nothing is told.
+    /// A sink over this writer.
     pub fn new(output: O) -> StdSink<O>
         ensures { result ≡ record { is_out = true; faults = 0 } }
     {
@@ -88,7 +88,7 @@ impl<O: io::Write + Drop> Sink for StdSink<O> {
 
     ghost fails = { λ s t. Unit {0} };
 
-    /// A write that takes nothing of a piece that is not empty is a fault.
+    /// Counts as a fault if the writer takes nothing of a piece that is not empty.
     fn write(&mut self, piece: &[u8]) -> Result<usize, Failed> {
         if piece.is_empty() {
             return Ok(0);

@@ -54,12 +54,12 @@ chosen_at (files ∷ choice) p = or_else (file_at files p) (chosen_at choice p)
 
 -- ---- which opening files stay, and which go
 
--- A directory with one more byte in front; a `/` in front of nothing begins one.
+-- The directory with byte `x` in front. In front of an empty directory, a `/` begins one, and any other byte leaves it empty.
 abbrev pub with_byte : ℕ → List ℕ → List ℕ
 with_byte x (y ∷ d) = x ∷ y ∷ d
 with_byte x [] = cond (x == 47) (x ∷ []) []
 
--- The parent directory of a path, up to and with its last `/`; empty where the path has no `/`.
+-- The parent directory of a path, up to and with its last `/`; empty if the path has no `/`.
 abbrev pub directory : List ℕ → List ℕ
 directory [] = []
 directory (x ∷ p) = with_byte x (directory p)
@@ -83,13 +83,13 @@ always_reaches p [] = false
 always_reaches p (files ∷ others) = list_any (λ file. is_below (directory file.0) p && list_all (writes_into
     (directory file.0)) others) files
 
--- Whether a job that keeps so much keeps a path, by whether some attempt reaches it.
+-- Whether a job with this rule keeps a path; `reached` says whether some attempt reaches it.
 abbrev pub kept_by : Keeps → Bool → Bool
 kept_by keeps.Everything reached = true
 kept_by keeps.Partitions reached = not reached
 kept_by keeps.Nothing reached = false
 
--- Whether a job that keeps so much replaces a path, by whether all attempts of one task reach it.
+-- Whether a job with this rule replaces a path; `reached` says whether all attempts of one task reach it.
 abbrev pub replaced_by : Keeps → Bool → Bool
 replaced_by keeps.Everything reached = false
 replaced_by keeps.Partitions reached = reached

@@ -19,7 +19,7 @@ pub record Moment (I : Type 0) : Type 0 where
 abbrev pub Same : {I : Type 0} → Shown I → Shown I → Type 0
 Same shown opening = (p : List ℕ) → shown p ≡ opening p
 
--- At one path the opening has `o`, the chosen attempts write `f`, and readers see `v`, which is part of the job at most.
+-- At one path the opening has `o`, the chosen attempts write `f`, and readers see `v`, which shows at most a part of the job.
 pub record Fits {I : Type 0} (is_kept : Bool) (o f v : Option I) : Type 0 where
   -- Readers see the opening file or the chosen one.
   pub only : (x : I) → v ≡ Some x → (o ≡ Some x) ⊎ (f ≡ Some x)
@@ -30,14 +30,14 @@ pub record Fits {I : Type 0} (is_kept : Bool) (o f v : Option I) : Type 0 where
 pub record Whole {I : Type 0} (is_kept is_replaced : Bool) (o f v : Option I) : Type 0 where
   -- Readers see each chosen file.
   pub written : (x : I) → f ≡ Some x → v ≡ Some x
-  -- Where there is no chosen file, they see no other file than the opening's.
+  -- If there is no chosen file, they see no other file than the opening's.
   pub only : f ≡ None → (x : I) → v ≡ Some x → o ≡ Some x
-  -- They see that one where it is kept.
+  -- They see the opening file if it is kept.
   pub stays : f ≡ None → (x : I) → o ≡ Some x → is_kept ≡ true → v ≡ Some x
-  -- They see nothing where it is replaced.
+  -- They see nothing if the opening file is replaced.
   pub goes : f ≡ None → (x : I) → o ≡ Some x → is_replaced ≡ true → v ≡ None
 
--- Readers may see `v` at one path, by whether the commit has begun and which marker exists.
+-- Readers may see `v` at one path, given whether the commit has begun and which marker exists.
 pub record Allows {I : Type 0} (begun : Bool) (marker : Marker) (is_kept is_replaced : Bool) (o f v : Option I) : Type 0 where
   -- Until the commit begins they see the opening file.
   pub before : begun ≡ false → v ≡ o

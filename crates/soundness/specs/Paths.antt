@@ -1,7 +1,7 @@
 -- Which paths below a destination readers see (Hadoop: names that begin with `_` or `.` are hidden from listings of input).
 use Rattle.std.specs.Prelude.{ℕ, List, [], ◌∷◌, Bool, true, not, ◌&&◌, ◌||◌, ◌==◌}
 
--- the byte is `_` or `.`
+-- True if the byte is `_` or `.`.
 abbrev pub hides : ℕ → Bool
 hides b = (b == 95) || (b == 46)
 

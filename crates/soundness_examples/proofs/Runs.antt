@@ -1,4 +1,4 @@
--- Runs that are sound and runs that are not, by what readers see at the paths that are written out.
+-- Sound and unsound runs, by what readers see at the paths that are written out.
 use Rattle.std.proofs.Common.{◌≡◌, ◌⊎◌, ℕ, zero, suc, ◌<◌, Bool, true, false, List, [], ◌∷◌, ◌++◌, Option, Some, None, refl, sym, subst}
 use Rattle.std.proofs.Common.{◌∙◌, arith, inl, inr, codes, get_or}
 use Rattle.std.specs.Prelude.{◌≢◌}
@@ -19,7 +19,7 @@ none_some e = cc
 
 -- ---- unsound runs
 
--- a choice of the one task is one of its two attempts
+-- A choice of the one task is one of its two attempts.
 either : (keeps : Keeps) (P : List (Files ℕ) → Type 0) → P (written 3 ∷ []) → P (written 4 ∷ []) → (choice : List (Files ℕ))
     → Chooses (two_attempts keeps).tasks choice → P choice
 either keeps P three four [] c = absurd c
@@ -31,7 +31,7 @@ either keeps P three four (files ∷ []) c = by c.0.0 c.0.1 c.0.2
     by (suc (suc k)) l e = absurd (omega (arith, l))
 either keeps P three four (files ∷ more ∷ choice) c = absurd c.1
 
--- a run is unsound where some moment needs a choice, and neither attempt explains all moments
+-- A run is unsound if some moment needs a choice and neither attempt explains all moments.
 unsound : (keeps : Keeps) (moments : List (Moment ℕ)) → (All (Unchanged (file_at opening)) (run moments) → ⊥)
     → (All (Explains (two_attempts keeps) (file_at opening) (written 3 ∷ [])) (run moments) → ⊥)
     → (All (Explains (two_attempts keeps) (file_at opening) (written 4 ∷ [])) (run moments) → ⊥) → IsSound (two_attempts keeps) moments → ⊥
@@ -105,7 +105,7 @@ unsound_runs = record {
 -- ---- sound runs
 
 module _ {begun : Bool} {marker : Marker} {is_kept is_replaced : Bool} where
-  -- where nothing is, and nothing was or is written
+  -- Nothing is, was or will be at the path.
   nothing_there : (o f v : Option ℕ) → o ≡ None → f ≡ None → v ≡ None → Allows begun marker is_kept is_replaced o f v
   nothing_there o f v a b c = record {
     before = λ h. c ∙ sym a;
@@ -119,7 +119,7 @@ module _ {begun : Bool} {marker : Marker} {is_kept is_replaced : Bool} where
     };
   }
 
--- an opening file stays that no attempt writes
+-- An opening file stays that no attempt writes.
 file_stays : (begun : Bool) (marker : Marker) (is_kept : Bool) (o : Option ℕ) → Allows begun marker is_kept false o None o
 file_stays begun marker is_kept o = record {
   before = λ h. refl;
@@ -128,7 +128,7 @@ file_stays begun marker is_kept o = record {
   whole = λ h. record { written = λ x e. absurd (none_some e); only = λ n x e. e; stays = λ n x e k. e; goes = λ n x e k. absurd cc };
 }
 
--- until a new marker exists each opening file may stay
+-- Until a new marker exists, each opening file may stay.
 as_before : (begun : Bool) (marker : Marker) → marker ≢ New → (is_kept is_replaced : Bool) (o f : Option ℕ)
     → Allows begun marker is_kept is_replaced o f o
 as_before begun marker unmarked is_kept is_replaced o f = record {
@@ -138,7 +138,7 @@ as_before begun marker unmarked is_kept is_replaced o f = record {
   whole = λ h. absurd (unmarked h);
 }
 
--- a chosen file, once the commit has begun
+-- Readers may see a chosen file once the commit has begun.
 file_written : (marker : Marker) → marker ≢ Old → (is_kept is_replaced : Bool) (o : Option ℕ) (y : ℕ)
     → Allows true marker is_kept is_replaced o (Some y) (Some y)
 file_written marker fresh is_kept is_replaced o y = record {
@@ -154,7 +154,7 @@ file_written marker fresh is_kept is_replaced o y = record {
   };
 }
 
--- an opening file that is not kept may go, once the commit has begun
+-- An opening file that is not kept may go once the commit has begun.
 file_gone : (marker : Marker) → marker ≢ Old → (is_replaced : Bool) (o : Option ℕ) → Allows true marker false is_replaced o None None
 file_gone marker fresh is_replaced o = record {
   before = λ h. absurd cc;
@@ -169,7 +169,7 @@ file_gone marker fresh is_replaced o = record {
   };
 }
 
--- a moment is explained where it is at the three paths that are written out, and readers see nothing elsewhere
+-- A moment is explained if it is explained at the three paths that are written out, and readers see nothing elsewhere.
 test_of : (b : Bool) → (b ≡ true) ⊎ (b ≡ false)
 test_of true = inl refl
 test_of false = inr refl
@@ -206,7 +206,7 @@ absent_no_old e = cc
 new_no_old : New ≢ Old
 new_no_old e = cc
 
--- before the commit
+-- The moment before the commit.
 first : (keeps : Keeps) (n : ℕ) → Explains (two_attempts keeps) (file_at opening) (written n ∷ []) (moment false Absent opening)
 first keeps n p = as_before false Absent not_new _ _ (file_at opening p) (chosen_at (written n ∷ []) p)
 

@@ -27,7 +27,7 @@ no_attempt = record { keeps = Everything; tasks = [] ∷ [] }
 abbrev pub moment : Bool → Marker → Files ℕ → Moment ℕ
 moment begun marker files = record { begun = begun; marker = marker; shown = file_at files }
 
--- The moments of a run over that opening, of which readers see the opening files before the commit begins.
+-- The moments of a run over that opening. Readers see the opening files before the commit begins.
 abbrev pub run : List (Moment ℕ) → List (Moment ℕ)
 run moments = moment false Absent opening ∷ moments
 
@@ -35,7 +35,7 @@ run moments = moment false Absent opening ∷ moments
 abbrev pub IsSound : Claim ℕ → List (Moment ℕ) → Type 0
 IsSound claim moments = Sound claim (file_at opening) (run moments)
 
--- ---- sound ones
+-- ---- sound runs
 
 -- Runs that end with a success marker and all of the job's files are sound, for each way to keep opening files.
 pub record SoundRuns : Type 0 where
@@ -50,9 +50,9 @@ pub record SoundRuns : Type 0 where
   -- Readers see the opening files alone while an old marker exists, and the job ends without one.
   pub unmarked : IsSound (two_attempts Everything) (moment true Old opening ∷ moment true Absent (opening ++ written 3) ∷ [])
 
--- ---- unsound ones
+-- ---- unsound runs
 
--- Each of these runs is unsound, for the reason that it is named by.
+-- Each of these runs is unsound, for the reason in its name.
 pub record UnsoundRuns : Type 0 where
   -- Readers see a new file before the commit begins.
   pub early : IsSound (two_attempts Everything) (moment false Absent (opening ++ written 3) ∷ []) → ⊥

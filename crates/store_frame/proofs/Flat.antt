@@ -1,4 +1,4 @@
--- A listing without a delimiter has the keys that stand, in order.
+-- A listing without a delimiter has the existing keys, in order.
 use Rattle.basics.proofs.Bools.{contrary}
 use Rattle.basics.proofs.Less.{irrefl, lt, lt_trans}
 use Rattle.basics.proofs.Members.{false_true, filter_in, in_filter, in_map, map_in, none_some, some_is, text_exact, text_false, text_true}
@@ -23,7 +23,7 @@ use Rattle.std.specs.declared.cmp.Ordering.TheVariants.{Less}
 use Rattle.store_frame.specs.Laws.{keys_listed}
 use Rattle.std.specs.FinMap as fin
 
--- ---- what is listed rises
+-- ---- the listed keys rise
 
 abbrev Entry : Type 0
 Entry = List ℕ × Object
@@ -31,7 +31,7 @@ Entry = List ℕ × Object
 abbrev pub texts : List PageEntry → List (List ℕ)
 texts xs = map text_in xs
 
--- the entries whose keys begin so, before they are folded
+-- The entries of the keys that begin with p, before folding.
 abbrev flat : List ℕ → List Entry → List PageEntry
 flat p es = map (entry_of p false) (filter (λ e. begins p e.0) es)
 
@@ -50,7 +50,7 @@ rises_above p k t (e ∷ es) a s = elim (true_or_false (begins p e.0)) [
   ]
 ]
 
--- the entries that are behind a text
+-- The entries with texts greater than l.
 abbrev behind_of : List ℕ → List PageEntry → List PageEntry
 behind_of l xs = filter (λ x. is_lt (text_cmp l (text_in x))) xs
 
@@ -68,7 +68,7 @@ rises_behind p l (e ∷ es) s = elim (true_or_false (begins p e.0)) [
   ]
 ]
 
--- ---- entries that rise are folded into themselves
+-- ---- folding does not change entries that rise
 
 apart_again : (l : List ℕ) (x : PageEntry) → is_lt (text_cmp l (text_in x)) ≡ true → is_again (Some l) x ≡ false
 apart_again l x h = contrary _ (λ e. sym (ap is_lt (tied (text_cmp l (text_in x)) e)) ∙ h)
@@ -94,7 +94,7 @@ taken_rises _ _ l h = tt
 pub page_rises : (n : ℕ) (p l : List ℕ) (m : Objects) → RisesFrom l (keys_listed n p l m)
 page_rises n p l m = taken_rises n (listed p false l m) l (listed_rises p l m)
 
--- ---- keys that rise, one list behind another
+-- ---- keys that rise, one list after another
 
 pub behind : (l k : List ℕ) (ks : List (List ℕ)) → RisesFrom l ks → IsIn k ks → lt text_cmp l k ≡ true
 behind l k [] h i = absurd i
@@ -112,7 +112,7 @@ pub last_append : (l : List ℕ) (ks more : List (List ℕ)) → last_from l (ks
 last_append l [] more = refl
 last_append l (k ∷ ks) more = last_append k ks more
 
--- ---- all that stands is listed
+-- ---- all existing keys are listed
 
 pub found_in : (es : List Entry) (k : List ℕ) (x : Object) → find text_cmp k es ≡ Some x → IsIn (k, x) es
 found_in [] k x e = absurd (none_some refl e)
@@ -127,7 +127,7 @@ above_all k [] e a i = absurd i
 above_all k (p ∷ es) e a (inl is) = ap (λ (x : Entry). text_cmp k x.0) is ∙ a.0
 above_all k (p ∷ es) e a (inr i) = above_all k es e a.1 i
 
--- one of entries that rise is what is found at its key
+-- A member of entries that rise is found at its key.
 pub found_at : (es : List Entry) (e : Entry) → IsStrictlySortedBy text_cmp (keys_of es) → IsIn e es → find text_cmp e.0 es ≡ Some e.1
 found_at [] e s i = absurd i
 found_at (p ∷ es) e s (inl is) =
@@ -166,7 +166,7 @@ page_begins n p l k m i =
     let at : fin.get m e.0.0 ≡ Some e.0.1 = fin.get-entries m e.0.0 ∙ found_at (fin.entries m) e.0 (map_sorted text_cmp m) g.0 in
     (ap (begins p) key ∙ g.1, (e.0.1, ap (fin.get m) key ∙ at))
 
--- a key of rising ones is among the first n of them or behind the last of these
+-- A key of entries that rise is among the first n, or greater than the last of these.
 take_or : (n : ℕ) (xs : List PageEntry) (l k : List ℕ) → RisesFrom l (texts xs) → IsIn k (texts xs) → IsIn k (texts (take n xs))
     ⊎ (lt text_cmp (last_from l (texts (take n xs))) k ≡ true)
 take_or zero xs l k h i = inr (behind l k (texts xs) h i)

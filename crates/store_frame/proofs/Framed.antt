@@ -1,4 +1,4 @@
--- A request changes only the keys, the upload and the paths that it names, and the ids that it draws.
+-- A request changes only the keys, the upload and the paths that it names, and the ids that it uses.
 use Rattle.basics.proofs.Members.{nat_gone, nat_left, nat_other, none_some, same_or_not, same_or_other, text_here, text_left, text_other}
 use Rattle.basics.proofs.Naturals.{next_most}
 use Rattle.basics.specs.Members.{IsIn}
@@ -19,7 +19,7 @@ use Rattle.store_frame.specs.Frame.{Frame, changed_keys, changed_paths, changed_
 use Rattle.store_frame.specs.Held.{HasBucket, object_in, upload_at, upload_in}
 use Rattle.std.specs.FinMap as fin
 
--- a store with this in place of a bucket
+-- The store with b in place of the bucket n.
 abbrev pub with_bucket : Content → List ℕ → BucketContent → ℕ → Content
 with_bucket c n b next = record { buckets = fin.insert c.buckets n b; next = next; minimum = c.minimum }
 
@@ -27,7 +27,7 @@ pub part_others : (key : List ℕ) (id number : ℕ) (bytes : List ℕ) (m : Upl
     → fin.get (part_put m id o number bytes) u ≡ fin.get m u
 part_others key id number bytes m o u h = grind (arith, nat_other)
 
--- what holds of a bucket alone
+-- What a request may change in one bucket.
 pub record Bucket (c d : Content) (n : List ℕ) (r : Request) : Type 0 where
   pub there : (b : BucketContent) → fin.get c.buckets n ≡ Some b → (x : BucketContent) × (fin.get d.buckets n ≡ Some x)
   pub least : d.minimum ≡ c.minimum
@@ -38,7 +38,7 @@ pub record Bucket (c d : Content) (n : List ℕ) (r : Request) : Type 0 where
   pub fresh : ((id : ℕ) (x : Upload) → upload_at c n id ≡ Some x → id < c.next) → (id : ℕ) (x : Upload) → upload_at d n id ≡ Some x
       → id < d.next
 
--- a bucket that stands, and ids that were drawn
+-- The ids of the bucket's uploads are below the next id.
 abbrev Fresh : Content → List ℕ → Type 0
 Fresh c n = (id : ℕ) (x : Upload) → upload_at c n id ≡ Some x → id < c.next
 
@@ -118,7 +118,7 @@ module _ (b : BucketContent) (next : ℕ) where
       next
   part_within n key id number bytes o h = grind (arith, part_others, same_or_not)
 
-  -- a live upload stands
+  -- If the upload is live with its key, it exists.
   stands_so : (key : List ℕ) (id : ℕ) (o : Option Upload) → fin.get b.uploads id ≡ o → (with_key key o ≡ None)
       ⊎ ((y : Upload) × (fin.get b.uploads id ≡ Some y))
   stands_so key id None e = inl refl
@@ -162,7 +162,7 @@ module _ (b : BucketContent) (next : ℕ) where
   within minimum (AbortUpload n k id) = abort_within n k id (live b.uploads k id)
   within minimum _ = same_all _
 
--- ---- in any bucket
+-- ---- any bucket
 
 at_bucket : (c : Content) (n : List ℕ) (r : Request) (o : Option BucketContent) → fin.get c.buckets (bucket_of r) ≡ o
     → Bucket c (apply_at o c r) n r
@@ -183,10 +183,10 @@ made_frame c n q r None e s true h = rw h (frame_other c n q r new_bucket c.next
     (omega arith))
 made_frame c n q r None e s false h = rw h (frame_all c n r)
 
--- ---- of a scene
+-- ---- the whole scene
 
 module _ (s : Scene) (n : List ℕ) (r : Request) where
-  -- the store's own requests
+  -- A request to the store.
   of_store : (c : Content) → Bucket s.content c n r → Frame s (record { content = c; files = s.files }) n r
   of_store c h = record {
     there = h.there;
@@ -199,7 +199,7 @@ module _ (s : Scene) (n : List ℕ) (r : Request) where
         p free. refl;
   }
 
-  -- the cluster's
+  -- A request to the cluster.
   of_cluster : (m : Files) → ((p : List ℕ) → (IsIn p (changed_paths r) → ⊥) → fin.get m p ≡ fin.get s.files p)
       → Frame s (record { content = s.content; files = m }) n r
   of_cluster m h = record {

@@ -1,4 +1,4 @@
--- What the walk finds is what is listed.
+-- The walk finds exactly what is listed.
 use Rattle.basics.proofs.Bools.{contrary}
 use Rattle.basics.proofs.Less.{irrefl, le_lt, lt_back, lt_le}
 use Rattle.basics.proofs.Tree.{map_sorted, tied}
@@ -23,7 +23,7 @@ use Rattle.store_frame.proofs.Prefix.{le_le, lt, lt_not}
 use Rattle.store_frame.proofs.Walked.{stems, text_le}
 use Rattle.store_frame.specs.Walk.{text_by, text_of, walked}
 
--- each entry whose text is greater than the last
+-- The entries with texts greater than that of the entry before them, or than a for the first.
 abbrev given : List ℕ → List PageEntry → List PageEntry
 given a [] = []
 given a (x ∷ xs) = cond (lt a (text_in x)) (x ∷ given (text_in x) xs) (given a xs)
@@ -47,7 +47,7 @@ walked_given p d a (e ∷ es) = elim (cases_Bool (begins p e.0)) [
   | inr n ↦ rw (n, walked_given p d a es) refl
 ]
 
--- texts that never fall
+-- The texts do not fall.
 abbrev Rising : List ℕ → List PageEntry → Type 0
 Rising w [] = Unit {0}
 Rising w (x ∷ xs) = (lt (text_in x) w ≡ false) × Rising (text_in x) xs
@@ -62,7 +62,7 @@ lower : (u w : List ℕ) (xs : List PageEntry) → lt w u ≡ false → Rising w
 lower u w [] l r = tt
 lower u w (x ∷ xs) l r = (le_le u w (text_in x) l r.0, r.1)
 
--- past a text that was given, the filters after it and after a smaller one show the same
+-- After a text u that was given, the entries greater than u and those greater than a smaller text a fold to the same list.
 same_after : (a u : List ℕ) (xs : List PageEntry) → lt a u ≡ true → Rising u xs
     → folded_from (Some u) (filter (λ x. lt a (text_in x)) xs) ≡ folded_from (Some u) (filter (λ x. lt u (text_in x)) xs)
 same_after a u [] l r = refl
@@ -83,7 +83,7 @@ Started (x ∷ xs) = Rising (text_in x) xs
 start : (w : List ℕ) (xs : List PageEntry) → Rising w xs → Started xs
 start w xs h = grind arith
 
--- the last that was given is not greater than a
+-- The last text that was given is not greater than a.
 abbrev Last : List ℕ → Option (List ℕ) → Type 0
 Last a None = Unit {0}
 Last a (Some t) = lt a t ≡ false
@@ -106,7 +106,7 @@ given_listed a o (x ∷ xs) h s = elim (cases_Bool (lt a (text_in x))) [
       ) refl
 ]
 
--- a greater key below p has no smaller text
+-- A greater key below p does not have a smaller text.
 text_rises : (p : List ℕ) (d : Bool) (k q : List ℕ) → lt k q ≡ true → lt (text_of p d q) (text_of p d k) ≡ false
 text_rises p d k q l = by (stem_if d p q) refl
   where
@@ -152,7 +152,7 @@ walked_listed p d a m =
     walked_given p d a (entries m)
     ∙ given_listed a None (entries_below p d (entries m)) tt (started p d (entries m) (map_sorted text_cmp m))
 
--- ---- behind an entry
+-- ---- after an entry
 
 given_greater : (a : List ℕ) (xs : List PageEntry) (x : PageEntry) (rest : List PageEntry) → given a xs ≡ x ∷ rest → lt a (text_in x) ≡ true
 given_greater a [] x rest h = absurd (cc)
@@ -176,7 +176,7 @@ given_behind a (y ∷ ys) x rest h = elim (cases_Bool (lt a (text_in y))) [
       rw (← f, irrefl text_total (text_in y)) g
 ]
 
--- what is listed behind the first entry are the others
+-- After the first entry, the others are listed.
 pub listed_behind : (p : List ℕ) (d : Bool) (a : List ℕ) (m : Objects) (x : PageEntry) (rest : List PageEntry) → listed p d a m ≡ x ∷ rest
     → listed p d (text_in x) m ≡ rest
 listed_behind p d a m x rest h =

@@ -1,4 +1,4 @@
--- What a text begins with, and the order of texts.
+-- Prefixes of texts, and the order of texts.
 use Rattle.basics.specs.Order.{text_cmp, text_total}
 use Rattle.s3_types.specs.Pages.{begins}
 use Rattle.std.proofs.Common.{Bool, List, arith, false, nat_eq, refl, true, ℕ, [], ◌&&◌, ◌++◌, ◌∷◌, ◌≡◌}
@@ -8,7 +8,7 @@ use Rattle.std.specs.Ordering.{is_lt, nat_cmp, ordering_then}
 use Rattle.std.specs.declared.cmp.Ordering.{Ordering}
 use Rattle.basics.proofs.Less as less
 
--- whether a text is less than another
+-- True if one text is less than another.
 abbrev pub lt : List ℕ → List ℕ → Bool
 lt = less.lt text_cmp
 
@@ -22,7 +22,7 @@ step_up : (y w : ℕ) (r : Ordering) (b : Bool) → (b ≡ true → is_lt r ≡ 
     → is_lt (ordering_then (nat_cmp w y) r) ≡ true
 step_up y w r b ih k = grind (arith, nat_tests)
 
--- a key that begins with s and a `/` is less than s and a `0`
+-- A key that begins with s and a `/` is less than s and a `0`.
 pub up_to_next : (s q : List ℕ) → begins (s ++ 47 ∷ []) q ≡ true → lt q (s ++ 48 ∷ []) ≡ true
 up_to_next [] [] k = absurd (false≢true k)
 up_to_next [] (w ∷ q) k = grind (arith, nat_tests)
@@ -41,7 +41,7 @@ nothing_less : (q : List ℕ) → lt q [] ≡ false
 nothing_less [] = refl
 nothing_less (w ∷ q) = refl
 
--- what lies between s with a `/` and s with a `0` begins with s and a `/`
+-- A text from s with a `/` up to s with a `0` begins with s and a `/`.
 pub before_next : (s q : List ℕ) → lt q (s ++ 47 ∷ []) ≡ false → lt q (s ++ 48 ∷ []) ≡ true → begins (s ++ 47 ∷ []) q ≡ true
 before_next [] [] h g = absurd (true≢false h)
 before_next [] (w ∷ q) h g = step_next w (text_cmp q []) (text_cmp q []) (nothing_less q) h g

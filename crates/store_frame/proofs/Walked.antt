@@ -1,4 +1,4 @@
--- What is walked after a text begins at the first key from `start` on.
+-- The walk after a text begins at the first key from `start` on.
 use Rattle.basics.proofs.Bools.{contrary}
 use Rattle.basics.proofs.Less.{irrefl, le_lt, le_not, lt_le, lt_trans}
 use Rattle.basics.proofs.Members.{false_true, none_or_some, none_some, some_is}
@@ -21,9 +21,9 @@ use Rattle.store_frame.proofs.Prefix.{before_next, le_le, lt, lt_not, up_to_next
 use Rattle.store_frame.proofs.Stem.{stem_below, stem_prefix, stem_same}
 use Rattle.store_frame.specs.Walk.{ComesNext, start, start_by, text_by, text_of, walked}
 
--- ---- where a key's text stands
+-- ---- how a key's text compares
 
--- a function that gives stems
+-- The function `st` returns stems.
 pub record Stems (p : List ℕ) (st : List ℕ → Option (List ℕ)) : Type 0 where
   pub below : (q s : List ℕ) → st q ≡ Some s → begins (s ++ 47 ∷ []) q ≡ true
   pub prefix : (q s : List ℕ) → st q ≡ Some s → begins p (s ++ 47 ∷ []) ≡ true
@@ -39,17 +39,17 @@ stems p false = record {
 }
 
 module _ (p : List ℕ) (st : List ℕ → Option (List ℕ)) (k : Stems p st) where
-  -- a text is not greater than its key
+  -- A text is not greater than its key.
   pub text_le : (q : List ℕ) (o : Option (List ℕ)) → st q ≡ o → lt q (text_by o q) ≡ false
   text_le q None e = irrefl text_total q
   text_le q (Some s) e = from_prefix (s ++ 47 ∷ []) q (k.below q s e)
 
-  -- nor less than the prefix
+  -- A text is not less than the prefix, if its key begins with it.
   text_ge : (q : List ℕ) (o : Option (List ℕ)) → st q ≡ o → begins p q ≡ true → lt (text_by o q) p ≡ false
   text_ge q None e h = from_prefix p q h
   text_ge q (Some s) e h = from_prefix p (s ++ 47 ∷ []) (k.prefix q s e)
 
-  -- past the common prefix of a
+  -- If a has a common prefix, keys after that have greater texts.
   module _ (a q s : List ℕ) (e : st a ≡ Some s) where
     inside : lt q (s ++ 48 ∷ []) ≡ true → lt a (text_by (st q) q) ≡ false
     inside h = (elim (lt q (s ++ 47 ∷ [])) as (λ b. lt q (s ++ 47 ∷ []) ≡ b → lt a (text_by (st q) q) ≡ false) [
@@ -70,7 +70,7 @@ module _ (p : List ℕ) (st : List ℕ → Option (List ℕ)) (k : Stems p st) w
         aq : lt a q ≡ true
         aq = lt_le text_total a (s ++ 48 ∷ []) q (up_to_next s a (k.below a s e)) h
 
-  -- after a
+  -- If a has none, keys after a have greater texts.
   after : (a q : List ℕ) → st a ≡ None → lt a (text_by (st q) q) ≡ lt a q
   after a q e = elim (none_or_some (st q)) [
     | inl n ↦ rw n refl
@@ -81,7 +81,7 @@ module _ (p : List ℕ) (st : List ℕ → Option (List ℕ)) (k : Stems p st) w
     ])
   ]
 
-  -- a key below p has its text after a exactly where it lies from the start on
+  -- A key below p has a text greater than a exactly if it is at the start or after it.
   pub from_start : (a q : List ℕ) → begins p q ≡ true → lt a (text_by (st q) q) ≡ is_from_start text_cmp (start_by (st a) p a) q
   from_start a q h = elim (none_or_some (st a)) [
     | inl e ↦ rw e (elim (cases_Bool (lt a p)) [
@@ -97,7 +97,7 @@ module _ (p : List ℕ) (st : List ℕ → Option (List ℕ)) (k : Stems p st) w
 
 -- ---- lists
 
--- whether a key is walked next after a
+-- True if the key is walked next after a.
 abbrev counts : List ℕ → Bool → List ℕ → List ℕ → Bool
 counts p d a q = begins p q && lt a (text_of p d q)
 
@@ -114,7 +114,7 @@ later p d a b q l h = contrary _ (λ t. let u = and_parts (begins p q) (lt b (te
     (lt_trans text_total a b (text_of p d q) l u.1))
 
 module _ (p : List ℕ) (d : Bool) where
-  -- entries that do not count may be left out
+  -- Entries that do not count may be left out.
   skip : (f : List ℕ × Object → Bool) (es : List (List ℕ × Object)) (a : List ℕ)
       → ((e : List ℕ × Object) → f e ≡ false → counts p d a e.0 ≡ false) → walked p d a (filter f es) ≡ walked p d a es
   skip f [] a h = refl
@@ -172,7 +172,7 @@ module _ (p : List ℕ) (d : Bool) where
         (rw ex at t, rw (← ex, ← er) (all_kept f x es (sorted_head text_cmp x.0 (keys_of es) s)))
   ]
 
-  -- the entry, where its key begins with p
+  -- The entry, if its key begins with p.
   abbrev pub pick : Option (List ℕ × Object) → Option (List ℕ × Object)
   pick None = None
   pick (Some e) = cond (begins p e.0) (Some e) None
@@ -188,7 +188,7 @@ module _ (p : List ℕ) (d : Bool) where
     kept : walked p d a (filter in_range es) ≡ walked p d a es
     kept = skip in_range es a (λ e h. counts_from p d a e.0 (not_in e h))
 
-    -- what stands before the start is not walked
+    -- Entries before the start are not walked.
     pub kept_between : walked p d a (entries_between text_cmp (start p d a) Unbounded es) ≡ walked p d a es
     unfolding in_range
     kept_between = kept

@@ -1,4 +1,4 @@
--- What a request names of a bucket and of the cluster's files, and that nothing else changes.
+-- Which keys, uploads and cluster files a request names; nothing else changes.
 use Rattle.basics.specs.Members.{IsIn}
 use Rattle.s3_types.specs.Answer.{bucket_of}
 use Rattle.s3_types.specs.Store.{BucketContent, Scene, Upload}
@@ -9,7 +9,7 @@ use Rattle.std.specs.Prelude.{List, None, Option, Some, ℕ, [], ◌<◌, ◌∷
 use Rattle.store_frame.specs.Held.{object_at, upload_at}
 use Rattle.std.specs.FinMap as fin
 
--- the keys at which a request may change what stands
+-- The keys at which a request may change the object.
 abbrev pub changed_keys : Request → List (List ℕ)
 changed_keys (PutObject bucket key bytes header) = key ∷ []
 changed_keys (DeleteObject bucket key) = key ∷ []
@@ -18,22 +18,22 @@ changed_keys (CopyObject bucket source target) = target ∷ []
 changed_keys (CompleteUpload bucket key id parts) = key ∷ []
 changed_keys _ = []
 
--- the upload that it may change or end
+-- The upload that the request may change or end.
 abbrev pub changed_upload : Request → Option ℕ
 changed_upload (UploadPart bucket key id number bytes) = Some id
 changed_upload (CompleteUpload bucket key id parts) = Some id
 changed_upload (AbortUpload bucket key id) = Some id
 changed_upload _ = None
 
--- the cluster's paths at which it may change what stands
+-- The paths in the cluster at which the request may change the file.
 abbrev pub changed_paths : Request → List (List ℕ)
 changed_paths (ClusterPut path bytes) = path ∷ []
 changed_paths (ClusterRename source target) = source ∷ target ∷ []
 changed_paths (ClusterDelete path) = path ∷ []
 changed_paths _ = []
 
--- From one scene to another nothing of a bucket and of the cluster's files changes but what the request names; uploads that are begun have
--- ids that were not drawn before.
+-- From scene s to scene t nothing changes in the bucket n or in the cluster's files but what the request names. New uploads have ids that
+-- were not used before.
 pub record Frame (s t : Scene) (n : List ℕ) (r : Request) : Type 0 where
   pub there : (b : BucketContent) → fin.get s.content.buckets n ≡ Some b → (x : BucketContent) × (fin.get t.content.buckets n ≡ Some x)
   pub least : t.content.minimum ≡ s.content.minimum
@@ -41,7 +41,7 @@ pub record Frame (s t : Scene) (n : List ℕ) (r : Request) : Type 0 where
   pub keys : (k : List ℕ) → (bucket_of r ≡ n → IsIn k (changed_keys r) → ⊥) → object_at t.content n k ≡ object_at s.content n k
   pub uploads : (id : ℕ) → (bucket_of r ≡ n → changed_upload r ≡ Some id → ⊥) → id < s.content.next
       → upload_at t.content n id ≡ upload_at s.content n id
-  -- ids below the next one stay so
+  -- If all ids were below the next one, they still are.
   pub fresh : ((id : ℕ) (x : Upload) → upload_at s.content n id ≡ Some x → id < s.content.next) → (id : ℕ) (x : Upload)
       → upload_at t.content n id ≡ Some x → id < t.content.next
   pub files : (p : List ℕ) → (IsIn p (changed_paths r) → ⊥) → fin.get t.files p ≡ fin.get s.files p

@@ -13,27 +13,27 @@ use Rattle.store_frame.specs.Frame.{Frame}
 use Rattle.store_frame.specs.Held.{HasBucket}
 use Rattle.std.specs.FinMap as fin
 
--- a request changes only what it names, and one that reads changes nothing
+-- A request changes only what it names, and a request that only reads changes nothing.
 pub record RequestsKeep : Type 0 where
   pub frame : (s : Scene) (n : List ℕ) (r : Request) → HasBucket s.content n → Frame s (apply s r) n r
   pub reads : (s : Scene) (r : Request) → only_reads r ≡ true → apply s r ≡ s
 
--- the keys on a page
+-- The keys on a page without a delimiter.
 abbrev pub keys_listed : ℕ → List ℕ → List ℕ → Objects → List (List ℕ)
 keys_listed limit p after m = map text_in (take limit (listed p false after m))
 
--- a listing without a delimiter has, page by page, each key that stands, in order, and no other
+-- The pages of a listing without a delimiter have, one after another, all existing keys with the prefix in order, and no others.
 pub record PagesCover : Type 0 where
-  -- the keys of a page rise behind the last one before it
+  -- The keys of a page rise, and are greater than `after`.
   pub rises : (limit : ℕ) (p after : List ℕ) (m : Objects) → RisesFrom after (keys_listed limit p after m)
-  -- each begins with the prefix and stands
+  -- Each key on the page begins with the prefix and exists.
   pub begin : (limit : ℕ) (p after k : List ℕ) (m : Objects) → IsIn k (keys_listed limit p after m) → (begins p k ≡ true)
       × ((x : Object) × (fin.get m k ≡ Some x))
-  -- what stands behind the last key is on the page or behind its last one
+  -- Each existing key after `after` is on the page, or after the page's last key.
   pub cover : (limit : ℕ) (p after k : List ℕ) (m : Objects) (x : Object) → fin.get m k ≡ Some x → begins p k ≡ true
       → is_lt (text_cmp after k) ≡ true
       → IsIn k (keys_listed limit p after m) ⊎ (is_lt (text_cmp (last_from after (keys_listed limit p after m)) k) ≡ true)
-  -- and on the page, where no more remain
+  -- If no more remain, each of them is on the page.
   pub all : (limit : ℕ) (p after k : List ℕ) (m : Objects) (x : Object) → nat_lt limit (length (listed p false after m)) ≡ false
       → fin.get m k ≡ Some x → begins p k ≡ true → is_lt (text_cmp after k) ≡ true
       → IsIn k (keys_listed limit p after m)

@@ -1,4 +1,4 @@
--- Pages by a walk over the entries, which finds where each next entry stands.
+-- Pages by a walk over the entries. It finds the place of each next entry.
 use Rattle.basics.specs.Order.{text_cmp}
 use Rattle.s3_types.specs.Pages.{begins, entry_of, stem_if}
 use Rattle.s3_types.specs.declared.object.Object.{Object}
@@ -8,16 +8,16 @@ use Rattle.std.specs.Prelude.{Bool, List, None, Option, Some, cond, ℕ, [], ◌
 use Rattle.std.specs.declared.ops.Bound.{Bound}
 use Rattle.std.specs.declared.ops.Bound.TheVariants.{Excluded, Included}
 
--- the text of a key's entry: its common prefix, or the key
+-- The text of a key's entry: its common prefix, or the key.
 abbrev pub text_by : Option (List ℕ) → List ℕ → List ℕ
 text_by (Some s) q = s ++ 47 ∷ []
 text_by None q = q
 
--- what a page says of a key: its common prefix, or the key
+-- The text of the entry of key q: its common prefix, or the key.
 abbrev pub text_of : List ℕ → Bool → List ℕ → List ℕ
 text_of p delimited q = text_by (stem_if delimited p q) q
 
--- the entries of the keys below p whose texts are greater than the last that was given
+-- The entries of the keys that begin with p, each with a text greater than that of the entry before it, or than `last` for the first.
 abbrev pub walked : List ℕ → Bool → List ℕ → List (List ℕ × Object) → List PageEntry
 walked p delimited last [] = []
 walked p delimited last (e ∷ es) =
@@ -25,16 +25,16 @@ walked p delimited last (e ∷ es) =
     (entry_of p delimited e ∷ walked p delimited (text_of p delimited e.0) es)
     (walked p delimited last es)
 
--- where to look for the entries after a text: past its common prefix, or after it, or from p on
+-- Where to look for the entries after a text: after its common prefix, or at p if the text is less, or after the text.
 abbrev pub start_by : Option (List ℕ) → List ℕ → List ℕ → Bound (List ℕ)
 start_by (Some s) p last = Included (s ++ 48 ∷ [])
 start_by None p last = cond (is_lt (text_cmp last p)) (Included p) (Excluded last)
 
--- where the entries behind a text begin
+-- Where the entries after a text begin.
 abbrev pub start : List ℕ → Bool → List ℕ → Bound (List ℕ)
 start p delimited last = start_by (stem_if delimited p last) p last
 
--- the next entry after a text is that of e, or there is none
+-- The next entry after a text is that of e; or there is no next entry.
 abbrev pub ComesNext : List ℕ → Bool → List ℕ → List (List ℕ × Object) → Option (List ℕ × Object) → Type 0
 ComesNext p delimited last es None = walked p delimited last es ≡ []
 ComesNext p delimited last es (Some e) = walked p delimited last es ≡ entry_of p delimited e ∷ walked p delimited (text_of p delimited e.0)

@@ -1,12 +1,13 @@
-//! What a request changes of a store and of the cluster's files, and what pages of a listing have, in
-//! `specs/`.
+//! What a request may change in a store and in the cluster's files, and which keys are on the
+//! pages of a listing, as laws in `specs/`.
 //!
 //! # What is proved
 //!
-//! A request changes nothing of a bucket, of its live uploads and of the cluster's files but what it
-//! names, and one that only reads changes nothing. A page without a delimiter has, in order, keys that
-//! begin so and stand, and what stands behind the last key before it is on the page or behind its last
-//! one.
+//! - `requests`: a request changes nothing in a bucket, in its live uploads or in the cluster's
+//!   files but what it names. A request that only reads changes nothing.
+//! - `pages`: a page without a delimiter has, in order, existing keys that begin with the prefix.
+//!   Each key that exists after the last key of the page before is on the page or after its last
+//!   key.
 #![tactic(auto)]
 
 ghost use Rattle.store_frame.specs.Laws.{PagesCover, RequestsKeep};
@@ -16,7 +17,7 @@ pub fn requests()
     ensures keep { RequestsKeep }
 {}
 
-/// Pages of a bucket's objects, one behind another.
+/// The pages of a bucket's objects, one after another.
 pub fn pages()
     ensures cover { PagesCover }
 {}

@@ -1,4 +1,4 @@
--- Entries that rise: they are taken and read again, and they are those of the map that they make.
+-- Entries that rise: a reader takes them and reads them again, and they are the entries of the map that they make.
 use Rattle.basics.proofs.Bytes.{IsBytes, IsReader, IsWide, Takes, Takes-then}
 use Rattle.basics.proofs.Less.{less_of}
 use Rattle.basics.proofs.Reading.{parted, same_ok}
@@ -30,16 +30,16 @@ true_T true h = refl
 true_T false h = absurd h
 
 module _ {K X : Type 0} (R : K → K → Ordering) where
-  -- the keys rise from the last one on
+  -- The keys rise, and are greater than the last one.
   abbrev pub Rises : Option K → List (K × X) → Type 0
   Rises last [] = Unit {0}
   Rises last (e ∷ es) = (is_after R last e.0 ≡ true) × Rises (Some e.0) es
 
-  -- a key is greater than each of these
+  -- The key is greater than each key of these entries.
   abbrev pub IsAbove : K → List (K × X) → Type 0
   IsAbove k es = AllByRecursion (λ e. R k e.0 ≡ Greater) es
 
-  -- a key that comes after the last one is greater than each of these
+  -- A key that comes after the last one is greater than each key of these entries.
   abbrev pub IsLast : Option K → List (K × X) → Type 0
   IsLast last es = (k : K) → is_after R last k ≡ true → IsAbove k es
 
@@ -82,7 +82,7 @@ module _ {K X : Type 0} {R : K → K → Ordering} (o : IsTotalOrder R) where
       entries_more (Some e.0) (fin.insert m e.0 e.1) es next rises.1 ∙ ap (λ (x : List (K × X)). x ++ es) now ∙ append_assoc (fin.entries m)
       (e ∷ []) es
 
-  -- entries that rise are those of the map that they make
+  -- Entries that rise are the entries of the map that they make.
   pub entries_made : (es : List (K × X)) → Rises R None es → fin.entries (with_entries (fin.empty {X = X} {R = R}) es) ≡ es
   entries_made es rises =
       let none : fin.entries (fin.empty {X = X} {R = R}) ≡ [] = entries_empty R in
@@ -93,7 +93,7 @@ module _ {K X : Type 0} {R : K → K → Ordering} (o : IsTotalOrder R) where
 
 -- ---- reading
 
--- a reader takes the text of a key that passes the test and comes after the last one, and reads such a text again
+-- A reader of keys takes the text of a key that passes the test and comes after the last one, and reads that text again.
 pub record IsKeyReader {K : Type 0} (R : K → K → Ordering) (key_at : Option K → List ℕ → Read K) (text : K → List ℕ) (is_key : K → Bool) :
     Type 0 where
   pub takes : (last : Option K) (bytes : List ℕ) (k : K) (rest : List ℕ) → IsBytes bytes → key_at last bytes ≡ Ok (k, rest)
@@ -102,7 +102,7 @@ pub record IsKeyReader {K : Type 0} (R : K → K → Ordering) (key_at : Option 
       → key_at last (text k ++ rest) ≡ Ok (k, rest)
   pub some : (k : K) → 1 ≤ length (text k)
 
--- an entry's text is its key's and then its value's
+-- The text of an entry is the text of its key followed by that of its value.
 abbrev pub IsSpelled : {K X : Type 0} → (K → List ℕ) → (X → List ℕ) → (K × X → List ℕ) → Type 0
 IsSpelled {K} {X} key_text value_text entry = (e : K × X) → entry e ≡ key_text e.0 ++ value_text e.1
 
@@ -164,7 +164,7 @@ module _ {K X : Type 0} {R : K → K → Ordering}
             (Some e.0) es rest each.1 rises.1 end,
       ) refl
 
-  -- each entry has a byte at least
+  -- Each entry has at least one byte.
   pub count_fits : (es : List (K × X)) → length es ≤ length (flat_map entry es)
   count_fits [] = omega arith
   count_fits (e ∷ es) =
@@ -220,6 +220,6 @@ module _ {K X : Type 0} {R : K → K → Ordering}
           ∙ rw (number_again w limit wide whole (fin.len m) (text ++ rest) (few m are short), again)
           (ap (λ (x : fin.FinMap R X). Ok (x, rest)) (made_again o m))
 
-      -- a map with its count before it is taken and read again
+      -- The reader of a map takes its text, with the count first, and reads it again.
       pub counted_reader : IsReader (counted_at {R = R} w whole key_at value_at) (counted w entry) (AreEntries is_key IsValue)
       counted_reader = record { takes = counted_takes; again = counted_again }

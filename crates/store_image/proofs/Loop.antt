@@ -14,7 +14,7 @@ use Rattle.store_image.specs.Reading.{with_entries}
 use Rattle.store_image.specs.declared.fault.ImageFault.{ImageFault}
 use Rattle.std.specs.FinMap as fin
 
--- a map with the entries that are read put into it
+-- The map with the entries that are read put into it.
 abbrev pub built : {K X : Type 0} {R : K → K → Ordering} → fin.FinMap R X → Read (List (K × X)) → Read (fin.FinMap R X)
 built m read = made (with_entries m) read
 
@@ -53,7 +53,7 @@ module _ {K X : Type 0} {R : K → K → Ordering} where
       sym so_far ∙ ap (λ n. built m (rising_at key_at value_at n last bytes)) none
 
 module _ {K X : Type 0} {R : K → K → Ordering} where
-  -- a fault in an entry's key is the fault of the whole
+  -- A fault in the key of an entry is the fault of the whole.
   pub key_fails : (key_at : Option K → List ℕ → Read K) (value_at : List ℕ → Read X) (count i : ℕ) (last : Option K) (bytes : List ℕ)
       (m : fin.FinMap R X) (total : Read (fin.FinMap R X)) (e : ImageFault)
       → i < count → Fails wanting e (key_at last bytes)
@@ -64,7 +64,7 @@ module _ {K X : Type 0} {R : K → K → Ordering} where
       let failing : key_at last bytes ≡ Err e → total ≡ Err e = λ h. sym so_far ∙ rw (n, h) refl in
       unless_more (wanting e) failing fault
 
-  -- a fault in an entry's value is the fault of the whole
+  -- A fault in the value of an entry is the fault of the whole.
   pub value_fails : (key_at : Option K → List ℕ → Read K) (value_at : List ℕ → Read X) (count i : ℕ) (last : Option K)
       (bytes after : List ℕ) (k : K) (m : fin.FinMap R X) (total : Read (fin.FinMap R X)) (e : ImageFault)
       → i < count → key_at last bytes ≡ Ok (k, after) → Fails wanting e (value_at after)
@@ -77,7 +77,7 @@ module _ {K X : Type 0} {R : K → K → Ordering} where
 
 -- ---- an upload
 
--- an upload that is put at an id is its key and no parts, and then its parts
+-- An upload is read as its key, with no parts, and then its parts are put in.
 pub upload_is : (whole id : ℕ) (bytes after left key : List ℕ) (count : ℕ) (m now : Uploads)
     → name_at is_key whole None bytes ≡ Ok (key, after) → number_at w16 whole after ≡ Ok (count, left)
     → now ≡ fin.insert m id (record { key = key; parts = fin.empty })
@@ -99,7 +99,7 @@ upload_is whole id bytes after left key count m now e1 e2 is = rw (e1, e2) (by
 abbrev done_store : Content → List ℕ → Read Content
 done_store c rest = Ok (c, rest)
 
--- a store is told by its buckets, its counter and its minimum
+-- A store is its buckets, its counter and its least part size.
 pub restored : (c : Content) (next minimum : ℕ) (rest : List ℕ) → c.next ≡ next → c.minimum ≡ minimum
     → done_store (record { buckets = c.buckets; next = next; minimum = minimum }) rest ≡ done_store c rest
 restored c next minimum rest e f =

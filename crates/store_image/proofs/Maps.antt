@@ -1,4 +1,4 @@
--- Maps that grow by keys that rise.
+-- Maps that grow by rising keys.
 use Rattle.basics.proofs.Less.{less_of}
 use Rattle.basics.specs.Order.{text_equiv}
 use Rattle.s3_types.specs.Answer.{part_put}
@@ -14,17 +14,17 @@ use Rattle.store_image.specs.Reading.{is_after}
 use Rattle.std.specs.FinMap as fin
 
 module _ {K : Type 0} {R : K → K → Ordering} (o : IsTotalOrder R) where
-  -- what comes after a key that comes after the last one comes after the last one
+  -- A key after a key that comes after the last one comes after the last one too.
   pub after_both : (last : Option K) (k q : K) → is_after R last k ≡ true → is_after R (Some k) q ≡ true → is_after R last q ≡ true
   after_both None k q h g = refl
   after_both (Some p) k q h g = ap is_lt (o.trans p k q (less_of _ h) (less_of _ g))
 
-  -- a key that is less is another key
+  -- A key that is less is another key.
   pub other : (k q : K) → is_after R (Some k) q ≡ true → eq_by_cmp R q k ≡ false
   other k q h = ap is_eq (o.antisymm q k ∙ ap ordering_reverse (less_of _ h))
 
 module _ {K X : Type 0} (R : K → K → Ordering) where
-  -- the map has no key after the last one
+  -- The map has no key that comes after the last one.
   abbrev pub IsFree : Option K → fin.FinMap R X → Type 0
   IsFree last m = (k : K) → is_after R last k ≡ true → fin.get m k ≡ None
 
@@ -37,7 +37,7 @@ module _ {K X : Type 0} {R : K → K → Ordering} where
   still_free o last m k v free after q h =
       fin.get-insert o m k v q ∙ ap (λ b. cond b (Some v) (fin.get m q)) (other o k q h) ∙ free q (after_both o last k q after h)
 
-  -- what is put at a key again stands in place of what was put there
+  -- A second put at a key replaces the first.
   pub insert_again : (o : IsTotalOrder R) → fin.IsAntisymmetric R → (m : fin.FinMap R X) (k : K) (v w : X)
       → fin.insert (fin.insert m k v) k w ≡ fin.insert m k w
   insert_again o exact m k v w = fin.same_map o exact _ _ (λ q.
@@ -56,12 +56,12 @@ lt_from a b h = grind (arith, nat_tests)
 lt_to : (a b : ℕ) → a < b → is_lt (nat_cmp a b) ≡ true
 lt_to a b h = grind (arith, nat_tests)
 
--- what is not less than an id that comes after the last one comes after the last one
+-- An id that is not less than one after the last comes after the last too.
 pub from_id : (last : Option ℕ) (id i : ℕ) → is_after nat_cmp last id ≡ true → id ≤ i → is_after nat_cmp last i ≡ true
 from_id None id i h le = refl
 from_id (Some p) id i h le = lt_to p i (omega (arith, lt_from p id h))
 
--- an id below the counter leaves the map without ids from the counter on
+-- If an id is below the counter, the map still has no ids from the counter on.
 pub still_fresh : {X : Type 0} (m : fin.FinMap nat_cmp X) (next id : ℕ) (v : X) → id < next → ((i : ℕ) → next ≤ i → fin.get m i ≡ None)
     → (i : ℕ) → next ≤ i → fin.get (fin.insert m id v) i ≡ None
 still_fresh m next id v lt fresh i le =
@@ -70,16 +70,16 @@ still_fresh m next id v lt fresh i le =
 
 -- ---- the parts of an upload
 
--- what was put at an id is there
+-- The upload that was put at an id is there.
 pub held_at : (m now : Uploads) (id : ℕ) (u : Upload) → now ≡ fin.insert m id u → fin.get now id ≡ Some u
 held_at m now id u e = ap (λ (n : Uploads). fin.get n id) e ∙ fin.get-insert nat_cmp_total m id u id ∙ ap
     (λ b. cond b (Some u) (fin.get m id)) ((eq_by_cmp_equiv nat_cmp_total).refl id)
 
--- an upload that was put at an id is live with its key
+-- The upload that was put at an id is live with its key.
 pub held_live : (m now : Uploads) (id : ℕ) (u : Upload) → now ≡ fin.insert m id u → live now u.key id ≡ Some u
 held_live m now id u e = ap (with_key u.key) (held_at m now id u e) ∙ ap (λ b. cond b (Some u) None) (text_equiv.refl u.key)
 
--- a part that is set in it stands in its parts
+-- A part that is put into the upload is among its parts.
 pub part_held : (m now next : Uploads) (id number : ℕ) (key bytes : List ℕ) (parts : Parts)
     → now ≡ fin.insert m id (record { key = key; parts = parts }) → is_part_number number ≡ true
     → next ≡ part_put now id (live now key id) number bytes

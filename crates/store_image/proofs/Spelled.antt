@@ -1,4 +1,4 @@
--- What is read of each kind of value is spelled so, and what is spelled so is read.
+-- For each kind of value: the value that is read has the bytes as its text, and its text is read as that value.
 use Rattle.basics.proofs.Bytes.{IsBytes, IsReader, Takes, Takes-then, wide16, wide64}
 use Rattle.basics.proofs.Reading.{parted, same_ok, tested, tested_again}
 use Rattle.basics.specs.Order.{text_cmp, text_total}
@@ -28,7 +28,7 @@ use Rattle.std.specs.FinMap as fin
 
 -- ---- keys
 
--- a name of a kind that is not too long
+-- A reader of names that are not too long.
 pub name_reader : (is_name : List ℕ → Bool) → ((t : List ℕ) → is_name t ≡ true → length t < 2 ^ 16) → (whole : ℕ)
     → IsKeyReader text_cmp (name_at is_name whole) name is_name
 unfolding name_at
@@ -135,7 +135,7 @@ object_reader whole =
     (λ o. ap (λ (h : Option ℕ). record { bytes = o.bytes; header = h }) (header_again o.header)) (λ n b. header_back n) (λ n b. refl)
     IsObject (λ o is _. record { header_fits = is }) (λ o is. is.header_fits) (λ o is. tt)
 
--- a key is not too long for the field of its length
+-- A key is short enough for the field of its length.
 pub key_short : (t : List ℕ) → is_key t ≡ true → length t < 2 ^ 16
 key_short t is =
     let path = (and_parts (is_utf8 t) (is_key_path t) is).1 in
@@ -163,7 +163,7 @@ objects_reader whole =
 
 -- ---- uploads
 
--- parts are 10,000 at most
+-- An upload has at most 10,000 parts.
 parts_left : (last : ℕ) (es : List (ℕ × List ℕ)) → last ≤ 10000 → AllByRecursion (IsEntry is_part_number IsPart) es
     → Rises nat_cmp (Some last) es → length es + last ≤ 10000
 parts_left last [] le are rises = omega arith
@@ -235,7 +235,7 @@ bucket_reader next le whole =
     (λ os us. record { objects = os; uploads = us }) (λ b. b.objects) (λ b. b.uploads) (λ b. refl) (λ os us. refl) (λ os us. refl)
     (IsBucket next) (λ b os us. record { objects = os; uploads = us }) (λ b is. is.objects) (λ b is. is.uploads)
 
--- a bucket's name is not too long for the field of its length
+-- A bucket's name is short enough for the field of its length.
 bucket_short : (t : List ℕ) → is_bucket t ≡ true → length t < 2 ^ 16
 bucket_short t is =
     let a = (and_parts (leb 3 (length t) && leb (length t) 63 && list_all is_name_byte t && is_letter_or_digit (slice_index t 0))

@@ -1,4 +1,4 @@
--- Steps of reading: what a step took from the front, and that it reads again what was written.
+-- Steps of reading: each takes a text from the front, and reads again the text that was written.
 use Rattle.basics.proofs.Bytes.{IsBytes, IsReader, IsWide, Takes, Takes-then, front_again, front_takes, wide64}
 use Rattle.basics.proofs.Reading.{parted, same_ok}
 use Rattle.basics.specs.Reading.{◌>>=◌}
@@ -49,7 +49,7 @@ module _ (w : Width) (limit : ℕ) (wide : IsWide w limit) (whole : ℕ) where
   pub number_reader : IsReader (number_at w whole) (to_be_bytes w) (IsBelow limit)
   number_reader = record { takes = number_takes; again = λ n rest lt _. number_again n rest lt }
 
-  -- ---- bytes with their length before them
+  -- ---- bytes after their length
 
   abbrev pub spelled : List ℕ → List ℕ
   spelled text = to_be_bytes w (length text) ++ text
@@ -77,7 +77,7 @@ module _ (w : Width) (limit : ℕ) (wide : IsWide w limit) (whole : ℕ) where
   pub block_reader : IsReader (block_at w whole) spelled IsShort
   block_reader = record { takes = block_takes; again = λ text rest h _. block_again text rest h }
 
--- any bytes that stand in a text that is not too long
+-- A reader of bytes after their length.
 pub any_block : (whole : ℕ) → IsReader (block_at w64 whole) block IsPart
 any_block whole = record {
   takes = λ bytes text rest fits e. ((block_takes w64 (2 ^ 64) wide64 whole bytes text rest fits e).0, tt);

@@ -1,4 +1,4 @@
--- The two laws of the whole: what is read is spelled so, and what is spelled so is read.
+-- The two laws of the whole image: the content that is read has the bytes as its image, and its image is read as that content.
 use Rattle.basics.proofs.Bytes.{IsBytes, Takes, Takes-then, wide64}
 use Rattle.basics.proofs.Reading.{parted, passed, same_ok}
 use Rattle.basics.specs.Order.{text_cmp}
@@ -116,7 +116,7 @@ store_again whole c rest is fits =
 
 -- ---- the whole
 
--- what is read is a content, and the bytes are its image
+-- The value that is read is a content, and the bytes are its image.
 pub content_takes : (bytes : List ℕ) (c : Content) → IsBytes bytes → content_in bytes ≡ Ok c → IsContent c × (bytes ≡ image c)
 unfolding content_in
 content_takes bytes c fits e =
@@ -136,10 +136,10 @@ content_again c is fits =
     (subst (λ (x : List ℕ). length x < 2 ^ 64) same fits) in
     ap (λ (r : Read Content). r >>= λ s. cond (eqb (length s.1) 0) (Ok s.0) (Err (Trailing (place whole s.1)))) again
 
--- the content whose image the bytes are is read
+-- If the bytes are the image of a content, that content is read.
 pub read_again : (bytes : List ℕ) (c : Content) → length bytes < 2 ^ 64 → IsContent c → bytes ≡ image c → content_in bytes ≡ Ok c
 read_again bytes c fits is e = ap content_in e ∙ content_again c is (subst (λ (x : List ℕ). length x < 2 ^ 64) e fits)
 
--- bytes are the image of at most one content
+-- Bytes are the image of at most one content.
 pub one : (bytes : List ℕ) (c d : Content) → length bytes < 2 ^ 64 → IsContent c → IsContent d → bytes ≡ image c → bytes ≡ image d → c ≡ d
 one bytes c d fits is are e f = same_ok c d (sym (read_again bytes c fits is e) ∙ read_again bytes d fits are f)

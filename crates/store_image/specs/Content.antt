@@ -1,4 +1,4 @@
--- What a content must be to have an image.
+-- The conditions on a content that can have an image.
 use Rattle.s3_types.specs.Multipart.{is_part_number}
 use Rattle.s3_types.specs.Names.{is_bucket, is_key}
 use Rattle.s3_types.specs.Store.{BucketContent, Content, Upload}
@@ -10,46 +10,46 @@ use Rattle.std.specs.declared.cmp.Ordering.{Ordering}
 use Rattle.store_image.specs.Image.{header}
 use Rattle.std.specs.FinMap as fin
 
--- the minimum part is 1 to 5,242,880
+-- True if the least part size is 1 to 5,242,880.
 abbrev pub is_minimum : ℕ → Bool
 is_minimum n = nat_le 1 n && nat_le n MOST_MINIMUM
 
--- the counter is 1 to 2^62
+-- True if the counter is 1 to 2^62.
 abbrev pub is_counter : ℕ → Bool
 is_counter n = nat_le 1 n && nat_le n (2 ^ 62)
 
--- an upload's id is 1 to below the counter
+-- True if an upload's id is at least 1 and below the counter.
 abbrev pub is_id : ℕ → ℕ → Bool
 is_id next n = nat_le 1 n && nat_lt n next
 
--- an entry of a map has a key that passes the test, and a value of this kind
+-- The entry's key passes the test, and its value has the property.
 pub record IsEntry {K X : Type 0} (is_key : K → Bool) (IsValue : X → Type 0) (e : K × X) : Type 0 where
   pub key : is_key e.0 ≡ true
   pub value : IsValue e.1
 
--- all entries of a map are so
+-- Each entry of the map is such an entry.
 abbrev pub AreEntries : {K X : Type 0} {R : K → K → Ordering} → (K → Bool) → (X → Type 0) → fin.FinMap R X → Type 0
 AreEntries is_key IsValue m = AllByRecursion (IsEntry is_key IsValue) (fin.entries m)
 
--- an object's header fits in its field
+-- The number of the object's header fits in its field.
 pub record IsObject (o : Object) : Type 0 where
   pub header_fits : header o.header < 2 ^ 64
 
--- any bytes are a part's
+-- Any bytes can be a part's.
 abbrev pub IsPart : List ℕ → Type 0
 IsPart bytes = Unit {0}
 
--- an upload has a key, and its parts are 1 to 10,000
+-- The upload has a valid key, and its parts are numbered from 1 to 10,000.
 pub record IsUpload (u : Upload) : Type 0 where
   pub key : is_key u.key ≡ true
   pub parts : AreEntries is_part_number IsPart u.parts
 
--- a bucket's objects stand at keys, and its uploads have ids below the counter
+-- The bucket's objects have valid keys, and its uploads have ids below the counter.
 pub record IsBucket (next : ℕ) (b : BucketContent) : Type 0 where
   pub objects : AreEntries is_key IsObject b.objects
   pub uploads : AreEntries (is_id next) IsUpload b.uploads
 
--- a content that an image can have
+-- A content that can have an image.
 pub record IsContent (c : Content) : Type 0 where
   pub minimum : is_minimum c.minimum ≡ true
   pub counter : is_counter c.next ≡ true

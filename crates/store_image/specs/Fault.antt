@@ -1,10 +1,10 @@
--- Faults of an image by their numbers and places, and what a call returned of what reading gives.
+-- The numbers and places of faults, and what a call returned, compared with what reading gives.
 use Rattle.std.specs.Prelude.{ℕ, Bool, true, false, Result}
 use Rattle.basics.specs.Reading as reading
 use Rattle.store_image.specs.declared.fault.ImageFault.{ImageFault}
 use Rattle.store_image.specs.declared.fault.ImageFault.TheVariants.{BadHead, Short, BadOrder, BadName, CounterTooHigh, Trailing, NoMemory}
 
--- a fault's number
+-- The number of a fault.
 abbrev pub number_of : ImageFault → ℕ
 number_of BadHead = 1
 number_of (Short place) = 2
@@ -14,7 +14,7 @@ number_of CounterTooHigh = 5
 number_of (Trailing place) = 6
 number_of NoMemory = 7
 
--- a fault's place, 0 where it has none
+-- The place of a fault, or 0 if it has none.
 abbrev pub place_in : ImageFault → ℕ
 place_in (Short place) = place
 place_in (BadOrder place) = place
@@ -22,15 +22,15 @@ place_in (BadName place) = place
 place_in (Trailing place) = place
 place_in _ = 0
 
--- want of memory
+-- True if the fault is that memory ran out.
 abbrev pub wanting : ImageFault → Bool
 wanting NoMemory = true
 wanting fault = false
 
--- what a call returned, seen by a view, is what reading gives, unless memory ran out
+-- The call's result, seen by `view`, is what reading gives, unless memory ran out.
 abbrev pub GivesBy : {A B : Type 0} → (A → B) → Result A ImageFault → Result B ImageFault → Type 0
 GivesBy view result read = reading.GivesBy wanting view result read
 
--- what a call returned is what reading gives, unless memory ran out
+-- The call's result is what reading gives, unless memory ran out.
 abbrev pub Gives : {A : Type 0} → Result A ImageFault → Result A ImageFault → Type 0
 Gives result read = reading.Gives wanting result read

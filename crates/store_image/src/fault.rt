@@ -6,27 +6,28 @@ use std::alloc::AllocError;
 use std::fmt;
 use thiserror::Error;
 
-/// Why bytes are no image: the first fault from left to right, with its place in bytes from the start.
+/// Why bytes are no image: the first fault from left to right, with its place in bytes from the
+/// start.
 #[derive(Clone, Copy, Debug, PartialEq, Eq, Error)]
 pub enum ImageFault {
-    /// The first 8 bytes are not `S3AIMG01`, or the minimum is not 1 to 5,242,880.
+    /// The first 8 bytes are not `S3AIMG01`, or the least part size is not 1 to 5,242,880.
     BadHead,
-    /// The input ends within the field that begins there.
+    /// The input ends within the field that begins at this place.
     Short(u64),
-    /// The name, key, id or number there is not greater than the one before it in its list, or the
-    /// number of a part is not 1 to 10,000.
+    /// The name, key, id or number at this place is not greater than the one before it in its
+    /// list, or the number of a part is not 1 to 10,000.
     BadOrder(u64),
-    /// The name or key whose length stands there is none.
+    /// The name or key whose length is at this place is not valid.
     BadName(u64),
-    /// The counter is not 1 to 2^62, or an upload's id is not 1 to below the counter.
+    /// The counter is not 1 to 2^62, or an upload's id is 0, or not below the counter.
     CounterTooHigh,
-    /// Bytes follow the last item from there on.
+    /// Bytes follow the last item, from this place on.
     Trailing(u64),
     NoMemory,
 }
 
 impl ImageFault {
-    /// The fault's number, 1 to 6, and 7 for want of memory.
+    /// Returns the fault's number: 1 to 6, or 7 if memory ran out.
     pub fn number(&self) -> u8
         ensures { result ≡ number_of self.now }
     {
@@ -41,7 +42,7 @@ impl ImageFault {
         }
     }
 
-    /// The fault's place in bytes from the start, and 0 where it has none.
+    /// Returns the fault's place in bytes from the start, or 0 if it has none.
     pub fn place(&self) -> u64
         ensures { result ≡ place_in self.now }
     {

@@ -14,14 +14,14 @@ use s3_types::{Bucket, Bytes, Key, LengthHeader, MOST_MINIMUM, MOST_PARTS, NameF
 use std::alloc::Global;
 use std::cmp::Ordering;
 
-/// The place of what is left of a whole of so many bytes.
+/// Returns the place where the rest of a whole begins, which has `whole` bytes.
 pub fn place_of(whole: u64, rest: &[u8]) -> u64
     ensures { result ≡ place whole rest.now }
 {
     whole.saturating_sub(rest.len() as u64)
 }
 
-/// The next `count` bytes, which are one field, and what is left.
+/// Returns the next `count` bytes, which are one field, and the bytes after them.
 #[tactic(auto, unfolding(crate::specs::Reading::bytes_at))]
 fn front<'b>(whole: u64, count: u64, bytes: &'b [u8]) -> Result<(&'b [u8], &'b [u8]), ImageFault>
     ensures { GivesBy (λ x. (x.0.now, x.1.now)) result (bytes_at whole count bytes.now) }
@@ -32,7 +32,8 @@ fn front<'b>(whole: u64, count: u64, bytes: &'b [u8]) -> Result<(&'b [u8], &'b [
     Ok(bytes.split_at(count as usize))
 }
 
-/// The next 2 bytes as a number, and the bytes behind them; else Short at their place.
+/// Returns the next 2 bytes as a number, and the bytes after them. Else fails with Short at their
+/// place.
 #[tactic(auto, unfolding(crate::specs::Reading::bytes_at, crate::specs::Reading::number_at))]
 pub fn u16_of(whole: u64, bytes: &[u8]) -> Result<(u16, &[u8]), ImageFault>
     ensures { GivesBy (λ x. (x.0, x.1.now)) result (number_at w16 whole bytes.now) }
@@ -41,7 +42,8 @@ pub fn u16_of(whole: u64, bytes: &[u8]) -> Result<(u16, &[u8]), ImageFault>
     Ok((u16::from_be_bytes([n[0], n[1]]), rest))
 }
 
-/// The next 8 bytes as a number, and the bytes behind them; else Short at their place.
+/// Returns the next 8 bytes as a number, and the bytes after them. Else fails with Short at their
+/// place.
 #[tactic(auto, unfolding(crate::specs::Reading::bytes_at, crate::specs::Reading::number_at))]
 pub fn u64_of(whole: u64, bytes: &[u8]) -> Result<(u64, &[u8]), ImageFault>
     ensures { GivesBy (λ x. (x.0, x.1.now)) result (number_at w64 whole bytes.now) }
@@ -51,7 +53,7 @@ pub fn u64_of(whole: u64, bytes: &[u8]) -> Result<(u64, &[u8]), ImageFault>
     Ok((number, rest))
 }
 
-/// A name with its length in 2 bytes before it.
+/// Reads a name, after its length in 2 bytes.
 #[tactic(auto, unfolding(crate::specs::Reading::block_at))]
 fn text_of(whole: u64, bytes: &[u8]) -> Result<(&[u8], &[u8]), ImageFault>
     ensures { GivesBy (λ x. (x.0.now, x.1.now)) result (block_at w16 whole bytes.now) }
@@ -60,7 +62,7 @@ fn text_of(whole: u64, bytes: &[u8]) -> Result<(&[u8], &[u8]), ImageFault>
     front(whole, count as u64, rest)
 }
 
-/// Bytes with their length in 8 bytes before them, copied.
+/// Reads bytes, after their length in 8 bytes, and copies them.
 #[tactic(auto, unfolding(crate::specs::Reading::block_at))]
 pub fn block_of<'b>(
     alloc: Global,
@@ -101,7 +103,7 @@ fn number_follows(last: Option<u64>, number: u64) -> bool
     }
 }
 
-/// A key that is greater than the one before it, if there is one.
+/// Reads a key that is greater than the one before it, if there is one.
 #[tactic(auto, unfolding(crate::specs::Reading::name_at))]
 pub fn key_of<'b>(
     alloc: Global,
@@ -124,7 +126,7 @@ pub fn key_of<'b>(
     Ok((key, rest))
 }
 
-/// A bucket's name that is greater than the one before it, if there is one.
+/// Reads a bucket's name that is greater than the one before it, if there is one.
 #[tactic(auto, unfolding(crate::specs::Reading::name_at))]
 pub fn bucket_name_of<'b>(
     alloc: Global,
@@ -147,8 +149,8 @@ pub fn bucket_name_of<'b>(
     Ok((name, rest))
 }
 
-/// An upload's id that is greater than the one before it, if there is one, and below the next
-/// upload's.
+/// Reads an upload's id that is greater than the one before it, if there is one, and below the
+/// counter.
 #[tactic(auto, unfolding(crate::specs::Reading::id_at))]
 pub fn id_of(
     next: u64,
@@ -170,7 +172,7 @@ pub fn id_of(
     Ok((id, rest))
 }
 
-/// A part's number, 1 to 10,000, that is greater than the one before it, if there is one.
+/// Reads a part's number, 1 to 10,000, that is greater than the one before it, if there is one.
 #[tactic(auto, unfolding(crate::specs::Reading::part_number_at))]
 pub fn part_number_of(
     whole: u64,
@@ -190,7 +192,7 @@ pub fn part_number_of(
     Ok((number, rest))
 }
 
-/// The header that a number stands for: 0 for none, and else the length plus 1.
+/// Returns the header of a number: None for 0, else the number minus 1.
 pub fn header_of(number: u64) -> Option<LengthHeader>
     ensures { result ≡ header_in number }
 {
@@ -200,7 +202,8 @@ pub fn header_of(number: u64) -> Option<LengthHeader>
     Some(LengthHeader::new(number - 1))
 }
 
-/// The first 8 bytes, which are always the same, and then the minimum and the counter.
+/// Reads the first 8 bytes, which are always the same, and then the least part size and the
+/// counter.
 #[tactic(auto, unfolding(crate::specs::Reading::head_at))]
 pub fn head_of(whole: u64, bytes: &[u8]) -> Result<((u64, u64), &[u8]), ImageFault>
     ensures exact { GivesBy (λ x. (x.0, x.1.now)) result (head_at whole bytes.now) }

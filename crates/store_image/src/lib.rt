@@ -1,12 +1,14 @@
-//! The image of the modelled S3 service: all that it holds as one list of bytes, and what such a list
-//! holds.
+//! The image of the modelled S3 service: everything that it holds, as one list of bytes; and
+//! reading such a list.
 //!
 //! # What is proved
 //!
-//! `encode`, `decode`: `encode` appends exactly the image of the store, or nothing. `decode` answers a
-//! store exactly where the bytes are the image of one that an image can have, and else the first fault
-//! in reading order with its number and place. No two such contents have one image. Left open: how
-//! large an image gets.
+//! - `encode`: appends exactly the image of the store, or nothing.
+//! - `decode`: returns a store exactly if the bytes are the image of one that can have an image.
+//!   Otherwise it returns the first fault in reading order with its number and place. No two such
+//!   contents have the same image.
+//!
+//! Left open: how large an image gets.
 #![tactic(auto)]
 
 mod fault;

@@ -24,7 +24,7 @@ use s3_service::Service;
 use s3_types::{Bucket, Bytes, Key, Object};
 use std::alloc::Global;
 
-/// An object, without its key.
+/// Reads an object, without its key.
 #[tactic(auto, unfolding(crate::specs::Reading::object_at))]
 fn object_of<'b>(
     alloc: Global,
@@ -39,7 +39,7 @@ fn object_of<'b>(
     Ok((Object { bytes, header }, rest))
 }
 
-/// So many objects, by rising keys.
+/// Reads `count` objects, by rising keys.
 #[tactic(auto, unfolding(crate::specs::Reading::rising_at))]
 fn objects_of<'b>(
     alloc: Global,
@@ -63,7 +63,7 @@ fn objects_of<'b>(
     Ok((objects, rest))
 }
 
-/// Sets a part of a live upload.
+/// Puts a part into a live upload.
 fn put_part(
     uploads: &mut Uploads,
     key: &Key,
@@ -83,7 +83,7 @@ fn put_part(
     }
 }
 
-/// So many parts, by rising numbers, which are put into an upload that has none.
+/// Reads `count` parts, by rising numbers, and puts them into an upload that has none.
 #[tactic(auto, unfolding(crate::specs::Reading::rising_at))]
 fn parts_of<'b>(
     alloc: Global,
@@ -113,7 +113,7 @@ fn parts_of<'b>(
     Ok(rest)
 }
 
-/// An upload, which is added with this id.
+/// Reads an upload, and adds it with this id.
 #[tactic(auto, unfolding(crate::specs::Reading::upload_at, crate::specs::Reading::counted_at))]
 fn upload_of<'b>(
     alloc: Global,
@@ -132,7 +132,7 @@ fn upload_of<'b>(
     parts_of(alloc, whole, uploads, &key, id, count, rest)
 }
 
-/// So many uploads, by rising ids.
+/// Reads `count` uploads, by rising ids.
 #[tactic(auto, unfolding(crate::specs::Reading::rising_at))]
 fn uploads_of<'b>(
     alloc: Global,
@@ -155,7 +155,7 @@ fn uploads_of<'b>(
     Ok((uploads, rest))
 }
 
-/// What a bucket holds, without its name.
+/// Reads the content of a bucket, without its name.
 #[tactic(auto, unfolding(crate::specs::Reading::bucket_at, crate::specs::Reading::counted_at))]
 fn contents_of<'b>(
     alloc: Global,
@@ -174,7 +174,7 @@ fn contents_of<'b>(
     Ok(((objects, uploads), rest))
 }
 
-/// So many buckets, by rising names, which are added to a store that has none.
+/// Reads `count` buckets, by rising names, and adds them to a store that has none.
 #[tactic(auto, unfolding(crate::specs::Reading::rising_at))]
 fn buckets_of<'b>(
     alloc: Global,
@@ -204,7 +204,7 @@ fn buckets_of<'b>(
     Ok(rest)
 }
 
-/// A store, and what is left after it.
+/// Reads a store, and returns the bytes after it.
 #[tactic(auto, unfolding(crate::specs::Reading::store_at, crate::specs::Reading::counted_at))]
 fn store_of(alloc: Global, whole: u64, bytes: &[u8]) -> Result<(Service, &[u8]), ImageFault>
     ensures { GivesBy (λ x. (x.0, x.1.now)) result (store_at whole bytes.now) }
@@ -216,7 +216,7 @@ fn store_of(alloc: Global, whole: u64, bytes: &[u8]) -> Result<(Service, &[u8]),
     Ok((service, rest))
 }
 
-/// The store whose image the bytes are.
+/// Reads the store whose image the bytes are.
 #[tactic(auto, unfolding(crate::specs::Reading::content_in))]
 fn all_of(alloc: Global, whole: u64, bytes: &[u8]) -> Result<Service, ImageFault>
     requires { whole ≡ length bytes.now }
@@ -229,18 +229,18 @@ fn all_of(alloc: Global, whole: u64, bytes: &[u8]) -> Result<Service, ImageFault
     Ok(service)
 }
 
-/// Reads an image, in one pass. Each entry takes O(log n) to find its place, each byte is copied once at
-/// most, and each part is hashed once; no memory is taken on the word of a length or of a count. The fault
-/// is the first from left to right: fields are read in their order, a name is checked before its place in
-/// the order, and an id's place in the order before the counter.
+/// Reads an image in one pass. Each entry takes O(log n) to find its place, each byte is copied at
+/// most once, and each part is hashed once. It reserves no memory just because a length or a count
+/// says so. The fault is the first from left to right. Fields are read in their order. A name is
+/// checked before its place in the order, and an id's place in the order before the counter.
 pub fn decode(alloc: Global, bytes: &[u8]) -> Result<Service, ImageFault>
-    // What is read is a content that an image can have, and the bytes are its image.
+    // The content that is read can have an image, and the bytes are its image.
     ensures found { IfOk result (λ c. IsContent c × (bytes.now ≡ image c)) }
-    // The content whose image the bytes are is read, unless memory runs out.
+    // If the bytes are the image of a content, that content is read, unless memory runs out.
     ensures only { (c : Content) → IsContent c → bytes.now ≡ image c → Gives result (Ok c) }
     // Bytes are the image of at most one content.
     ensures one { (c d : Content) → IsContent c → IsContent d → bytes.now ≡ image c → bytes.now ≡ image d → c ≡ d }
-    // Which fault it is, and its place.
+    // It says which fault it is, and its place.
     ensures exact { Gives result (content_in bytes.now) }
 {
     let whole = bytes.len() as u64;

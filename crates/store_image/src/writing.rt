@@ -128,8 +128,8 @@ fn put_service(out: &mut Vec<u8>, service: &Service) -> Result<(), AllocError>
     put_buckets(out, service)
 }
 
-/// Appends the image of all that the service holds, in time linear in its size. Behind nothing the image is
-/// written once and not copied. After want of memory what it is appended to is as before.
+/// Appends the image of everything that the service holds, in time linear in its size. If `out` is
+/// empty, the image is written once and not copied. If memory runs out, `out` is as before.
 pub fn encode(alloc: Global, service: &Service, out: &mut Vec<u8>) -> Result<(), AllocError>
     ensures ok { OnOk result (out.new.items ≡ out.old.items ++ image service.now) }
     ensures err { OnErr result (out.new.items ≡ out.old.items) }

@@ -26,7 +26,7 @@ next_made : (c : Content) (n : List ℕ) (o : Option BucketContent) → (made c 
 next_made c n None = either (is_bucket n) _ c (c.next + 1) (omega arith) (omega arith)
 next_made c n (Some b) = omega arith
 
--- a request draws one id at most
+-- A request uses at most one id.
 pub next_store : (c : Content) (r : Request) → (apply_store c r).next ≤ c.next + 1
 next_store c (MakeBucket n) = next_made c n (fin.get c.buckets n)
 next_store c (PutObject n k b h) = next_at (fin.get c.buckets n) c (PutObject n k b h)

@@ -1,11 +1,12 @@
-//! The store with the cluster's files beside it, behind one call for every request, and the same where
-//! sendings are lost as it was said beforehand.
+//! The store with the cluster's files beside it, with one call for all requests; and a store that
+//! loses sends as the test says before the run.
 //!
 //! # What is proved
 //!
-//! `MemStore`, `Lossy`: `MemStore` answers every request of store and cluster. `Lossy`'s n-th sending
-//! has the outcome that its fates give for n, and the effect that goes with it; `Fates::add` and `at`
-//! are exact on a finite map from sendings to fates.
+//! - `MemStore`: answers every request to the store and to the cluster.
+//! - `Lossy`: its n-th send (one try of a request) has the outcome that its fates give for n, and
+//!   the effect that goes with that outcome. `Fates::add` and `at` are exact on a finite map from
+//!   sends to fates.
 #![tactic(auto)]
 
 mod lossy;

@@ -10,8 +10,8 @@ use s3_types::{Fate, Fates, ObjectStore, Outcome, Request};
 use std::alloc::AllocError;
 use std::marker::Model;
 
-/// A store whose sendings have the fates that were given beforehand. They are counted from 1; one that
-/// finds no memory is not counted.
+/// A store whose sends have the fates that were given before. Sends are counted from 1. A send
+/// that runs out of memory is not counted.
 #[derive(Drop)]
 pub struct Lossy {
     store: MemStore,
@@ -33,7 +33,7 @@ impl Model for Lossy {
     ghost invariant = { λ s. (s.store.requests ≤ s.requests) × (s.losses ≤ s.requests) };
 }
 
-/// A sending with this fate.
+/// Makes a send with this fate.
 fn sent(store: &mut MemStore, fate: Fate, request: &Request) -> Result<Outcome, AllocError>
     requires { store.old.requests < 2 ^ 62 }
     ensures fate { IfOk result (λ outcome. fate_of outcome ≡ fate) }
@@ -53,7 +53,7 @@ fn sent(store: &mut MemStore, fate: Fate, request: &Request) -> Result<Outcome, 
     }
 }
 
-/// The count of losses after an outcome.
+/// Returns the count of losses after an outcome.
 fn losses_after(losses: u64, outcome: &Outcome) -> u64
     requires { losses < 2 ^ 62 }
     ensures { result ≡ cond (is_unanswered outcome.now) (losses + 1) losses }
@@ -67,7 +67,7 @@ fn losses_after(losses: u64, outcome: &Outcome) -> u64
 }
 
 impl Lossy {
-    /// A store of which no request was made yet, with the fates of the sendings to come. Takes no
+    /// A store to which no request was made yet, with the fates of the sends to come. Takes no
     /// memory.
     pub fn new(store: MemStore, fates: Fates) -> Lossy
         requires { store.requests ≡ 0 }
@@ -81,14 +81,14 @@ impl Lossy {
         }
     }
 
-    /// The fate of the n-th sending. Takes no memory.
+    /// Returns the fate of the n-th send. Takes no memory.
     pub fn fate(&self, n: u64) -> Fate
         ensures { result ≡ fate_at self.now.fates n }
     {
         self.fates.at(n)
     }
 
-    /// The store. Takes no memory.
+    /// Returns the store. Takes no memory.
     pub fn service(&self) -> &Service
         ensures { result.now ≡ self.now.scene.content }
     {

@@ -10,7 +10,7 @@ use s3_types::{ObjectStore, Outcome, Reply, Request};
 use std::alloc::{AllocError, Global};
 use std::marker::Model;
 
-/// A store and the cluster's files beside it, which answers every request.
+/// A store with the cluster's files beside it. It answers every request.
 #[derive(Drop)]
 pub struct MemStore {
     service: Service,
@@ -31,7 +31,7 @@ impl Model for MemStore {
     ghost invariant = { λ s. s.service.next ≤ 2 ^ 62 + s.requests };
 }
 
-/// Does a request to the store or to the cluster, whosever it is.
+/// Does a request to the store or to the cluster.
 fn answered(
     service: &mut Service,
     cluster: &mut Cluster,
@@ -52,7 +52,7 @@ fn answered(
 }
 
 impl MemStore {
-    /// A store with an empty cluster beside it, of which no request was made. Takes no memory.
+    /// A store with an empty cluster, to which no request was made yet. Takes no memory.
     pub fn new(alloc: Global, service: Service) -> MemStore
         requires { service.next ≤ 2 ^ 62 }
         ensures { result ≡ record { scene = opening service; requests = 0 } }
@@ -64,7 +64,7 @@ impl MemStore {
         }
     }
 
-    /// Does a request and counts it. After want of memory all is as before.
+    /// Does a request and counts it. If memory runs out, everything is as before.
     pub fn apply(&mut self, request: &Request) -> Result<Reply, AllocError>
         requires { self.old.requests < 2 ^ 62 }
         ensures reply { IfOk result (λ r. r ≡ answer self.old.scene request.now) }
@@ -79,7 +79,7 @@ impl MemStore {
         Ok(reply)
     }
 
-    /// The store. Takes no memory.
+    /// Returns the store. Takes no memory.
     pub fn service(&self) -> &Service
         ensures { result.now ≡ self.now.scene.content }
     {

@@ -16,13 +16,14 @@ fn show_compared(rt: &impl Print, alloc: Global, service: &Service, bytes: &[u8]
     Ok(())
 }
 
-/// Whether the store's image is the bytes that words spell.
+/// Shows whether the store's image is the bytes that the words spell.
 pub fn show_image(rt: &impl Print, alloc: Global, service: &Service, words: &str) -> Result<()> {
     let bytes = spelled(alloc, words)?;
     show_compared(rt, alloc, service, bytes.as_slice())
 }
 
-/// The fault of the bytes that words spell, or whether the store that they are has them as its image.
+/// Shows the fault of the bytes that the words spell. If they are the image of a store, shows
+/// whether that store's own image is the same bytes.
 pub fn show_decoded(rt: &impl Print, alloc: Global, words: &str) -> Result<()> {
     let bytes = spelled(alloc, words)?;
     match decode(alloc, bytes.as_slice()) {

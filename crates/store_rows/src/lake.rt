@@ -9,7 +9,7 @@ use s3_types::{Bucket, let_go};
 use std::alloc::{AllocError, Global};
 use store_link::MemStore;
 
-/// The length in bytes of a block, and of the least part that is not the last.
+/// The length in bytes of a block, and the least length of each part but the last.
 pub const BLOCK: u64 = 4;
 
 /// Adds an empty bucket to a store that has none.
@@ -21,7 +21,7 @@ fn add_bucket(alloc: Global, service: &mut Service, bucket: &Bucket) -> Result<(
     service.add_bucket(name, Objects::new(alloc), Uploads::new(alloc))
 }
 
-/// A store with one empty bucket, of which no request was made.
+/// A store with one empty bucket, to which no request was sent.
 pub fn new_store(alloc: Global, bucket: &Bucket) -> Result<MemStore, AllocError>
     ensures { IfOk result (λ store. store ≡ record { scene = lake bucket.now; requests = 0 }) }
 {

@@ -2,7 +2,7 @@ use anyhow::Result;
 use s3_types::{Bytes, EntryList, LengthHeader, Outcome, PageEntry, PartSizes, Reply, UploadList};
 use std::io;
 
-/// Bytes as the text that they are, in brackets.
+/// Shows bytes as text, in brackets.
 pub fn show_bytes(rt: &impl Print, bytes: &Bytes) -> Result<()> {
     print!(rt; "[{}]", str::from_utf8(bytes.as_slice())?)?;
     Ok(())
@@ -43,7 +43,7 @@ fn show_word(rt: &impl Print, reply: &Reply) -> io::Result<()> {
     }
 }
 
-/// A reply in a word, or an object with its length header.
+/// Shows a reply in a word, or an object with its length header.
 pub fn show_reply(rt: &impl Print, reply: &Reply) -> Result<()> {
     match reply {
         Reply::Object { bytes, header } => show_object(rt, bytes, *header),
@@ -52,7 +52,7 @@ pub fn show_reply(rt: &impl Print, reply: &Reply) -> Result<()> {
     }
 }
 
-/// What became of a sending, in a word.
+/// Shows the outcome of a send, in a word.
 pub fn show_outcome(rt: &impl Print, outcome: &Outcome) -> Result<()> {
     match outcome {
         Outcome::Answered(reply) => show_reply(rt, reply),
@@ -62,7 +62,7 @@ pub fn show_outcome(rt: &impl Print, outcome: &Outcome) -> Result<()> {
     }
 }
 
-/// The entries of a page, each key with its object's length.
+/// Shows the entries of a page, each key with its object's length.
 pub fn show_entries(rt: &impl Print, entries: &EntryList) -> Result<()> {
     for entry in entries.as_slice() {
         match entry {
@@ -75,7 +75,7 @@ pub fn show_entries(rt: &impl Print, entries: &EntryList) -> Result<()> {
     Ok(())
 }
 
-/// The uploads of a page, each key with its upload's id.
+/// Shows the uploads of a page, each key with its upload's id.
 fn show_uploads(rt: &impl Print, uploads: &UploadList) -> Result<()> {
     for upload in uploads.as_slice() {
         print!(rt; " {} {}", upload.key.as_text().as_str(), upload.upload)?;
@@ -83,7 +83,7 @@ fn show_uploads(rt: &impl Print, uploads: &UploadList) -> Result<()> {
     Ok(())
 }
 
-/// The parts of an upload, each number with its part's length.
+/// Shows the parts of an upload, each number with its part's length.
 fn show_parts(rt: &impl Print, parts: &PartSizes) -> Result<()> {
     for part in parts.as_slice() {
         print!(rt; " {} {}", part.number, part.length)?;
@@ -107,7 +107,7 @@ fn show_list(rt: &impl Print, reply: &Reply) -> Result<()> {
     }
 }
 
-/// A reply, and what it lists, with a `+` where more remain.
+/// Shows a reply and what it lists, and a `+` if more remains.
 pub fn show_answer(rt: &impl Print, reply: &Reply) -> Result<()> {
     print!(rt; ": ")?;
     show_reply(rt, reply)?;

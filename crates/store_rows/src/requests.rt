@@ -5,10 +5,11 @@ use s3_service::Service;
 use s3_types::{Bucket, Bytes, Key, PageLimit, Reply, Request, Text, let_go};
 use std::alloc::{AllocError, Global};
 
-/// What stands before a change's length in a log without a base.
+/// The bytes before a change's length in a log without a base.
 const HEAD: [u8; 17] = *b"S3ALOG01\0\0\0\0\0\0\0\0\x01";
 
-/// Does a request of the store's.
+/// Applies a request to the store. Fails for a request to the cluster, or if the store's counter of
+/// uploads is over 2^62.
 fn send(service: &mut Service, request: &Request) -> Result<Reply, AllocError> {
     if request.is_cluster() || service.next_upload() > 1 << 62 {
         return Err(AllocError);
@@ -16,7 +17,7 @@ fn send(service: &mut Service, request: &Request) -> Result<Reply, AllocError> {
     service.apply(request)
 }
 
-/// Does a request that was made.
+/// Applies a request that was made, or passes on the fault.
 fn reply_to(service: &mut Service, made: Result<Request, AllocError>) -> Result<Reply> {
     match made {
         Ok(request) => {
@@ -28,7 +29,7 @@ fn reply_to(service: &mut Service, made: Result<Request, AllocError>) -> Result<
     }
 }
 
-/// A log of one change, by the change's bytes.
+/// A log of one change, from the change's bytes.
 fn log_of(alloc: Global, change: &[u8]) -> Result<Bytes, AllocError> {
     let mut log = Vec::from_slice(alloc, &HEAD)?;
     log.extend_from_slice(&(change.len() as u64).to_be_bytes())?;
@@ -44,7 +45,7 @@ fn first_reply(service: &mut Service, changes: &[Request]) -> Result<Reply> {
     }
 }
 
-/// Does the change that a log has.
+/// Applies the change that a log has.
 fn change_by(alloc: Global, service: &mut Service, log: &Bytes) -> Result<Reply> {
     match read_log(alloc, log) {
         Ok(held) => {
@@ -57,7 +58,7 @@ fn change_by(alloc: Global, service: &mut Service, log: &Bytes) -> Result<Reply>
     }
 }
 
-/// A change as the bytes of a log's record.
+/// Applies a change given as the bytes of a log's record.
 fn change(alloc: Global, service: &mut Service, words: &str) -> Result<Reply> {
     let bytes = spelled(alloc, words)?;
     let log = log_of(alloc, &bytes)?;
@@ -114,7 +115,8 @@ fn look(
     reply_to(service, made)
 }
 
-/// The reply to the request that words spell, which is about the bucket `lake` where it changes nothing.
+/// The reply to the request that the words spell. A request that changes nothing is about the
+/// bucket `lake`.
 pub fn answer(alloc: Global, service: &mut Service, words: &str) -> Result<Reply> {
     let (verb, rest) = cut(words);
     let bucket = Bucket::read(alloc, b"lake")?;

@@ -12,7 +12,7 @@ use s3_service::Service;
 use s3_types::{let_go, put};
 use std::alloc::Global;
 
-/// The store that the rows are about, and what it was when it was kept.
+/// The store that the rows are about, and its copy at the last `keep`.
 #[derive(Drop)]
 pub struct Stores {
     now: Service,
@@ -20,7 +20,7 @@ pub struct Stores {
 }
 
 impl Stores {
-    /// Two stores with no bucket, whose parts have 4 bytes at least.
+    /// Two stores with no bucket. Each part but the last has at least 4 bytes.
     pub fn new(alloc: Global) -> Stores {
         Stores {
             now: Service::new(alloc, 4),
@@ -28,7 +28,7 @@ impl Stores {
         }
     }
 
-    /// A store with no bucket.
+    /// Begins a new store with no bucket.
     fn begin(&mut self, alloc: Global, word: &str) -> Result<()> {
         let minimum = word.parse::<u64>().context("the least part")?;
         if minimum < 1 || minimum > 5_242_880 {
@@ -51,7 +51,7 @@ impl Stores {
     }
 }
 
-/// What the store answers to the request that words spell.
+/// Shows the store's reply to the request that the words spell.
 fn ask(rt: &impl Print, alloc: Global, service: &mut Service, words: &str) -> Result<()> {
     let reply = answer(alloc, service, words)?;
     let shown = show_answer(rt, &reply);
@@ -59,7 +59,7 @@ fn ask(rt: &impl Print, alloc: Global, service: &mut Service, words: &str) -> Re
     shown
 }
 
-/// The objects one after another, each found by the key before it.
+/// Shows the objects one after another, each found by the key before it.
 pub fn show_steps(rt: &impl Print, objects: &Objects) -> Result<()> {
     let mut last = None;
     for _ in 0..=objects.count() {
@@ -99,7 +99,7 @@ fn answer_row(rt: &impl Print, alloc: Global, stores: &mut Stores, words: &str) 
     }
 }
 
-/// A line `LABEL: WORDS`.
+/// Answers a line `LABEL: WORDS`.
 fn row(rt: &impl Print, alloc: Global, stores: &mut Stores, line: &str) -> Result<()> {
     let (label, words) = line.split_once(": ").context("a label and words")?;
     print!(rt; "{label}")?;
@@ -108,7 +108,7 @@ fn row(rt: &impl Print, alloc: Global, stores: &mut Stores, line: &str) -> Resul
     Ok(())
 }
 
-/// The rows of standard input.
+/// Answers the rows of standard input.
 pub fn show_rows<R: Input + Print>(rt: &R, alloc: Global, stores: &mut Stores) -> Result<()> {
     for line in rt.lines(alloc) {
         row(rt, alloc, stores, line?.as_str())?;

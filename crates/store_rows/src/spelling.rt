@@ -1,7 +1,7 @@
 use anyhow::{Context, Result};
 use std::alloc::Global;
 
-/// The first word of a text, and what follows the blank behind it.
+/// The first word of a text, and the text after the blank that follows it.
 pub fn cut(text: &str) -> (&str, &str) {
     match text.split_once(' ') {
         Some((word, rest)) => (word, rest),
@@ -14,7 +14,8 @@ pub fn plain(word: &str) -> &str {
     if word == "-" { "" } else { word }
 }
 
-/// Writes the bytes of a word: those behind a `'`, or a number in so many bytes, the greatest first.
+/// Writes the bytes that a word spells: the letters after a `'`, or a number in so many bytes,
+/// big-endian.
 fn put_word(bytes: &mut Vec<u8>, word: &str) -> Result<()> {
     if let Some(text) = word.strip_prefix("'") {
         bytes.extend_from_slice(text.as_bytes())?;

@@ -12,10 +12,10 @@ use s3_types::{Actor, Bucket, Journal, Key, let_go};
 use std::alloc::Global;
 use store_link::MemStore;
 
-/// How often a request may be sent again.
+/// The most retries of a request.
 const RETRIES: u32 = 3;
 
-/// A stream of which nothing was written yet.
+/// A stream to which nothing was written yet.
 fn begun(alloc: Global, mode: StreamMode, bucket: Bucket, key: Key) -> BlockStream
     ensures { (result.closed ≡ false) × IsReady result (lake bucket) false }
 {
@@ -45,7 +45,7 @@ fn fill(stream: &mut BlockStream, pieces: &str) -> Result<(), StreamFault>
     Ok(())
 }
 
-/// Drives a stream, and shows how it ended and what the store then holds.
+/// Drives a stream, and shows how it ended and what the store then has.
 fn drive(
     rt: &impl Print,
     alloc: Global,

@@ -50,7 +50,8 @@ fn show_store(rt: &impl Print, service: &Service) -> Result<()> {
     Ok(())
 }
 
-/// What became of driving, how many requests were sent, how the stream ended, and what the store holds.
+/// Shows how the drive ended, how many requests were sent, how the stream ended, and what the store
+/// has.
 pub fn show_driven(
     rt: &impl Print,
     driven: Result<(), DriveStop>,

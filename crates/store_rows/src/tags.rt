@@ -2,7 +2,7 @@ use anyhow::{Result, bail};
 use s3_types::{Tag, joined_tag, part_tag};
 use std::alloc::Global;
 
-/// The tag of an upload whose parts are the words.
+/// Shows the tag of an upload whose parts are the words.
 pub fn show_joined(rt: &impl Print, alloc: Global, words: &str) -> Result<()> {
     let mut tags: Vec<Tag> = Vec::new(alloc);
     for word in words.split_whitespace() {

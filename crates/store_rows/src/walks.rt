@@ -15,13 +15,13 @@ use s3_types::{Actor, Fate, FateFault, Fates, Journal, let_go};
 use std::alloc::{AllocError, Global};
 use store_link::{Lossy, MemStore};
 
-/// How many keys there are.
+/// The number of keys.
 const KEYS: u32 = 1_001;
 
-/// How often a request may be sent again.
+/// The most retries of a request.
 const RETRIES: u32 = 3;
 
-/// Puts the keys, the last of them first.
+/// Puts the keys into the store, the last of them first.
 pub fn put_keys(alloc: Global, service: &mut Service) -> Result<()> {
     for number in (0..KEYS).rev() {
         let words = format!(in alloc; "do 1:2 8:4 'lake 8:5 'k{number:04} 8:0 8:3 'abc")?;
@@ -40,7 +40,7 @@ fn fate_named(name: &str) -> Fate
     }
 }
 
-/// So many sendings in a row with a fate.
+/// The fates of `count` sends in a row, from the one numbered `first` on.
 fn fates_of(alloc: Global, fate: Fate, first: u64, count: u32) -> Result<Fates, FateFault>
     requires first { 1 ≤ first }
     requires early { first ≤ 1000 }
@@ -68,7 +68,7 @@ fn fates_in(alloc: Global, words: &str) -> Result<Fates> {
     }
 }
 
-/// A copy of the store whose sendings have these fates.
+/// A copy of the store for which sends have these fates.
 fn losing(alloc: Global, service: &Service, fates: Fates) -> Result<Lossy, AllocError>
     ensures { IfOk result (λ store. store.requests ≡ 0) }
 {
@@ -78,10 +78,10 @@ fn losing(alloc: Global, service: &Service, fates: Fates) -> Result<Lossy, Alloc
     Ok(Lossy::new(MemStore::new(alloc, service.copy()?), fates))
 }
 
-/// What a listing of the bucket's root answers.
+/// The result of a listing of the bucket's root.
 type Listed = Result<Result<DirList, FsRefusal>, DriveStop>;
 
-/// What the driver finds at the root of the bucket `lake`.
+/// Lists the root of the bucket `lake`.
 fn listed(alloc: Global, store: &mut Lossy, journal: &mut Journal) -> Result<Listed>
     requires { store.old.requests ≡ 0 }
 {
@@ -100,7 +100,7 @@ fn listed(alloc: Global, store: &mut Lossy, journal: &mut Journal) -> Result<Lis
     ))
 }
 
-/// How many of the files stand at the place of their number.
+/// The number of files that are at the place of their number.
 fn in_order(alloc: Global, entries: &[DirEntry]) -> Result<u32> {
     let mut count = 0u32;
     for (entry, number) in entries.iter().zip(0..KEYS) {
@@ -144,8 +144,8 @@ fn walk(rt: &impl Print, alloc: Global, store: &mut Lossy) -> Result<()>
     shown
 }
 
-/// `keys FATE FIRST COUNT`: lists the bucket's root in a copy of the store, and shows each sending, and how many of
-/// the files stand at their places.
+/// `keys FATE FIRST COUNT`: lists the bucket's root in a copy of the store. Shows the outcome of
+/// each send, and how many of the files are at their places.
 pub fn show_walk(rt: &impl Print, alloc: Global, service: &Service, words: &str) -> Result<()> {
     print!(rt; ":")?;
     let fates = fates_in(alloc, words)?;

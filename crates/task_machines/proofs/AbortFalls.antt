@@ -1,4 +1,4 @@
--- What an abort has left falls.
+-- The bound on the requests that a task abort has left falls.
 use Rattle.job_model.specs.Attempts.{Who}
 use Rattle.job_model.specs.JobScript.{Script}
 use Rattle.job_model.specs.Known.{Drawn}
@@ -46,7 +46,7 @@ after_rises : (c : Committer) (w : Script) (a : Who) (s : Scene) (r : Request) �
 after_rises Magic w a s r = own_rises w a sweep_start s r
 after_rises _ w a s r = omega arith
 
--- ---- it falls
+-- ---- the bound falls
 
 removing_left : (w : Script) (a : Who) (sent : Bool) (s : Scene) → abort_left_at w a (removing sent) s ≤ 1
 removing_left w a true s = omega arith

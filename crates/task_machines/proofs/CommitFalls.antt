@@ -1,4 +1,4 @@
--- What a commit has left falls.
+-- The bound on the requests that a task commit has left falls.
 use Rattle.basics.specs.Members.{IsIn, RisesFrom}
 use Rattle.basics.specs.Order.{text_eq}
 use Rattle.job_model.specs.Attempts.{Who}
@@ -41,7 +41,7 @@ use Rattle.task_requests.specs.Writing.{FitsCreate, FitsPart, FitsUpload}
 use Rattle.std.specs.FinMap as fin
 use Rattle.job_protocol.specs.TaskCommits as commits
 
--- ---- keys that rise pick each file once
+-- ---- each file is chosen once by rising keys
 
 count : List ℕ → List (List ℕ) → ℕ
 count x [] = 0
@@ -102,7 +102,7 @@ few_picked : (g : File → List ℕ) (l : List ℕ) (ks : List (List ℕ)) (fs :
 few_picked g l ks [] h = omega (arith, nothing_picked ks g)
 few_picked g l ks (f ∷ fs) h = omega (arith, picked_with g f fs ks, count_most (g f) l ks h, few_picked g l ks fs h)
 
--- ---- it falls
+-- ---- the bound falls
 
 reading_left : (w : Script) (minimum : ℕ) (a : Who) (cs fs : List File) (s : Scene)
     → commit_left_at w minimum a (reading cs fs) s ≤ 1 + length fs
@@ -114,7 +114,7 @@ at_left : (w : Script) (minimum : ℕ) (a : Who) (o : Option (List ℕ)) (cs : L
 at_left w minimum a (Some k) cs s = omega arith
 at_left w minimum a None cs s = reading_left w minimum a cs cs s
 
--- what was listed rises, once all is
+-- A complete listing is in rising order.
 WholeRises : Walked (List ℕ) → Type 0
 WholeRises (More keys) = Unit {0}
 WholeRises (Whole keys) = RisesFrom [] keys
@@ -173,7 +173,7 @@ page_falls : (w : Script) (minimum : ℕ) (a : Who) (d : List ℕ) (ds : List (L
 page_falls w minimum a d ds [] more s z = let k = checking_left w minimum a ds z in omega (arith, k)
 page_falls w minimum a d ds (x ∷ xs) more s z = omega arith
 
--- the look for a key below a partition
+-- The request for one key below a partition.
 abbrev one_key : Script → List ℕ → Request
 one_key w d = ListPage w.dest.bucket (partition_prefix w d) false [] 1
 

@@ -1,4 +1,4 @@
--- What is left of a write.
+-- The bound on the requests that a write has left falls.
 use Rattle.job_model.specs.Files.{File}
 use Rattle.job_model.specs.JobScript.{Script}
 use Rattle.job_model.specs.Jobs.{Task}

@@ -1,4 +1,4 @@
--- How an abort of a task stands.
+-- The state of a task abort.
 use Rattle.job_model.specs.JobScript.{Script}
 use Rattle.job_model.specs.Jobs.{Task}
 use Rattle.job_model.specs.Known.{Drawn}
@@ -41,7 +41,7 @@ goes_on w (Dropping d ds sent) a = fine_dropping w.committer sent ds
 goes_on w (Sweeping s) a = fine_sweeping (sweep_hears all_go s a)
 goes_on w _ a = refl
 
--- it asks a request until it is over
+-- A task abort has a request to send until it is over.
 asks_until : (t : Task) (o : TaskAbort) → is_some (task_abort_wants (record { plan = t; operation = o })) ≡ is_none (task_abort_over o)
 asks_until t (TaskAbortOver end) = refl
 asks_until t _ = refl

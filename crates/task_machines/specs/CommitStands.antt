@@ -1,4 +1,4 @@
--- How a commit of a task stands.
+-- The state of a task commit.
 use Rattle.job_model.specs.Attempts.{Who}
 use Rattle.job_model.specs.Files.{File}
 use Rattle.job_model.specs.JobScript.{Script}
@@ -91,7 +91,7 @@ goes_on w minimum a k (commits.Uploads f fs u) r b h = fine_uploaded w minimum f
 goes_on w minimum a k Renaming r b h = fine_renamed w a r b
 goes_on w minimum a k _ r b h = refl
 
--- it asks a request until it is over
+-- A task commit has a request to send until it is over.
 asks_until : (t : Task) (o : TaskCommit) → is_some (task_commit_wants (record { plan = t; operation = o })) ≡ is_none (task_commit_over o)
 asks_until t (commits.TaskCommitOver end) = refl
 asks_until t _ = refl

@@ -1,4 +1,4 @@
--- The replies that fit a commit of a task, and what it has left, for every committer.
+-- The replies that fit a task commit, and how many requests it has left, for every committer.
 use Rattle.basics.specs.Members.{RisesFrom}
 use Rattle.job_model.specs.Attempts.{Who}
 use Rattle.job_model.specs.Files.{File}
@@ -19,14 +19,14 @@ use Rattle.task_requests.specs.Publishing.{FitsRecord}
 use Rattle.task_requests.specs.Writing.{FitsUpload}
 use Rattle.job_protocol.specs.TaskCommits as commits
 
--- ---- what fits
+-- ---- which replies fit
 
--- a page of keys alone, which rise behind those so far; and the bucket is there
+-- A page lists keys only, they follow the keys so far in rising order, and the bucket exists.
 abbrev pub FitsListing : List (List ℕ) → Reply → Type 0
 FitsListing keys (Page entries more) = FitsPage (Page entries more) × RisesFrom [] (keys ++ keys_on entries)
 FitsListing keys r = FitsPage r
 
--- whatever is stored in the cluster is stored, or is not there
+-- The reply fits the current request of the commit. Any reply fits the put of the set and the requests to the cluster.
 abbrev pub FitsCommit : Script → Who → Known → TaskCommit → Reply → Type 0
 FitsCommit w a k (Looking keys) r = FitsListing keys r
 FitsCommit w a k (Reading cs f fs) r = FitsRecord w a k f r
@@ -34,23 +34,24 @@ FitsCommit w a k (Checking d ds) r = FitsPage r
 FitsCommit w a k (commits.Uploads f fs u) r = FitsUpload k.drawn u r
 FitsCommit w a k _ r = Unit {0}
 
--- a reply that a task's commit may be told
+-- A reply that a task commit may receive.
 abbrev pub commit_fits : Attempting TaskCommit → Reply → Bool → Type 0
 commit_fits m r repeated = FitsCommit (task_script m.plan) (who_of m.plan) m.plan.known m.operation r
 
--- ---- what is left
+-- ---- how many requests are left
 
--- the requests of an upload: it is begun, and its parts are sent
+-- How many requests an upload still needs: its creation and its parts.
 abbrev pub upload_left : Script → ℕ → File → Uploading → ℕ
 upload_left w minimum f Creating = 1 + length (file_parts w minimum f)
 upload_left w minimum f (Sending p ps) = 1 + length ps
 
--- the requests that the uploads of these files have yet to send
+-- How many requests the uploads of these files still need.
 abbrev pub uploads_left : Script → ℕ → List File → ℕ
 uploads_left w minimum [] = 0
 uploads_left w minimum (f ∷ fs) = upload_left w minimum f Creating + uploads_left w minimum fs
 
--- magic: the pages, a record of each file, and the set; staging: the partitions, the uploads, the put of the set and its rename
+-- How many requests a task commit still has to send. Magic: the pages, a record for each file, and the set. Staging: the partitions, the
+-- uploads, the put of the set and its rename.
 abbrev pub commit_left_at : Script → ℕ → Who → TaskCommit → Scene → ℕ
 commit_left_at w minimum a (Looking keys) s = walk_left w.dest.bucket (attempt_prefix w a) keys s + (1 + length (files w a))
 commit_left_at w minimum a (Reading cs f fs) s = 2 + length fs
@@ -60,6 +61,6 @@ commit_left_at w minimum a Storing s = 2
 commit_left_at w minimum a (TaskCommitOver end) s = 0
 commit_left_at w minimum a _ s = 1
 
--- the requests that a task's commit of a plan has yet to send
+-- How many requests a plan's task commit still has to send.
 abbrev pub commit_left : Attempting TaskCommit → Scene → ℕ
 commit_left m s = commit_left_at (task_script m.plan) m.plan.minimum (who_of m.plan) m.operation s

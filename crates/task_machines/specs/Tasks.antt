@@ -1,4 +1,4 @@
--- What holds of an attempt's operations, for every committer.
+-- The laws of an attempt's operations, for every committer.
 use Rattle.job_model.specs.Attempts.{Who}
 use Rattle.job_model.specs.JobScript.{Script}
 use Rattle.job_model.specs.Jobs.{Task}
@@ -24,18 +24,18 @@ use Rattle.task_machines.specs.Writes.{write_asks, write_standing}
 use Rattle.task_requests.specs.Writing.{write_fits}
 use Rattle.job_model.specs.declared.ends.TaskEnd.TheVariants as ends
 
--- an operation beside the plan
+-- An operation together with its plan.
 abbrev pub at : {O : Type 0} → Task → O → Attempting O
 at t o = record { plan = t; operation = o }
 
--- what each operation of an attempt owes, whatever its committer
+-- The laws that each operation of an attempt satisfies, whatever its committer.
 pub record TaskLaws {O : Type 0} (wants : Attempting O → Option Request) (after : Attempting O → Item → Attempting O)
     (fits : Attempting O → Reply → Bool → Type 0) (over : O → Option TaskEnd) (standing : Attempting O → Standing)
     (ended : TaskEnd → O) : Type 0 where
   pub asks : AskLaws wants after fits (λ m. over m.operation) standing
-  -- want of memory ends it, and teaches nothing
+  -- Out of memory, the operation ends and the plan stays the same.
   pub broken : (m : Attempting O) → after m OutOfMemory ≡ at m.plan (ended ends.NoMemory)
-  -- once a request wore out it asks nothing more
+  -- After a request exhausted its retries, the operation sends nothing more.
   pub worn : (m : Attempting O) → wants (after m WornOut) ≡ None
 
 no_memory : (w : Script) (a : Who) (k : Known) (asked : Option Request) → learned w a k asked OutOfMemory ≡ k

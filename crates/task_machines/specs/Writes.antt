@@ -1,4 +1,4 @@
--- How a write stands, and its laws as a machine.
+-- The state of a write, and its laws as a machine.
 use Rattle.job_model.specs.Files.{File}
 use Rattle.job_model.specs.JobScript.{Script}
 use Rattle.job_model.specs.Jobs.{Task}
@@ -18,14 +18,14 @@ use Rattle.task_machines.specs.Standing.{standing_of}
 use Rattle.task_requests.specs.Writing.{FitsCreate, FitsPart, FitsWrite, write_fits}
 use Rattle.job_protocol.specs.Writes as writes
 
--- ---- how it stands
+-- ---- the state
 
--- how a write stands by its end
+-- Whether a write failed, by its end.
 abbrev pub standing_at : Write → Standing
 standing_at (writes.WriteOver end) = standing_of end
 standing_at _ = Fine
 
--- how a write of a plan stands by its end
+-- Whether a plan's write failed, by its end.
 abbrev pub write_standing : Attempting Write → Standing
 write_standing m = standing_at m.operation
 
@@ -55,8 +55,7 @@ fine_at t (writes.Uploads f fs (Sending p ps)) r a w h = part_fine (task_script 
 fine_at t (writes.Recording f fs) r a w h = written_fine fs
 fine_at t _ r a w h = refl
 
--- of an operation that an actor holds
--- it asks a request until it is over
+-- A write has a request to send until it is over.
 asks_until : (t : Task) (o : Write) → is_some (write_wants (record { plan = t; operation = o })) ≡ is_none (write_over o)
 asks_until t (writes.WriteOver end) = refl
 asks_until t _ = refl

@@ -8,7 +8,7 @@ use s3_types::{Reply, let_go};
 use std::alloc::{AllocError, Global};
 use std::marker::{Model, PhantomData};
 
-/// An attempt's operation beside the attempt's plan.
+/// An attempt's operation together with the attempt's plan.
 #[derive(Drop)]
 pub struct AtWork<O: TaskOperation, H: Holds<O>> {
     plan: TaskPlan,

@@ -7,7 +7,7 @@ use machine::Asked;
 use s3_types::{Committer, Reply};
 use std::alloc::{AllocError, Global};
 
-/// An operation by the committer that the job of the plan has.
+/// An operation for the committer that the plan's job has.
 #[derive(Drop)]
 pub enum ByCommitter<M, S> {
     Magic(M),

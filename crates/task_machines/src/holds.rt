@@ -10,30 +10,30 @@ use machine::Asked;
 use s3_types::Reply;
 use std::alloc::{AllocError, Global};
 
-/// What a committer holds of an attempt's operation beside the attempt's plan, which is lent to each call.
+/// What a committer keeps of an attempt's operation besides the plan. Each call borrows the plan.
 pub trait Holds<O: TaskOperation>: Drop {
-    /// It may be begun by such a plan.
+    /// An operation may begin with this plan.
     ghost goes_by: { Task → Type 0 };
 
-    /// What is kept of it beside the plan.
+    /// Holds for what is kept beside this plan.
     ghost keeps: { Task → Self → Type 0 };
 
-    /// The operation.
+    /// The operation that the kept values represent.
     ghost operation: { Task → Self → O };
 
-    /// The operation of a plan, of which nothing was sent yet.
+    /// Begins the plan's operation, which has sent nothing yet.
     fn begin(alloc: Global, plan: &TaskPlan) -> Result<Self, AllocError>
         requires { goes_by plan.now }
         ensures start { IfOk result (λ held. operation plan.now held ≡ O.start plan.now) }
         ensures keeps { IfOk result (λ held. keeps plan.now held) };
 
-    /// The request that it asks, or None where it asks nothing more.
+    /// Returns the request to send now, or None if the operation sends no more.
     fn ask(&self, alloc: Global, plan: &TaskPlan) -> Asked
         requires { keeps plan.now self.now }
         ensures { IfOk result (λ request. request ≡ O.wants (at plan.now (operation plan.now self.now))) };
 
-    /// Takes the reply to its request, and gives the next one. After want of memory the plan is as before, and the
-    /// operation is to be ended.
+    /// Takes the reply to the current request and returns the next request. If memory runs out, the
+    /// plan is unchanged, and the caller must end the operation.
     fn hear(&mut self, alloc: Global, plan: &mut TaskPlan, reply: &Reply, repeated: bool) -> Asked
         requires keeps { keeps plan.old self.old }
         requires asked { IsSome (O.wants (at plan.old (operation plan.old self.old))) }
@@ -44,7 +44,7 @@ pub trait Holds<O: TaskOperation>: Drop {
         ensures next { IfOk result (λ request. request ≡ O.wants (at plan.new (operation plan.new self.new))) }
         ensures err { OnErr result (plan.new ≡ plan.old) };
 
-    /// Takes it that its request wore out. Takes no memory.
+    /// Notes that the current request exhausted its retries. Takes no memory.
     fn wear(&mut self, plan: &mut TaskPlan)
         requires keeps { keeps plan.old self.old }
         requires asked { IsSome (O.wants (at plan.old (operation plan.old self.old))) }
@@ -52,12 +52,13 @@ pub trait Holds<O: TaskOperation>: Drop {
         ensures told { at plan.new (operation plan.new self.new) ≡ O.after (at plan.old (operation plan.old self.old))
             WornOut };
 
-    /// Ends it. Takes no memory.
+    /// Ends the operation with `end`. Takes no memory.
     fn finish(&mut self, end: TaskEnd)
         ensures keeps { (t : Task) → keeps t self.old → keeps t self.new }
         ensures over { (t : Task) → operation t self.new ≡ O.ended end };
 
-    /// How it ended, or None while it asks a request. Takes no memory.
+    /// Returns how the operation ended, or None while it still has a request to send. Takes no
+    /// memory.
     fn end(&self, plan: &TaskPlan) -> Option<&TaskEnd>
         requires { keeps plan.now self.now }
         ensures { option_copied result ≡ O.over (operation plan.now self.now) };

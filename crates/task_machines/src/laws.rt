@@ -4,20 +4,20 @@ ghost use Rattle.task_machines.specs.Commits.{commit_fits, commit_left};
 ghost use Rattle.task_machines.specs.Aborts.{abort_fits, abort_left};
 ghost use Rattle.task_requests.specs.Writing.{write_fits, write_left};
 
-/// What is left of a write of files falls with each answer that fits and with a worn request, and no request of
-/// another actor raises it.
+/// The bound on the requests that a write of files has left falls with each reply that fits and
+/// with each request that exhausts its retries. Another actor's request never raises it.
 pub fn writes_end()
     ensures falls { FallsAmong write_wants write_told write_fits write_left 0 }
 {}
 
-/// What is left of an abort falls with each answer that fits and with a worn request, and a request of another
-/// actor raises it by at most 1.
+/// The bound on the requests that a task abort has left falls with each reply that fits and with
+/// each request that exhausts its retries. Another actor's request raises it by at most 1.
 pub fn aborts_end()
     ensures falls { FallsAmong task_abort_wants task_abort_told abort_fits abort_left 1 }
 {}
 
-/// What is left of a commit falls with each answer that fits and with a worn request, and a request of another
-/// actor raises it by at most 1.
+/// The bound on the requests that a task commit has left falls with each reply that fits and with
+/// each request that exhausts its retries. Another actor's request raises it by at most 1.
 pub fn commits_end()
     ensures falls { FallsAmong task_commit_wants task_commit_told commit_fits commit_left 1 }
 {}

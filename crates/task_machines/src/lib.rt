@@ -1,14 +1,15 @@
-//! The operations of an attempt as machines, of whichever committer its job has: what holds of each operation is said
-//! once here, and a committer gives what it keeps of one beside the attempt's plan.
+//! Runs the operations of a task attempt as machines, whichever committer the job has. The laws of
+//! each operation are written once here; a committer adds what it keeps besides the attempt's plan.
 //!
 //! # What is proved
 //!
-//! Of an attempt's operations, for every committer: which replies fit, and that what is left of each falls with a reply
-//! that fits and with a worn request, and rises by at most 1 by a request of another actor (`writes_end`, `commits_end`,
-//! `aborts_end`).
-//! `TaskMachine`, `ByCommitter`: An attempt's operation is a machine that asks, goes on and ends as the definitions for
-//! every committer say, where what its committer holds of it beside the plan does (`Holds`). What either of two
-//! committers holds, by the plan's job, does so too.
+//! - `writes_end`, `commits_end` and `aborts_end` hold for every committer. They name the replies
+//!   that fit an operation, and a bound on the requests that it has left. The bound falls with each
+//!   reply that fits and with each request that exhausts its retries. A request of another actor
+//!   raises it by at most 1.
+//! - `TaskMachine` asks, goes on and ends as the definitions of the operation say, if what its
+//!   committer keeps does so (`Holds`).
+//! - `ByCommitter` keeps this too: it uses one of two committers, by the plan's job.
 #![tactic(auto)]
 
 mod at_work;

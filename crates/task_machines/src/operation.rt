@@ -20,38 +20,39 @@ ghost use Rattle.task_machines.specs.Tasks.{TaskLaws, write_is, commit_is, abort
 
 use std::marker::Model;
 
-/// An operation of an attempt, the same for every committer. It is a name for types alone: nothing of it is made.
+/// An operation of a task attempt, for every committer. It names types only and has no values.
 pub trait TaskOperation {
-    /// As a plan begins it.
+    /// The operation with which a plan begins.
     ghost start: { Task → Self };
 
-    /// How it ended, if it did.
+    /// How the operation ended, if it did.
     ghost over: { Self → Option TaskEnd };
 
-    /// It ended so.
+    /// The operation that ended so.
     ghost ended: { TaskEnd → Self };
 
-    /// The request that it asks, if it does.
+    /// The request that the operation sends now, if any.
     ghost wants: { Attempting Self → Option Request };
 
-    /// Where an item leads.
+    /// The operation after this reply or fault.
     ghost after: { Attempting Self → Item → Attempting Self };
 
-    /// Its request may be answered so, where an earlier sending of it was lost or not.
+    /// This reply fits the current request. The flag says whether an earlier send of it was lost.
     ghost fits: { Attempting Self → Reply → Bool → Type 0 };
 
-    /// At most so many answers and worn requests are to come where nobody else sends.
+    /// A bound on the replies and exhausted requests that are still to come while nobody else
+    /// sends.
     ghost left: { Attempting Self → Scene → ℕ };
 
-    /// Whether a request of it wore out, or memory was wanting.
+    /// Whether a request of the operation exhausted its retries, or memory ran out.
     ghost standing: { Attempting Self → Standing };
 
-    /// What holds of these.
+    /// The laws of the operation.
     ghost laws: { TaskLaws wants after fits over standing ended };
 }
 
-/// An attempt's write of its files: a magic one uploads them, a staging one keeps them. (Hadoop, S3A committer
-/// architecture.)
+/// An attempt's write of its files: a magic attempt uploads them, a staging attempt stores them in
+/// the cluster. (Hadoop, S3A committer architecture.)
 pub struct TheWrite {}
 
 impl Model for TheWrite {
@@ -83,8 +84,8 @@ impl TaskOperation for TheWrite {
     ghost laws = { write_is };
 }
 
-/// An attempt's commit of its task, which publishes the set of its uploads. (Hadoop, S3A committer architecture: task
-/// commit.)
+/// An attempt's commit of its task, which publishes the set of its uploads. (Hadoop, S3A committer
+/// architecture: task commit.)
 pub struct TheCommit {}
 
 impl Model for TheCommit {
@@ -116,8 +117,8 @@ impl TaskOperation for TheCommit {
     ghost laws = { commit_is };
 }
 
-/// An attempt's abort of its task, which takes back what it did, where it has not published. (Hadoop, S3A committer
-/// architecture: task abort.)
+/// An attempt's abort of its task, which undoes its work unless it has published. (Hadoop, S3A
+/// committer architecture: task abort.)
 pub struct TheAbort {}
 
 impl Model for TheAbort {

@@ -1,4 +1,4 @@
--- Where replies lead a commit, by the places of the files that it commits.
+-- A commit after a reply, by the places of the files that it commits.
 use Rattle.basics.proofs.Naturals.{at_most_is, at_most_not, below_is}
 use Rattle.job_model.specs.Attempts.{Who}
 use Rattle.job_model.specs.Files.{File}
@@ -61,7 +61,7 @@ within_at count (q ∷ places) zero p k h = let same : p ≡ q = cc in below_is 
     (ap (λ i. nat_lt i count) same ∙ (and_parts (nat_lt q count) (are_places count places) k).0)
 within_at count (q ∷ places) (suc at) p k h = within_at count places at p (and_parts (nat_lt q count) (are_places count places) k).1 h
 
--- ---- what it asks
+-- ---- the next request
 
 asks_key : (t : Task) (cs fs : List File) (at : ℕ) (key : List ℕ) → Some key ≡ slice_get (map (record_of t) fs) at
     → Some (GetObject t.job.dest.bucket key) ≡ task_commit_asks (task_script t) (who_of t) t.known (reading cs (drop at fs))
@@ -87,7 +87,7 @@ place_none t fs places at h =
       past,
     )))
 
--- behind the last record is no place
+-- There is no place after the last record.
 pub no_place : (t : Task) (places : List ℕ) (keys : List (List ℕ)) (at : ℕ) → AreRecords t keys places → None ≡ slice_get keys at
     → None ≡ slice_get places at
 no_place t places keys at e h = place_none t t.files places at (h ∙ ap (λ (l : List (List ℕ)). slice_get l at) e)
@@ -99,7 +99,7 @@ asks_set t places at h =
     sym (ap (λ (l : List File). task_commit_asks (task_script t) (who_of t) t.known (reading (picked t.files places) l))
     (drop_all at (picked t.files places) (past_picked t.files places at h)))
 
--- once all are read they are all ready
+-- If all records are read, all files are ready.
 pub all_taken : (fs : List File) (places : List ℕ) (at : ℕ) → None ≡ slice_get places at → take at (picked fs places) ≡ picked fs places
 all_taken fs places at h = take_all at (picked fs places) (past_picked fs places at h)
 
@@ -197,7 +197,7 @@ keeps_read t keys places rs at p r h f g k = record {
       (ready_here (task_script t) (who_of t) t.known (get_or t.files p ([], [])) r (fits_at t keys places at p r h f) g));
 }
 
--- ---- once a request was sent
+-- ---- after a request was sent
 
 pub keeps_sent : (t new : Task) (p : Bool) (places : List ℕ) (keys : List (List ℕ)) (at : ℕ) → new ≡ with_sent t p
     → HoldsCommit t places keys at → HoldsCommit new places keys at
@@ -207,7 +207,7 @@ keeps_sent t new p places keys at e h = subst (λ (t : Task). HoldsCommit t plac
     by true = record { within = h.within; records = h.records; ready = h.ready }
     by false = record { within = h.within; records = h.records; ready = h.ready }
 
--- ---- where the stage is told by equations
+-- ---- the stage given by equations
 
 as_reading : (listing : Bool) (keys : List (List ℕ)) (cs : List File) (at : ℕ) (end : Option TaskEnd) → end ≡ None → listing ≡ false
     → commit_by listing keys cs at end ≡ commit_by false keys cs at None
@@ -236,7 +236,7 @@ module _ (t : Task) (listing : Bool) (keys : List (List ℕ)) (places : List ℕ
   pub keeps_read_at : (rs : List (List ℕ)) → is_no_key r ≡ false → HoldsCommit t places rs at → HoldsCommit t places rs (at + 1)
   keeps_read_at rs g k = keeps_read t keys places rs at p r h fits_as g k
 
--- ---- what it learns
+-- ---- what the commit learns
 
 is_set : (w : Script) (a : Who) → is_set_key w a.task w.dest.bucket (layout.set_key w.dest.key w.job a.task) ≡ true
 is_set w a = rw (
@@ -265,7 +265,7 @@ reading_got t cs [] r b = ap (λ (k : Known). let m : Attempting TaskCommit = re
     { plan = with_known t k; operation = TaskCommitOver ends.Done } in m) (set_known t)
 reading_got t cs (f ∷ fs) r b = refl
 
--- a reply teaches that the set was sent, and no other
+-- A reply teaches that the request was sent, and nothing else.
 pub got_by : (t : Task) (listing : Bool) (keys : List (List ℕ)) (cs : List File) (at : ℕ) (end : Option TaskEnd) (r : Reply) (b : Bool)
     → (let o = commit_by listing keys cs at end in
     task_commit_told (record { plan = t; operation = o }) (Got r b) ≡ record {
@@ -277,7 +277,7 @@ got_by t listing keys cs at (Some end) r b = refl
 got_by t true keys cs at None r b = refl
 got_by t false keys cs at None r b = reading_got t cs (drop at cs) r b
 
--- ---- with what it learns
+-- ---- the commit with what it learns
 
 pub told_as : (t new : Task) (h after : Committing) (r : Reply) (p : Bool) → new ≡ with_sent t p → p ≡ publishes (commit_of t h)
     → commit_of t after ≡ task_commit_hears (task_script t) t.minimum (who_of t) (commit_of t h) r false
@@ -310,7 +310,7 @@ next_as t new after p x e h =
 some_place : (places : List ℕ) (at : ℕ) → at < length places → (p : ℕ) × (Some p ≡ slice_get places at)
 some_place places at h = (get_or places at 0, sym (slice_get-get_or places at 0 h))
 
--- it publishes behind the last record
+-- The commit publishes after the last record.
 publishes_if : (fs : List File) (keys : List (List ℕ)) (places : List ℕ) (at n : ℕ) (b : Bool) → nat_le n at ≡ b → n ≡ length places
     → b ≡ publishes (commit_by false keys (picked fs places) at None)
 publishes_if fs keys places at n true t e =

@@ -1,4 +1,4 @@
--- Which files the keys of a listing are of.
+-- The files whose records are among the keys of a listing.
 use Rattle.basics.proofs.Members.{nat_true, text_false}
 use Rattle.basics.proofs.Naturals.{below_so, suc_not, suc_same, zero_not}
 use Rattle.basics.specs.Order.{text_eq}
@@ -52,7 +52,7 @@ record_is t path =
     let long : 1 ≤ length dir = simp length-append (omega arith) in
     below_is dir path long ∙ sym (append_assoc dir (codes "/") path)
 
--- the record of the file of a path, and of no other, is at the key of the path's record
+-- The record of a file has the key of the record of this path exactly if the file has this path.
 pub record_test : (t : Task) (f : File) (key prefix path : List ℕ) → prefix ≡ attempt_prefix (task_script t) (who_of t)
     → IsRecordAt prefix key path → text_eq (record_of t f) key ≡ text_eq path f.0
 record_test t f key prefix path p h =
@@ -63,7 +63,7 @@ record_test t f key prefix path p h =
     (λ e. sym (append_cancel_right f.0 path (codes ".pending") (append_cancel_left root _ _ (sym mine ∙ (e ∙ there)))))
     (λ e. mine ∙ (ap (λ (l : List ℕ). root ++ (l ++ codes ".pending")) (sym e) ∙ sym there))
 
--- a key that is no record's is of no file
+-- A key that is not a record's belongs to no file.
 pub record_none : (t : Task) (f : File) (key prefix : List ℕ) → prefix ≡ attempt_prefix (task_script t) (who_of t)
     → ((path : List ℕ) → IsRecordAt prefix key path → ⊥) → text_eq (record_of t f) key ≡ false
 record_none t f key prefix p h =
@@ -120,7 +120,7 @@ none_at p (x ∷ es) j f h e = by (text_eq p x.0) refl (none_at p es) j e
     by false g r zero e = let same : x ≡ f = cc in subst (λ (y : File). text_eq p y.0 ≡ false) same g
     by false g r (suc j) e = r j f (first false g) e
 
--- the index of a path is its place, and no other's
+-- The index of a path is the place of the file with this path, and of no other.
 path_place : (p : List ℕ) (es : List File) (r : Option ℕ) (j : ℕ) (f : File) → r ≡ position (text_eq p) (keys_of es)
     → is_some r ≡ is_some (lookup (text_eq p) es) → IsDistinct text_eq (keys_of es) → slice_get es j ≡ Some f → text_eq p f.0 ≡ is_at r j
 path_place p es None j f h s d e = none_at p es j f (sym s) e
@@ -132,7 +132,7 @@ pub path_found : (p : List ℕ) (es fs : List File) (r : Option ℕ) (j : ℕ) (
     → is_some r ≡ is_some (lookup (text_eq p) es) → IsDistinct text_eq (keys_of es) → slice_get fs j ≡ Some f → text_eq p f.0 ≡ is_at r j
 path_found p es fs r j f h i s d e = path_place p es r j f i s d (ap (λ (l : List File). slice_get l j) h ∙ e)
 
--- ---- the files that a key picks
+-- ---- the files that a key chooses
 
 abbrev pub PicksAt : (File → Bool) → List File → Option ℕ → Type 0
 PicksAt g fs r = (j : ℕ) (f : File) → slice_get fs j ≡ Some f → g f ≡ is_at r j
@@ -169,7 +169,7 @@ one_more t keys k =
     ∙ ap (λ (l : List File). in_order (task_script t) (who_of t) keys ++ l) (append-nil (g k) ∙ ap
     (λ (l : List File). filter (λ f. text_eq (record_of t f) k) l) (own_files t))
 
--- a key of no file adds none, and one of a file adds that one
+-- A key of no file adds no file, and the key of a file adds that file.
 ordered_none : (t : Task) (keys : List (List ℕ)) (k : List ℕ) (places : List ℕ)
     → picked t.files places ≡ in_order (task_script t) (who_of t) keys → IsPlaceOf t k None
     → picked t.files places ≡ in_order (task_script t) (who_of t) (keys ++ k ∷ [])
@@ -208,7 +208,7 @@ records_with t keys places k (Some i) e w h =
     ∙ sym (ap (map (record_of t)) (map-append (λ i. get_or t.files i ([], [])) places (i ∷ [])) ∙ map-append (record_of t)
     (picked t.files places) (get_or t.files i ([], []) ∷ [])))
 
--- ---- which files are seen
+-- ---- the files whose records were listed
 
 seen_by : (g : File → Bool) (h : File → Bool) (x : File) (fs : List File) (b : Bool) (rest : List Bool) → h x ≡ b
     → map (λ f. g f || h f) fs ≡ rest → map (λ f. g f || h f) (x ∷ fs) ≡ (g x || b) ∷ rest
@@ -274,7 +274,7 @@ pub nothing_seen : (t : Task) (fs : List File) → replicate (length fs) false �
 nothing_seen t [] = refl
 nothing_seen t (x ∷ fs) = ap (λ (l : List Bool). false ∷ l) (nothing_seen t fs)
 
--- ---- the least that is missing
+-- ---- the least missing key
 
 pub missing_by : (keys : List (List ℕ)) (g : File → List ℕ) (fs : List File)
     → least_missing keys (map g fs) ≡ least_unseen (map (λ f. list_any (text_eq (g f)) keys) fs) (map g fs)
@@ -287,7 +287,7 @@ missing_by keys g (x ∷ fs) = by (missing_by keys g fs) (list_any (text_eq (g x
     by r true = r
     by r false = ap (λ l. Some (least_of l (g x))) r
 
--- the one behind so many, and the others
+-- The list from an index on is its item there and the rest.
 cut_at : {X : Type 0} (xs : List X) (i : ℕ) (d : X) → i < length xs → drop i xs ≡ get_or xs i d ∷ drop (i + 1) xs
 cut_at xs i d w = drop-cons xs i d w ∙ ap (λ n. get_or xs i d ∷ drop n xs) (sym (add-one i))
 

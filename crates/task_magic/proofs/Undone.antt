@@ -1,4 +1,4 @@
--- Where replies lead an abort, by how many of its uploads are aborted.
+-- An abort after a reply, by how many of its uploads are aborted.
 use Rattle.job_model.specs.JobScript.{Script}
 use Rattle.job_model.specs.Known.{Drawn, Known}
 use Rattle.job_model.specs.declared.ends.TaskEnd.{TaskEnd}
@@ -12,13 +12,13 @@ use Rattle.std.proofs.Common.{Bool, List, None, Option, add-one, ap, arith, drop
 use Rattle.std.proofs.Common.{◌≡◌}
 use Rattle.task_magic.specs.Undoing.{abort_by, abort_from}
 
--- ---- behind an upload
+-- ---- after an upload
 
 from_start : (c : Committer) (ds : List Drawn) (sent : Bool) → c ≡ Magic → abort_from ds sent sweep_start ≡ dropping c sent ds
 from_start c [] sent h = ap (λ (x : Committer). dropping x sent []) (sym h)
 from_start c (d ∷ ds) sent h = refl
 
--- what stands behind a place
+-- The list from an index on begins with an item, if the index is in range.
 pub first_of : {X : Type 0} (xs : List X) (at : ℕ) → at < length xs → (x : X) × (drop at xs ≡ x ∷ drop (at + 1) xs)
 first_of [] at h = absurd (omega arith)
 first_of (x ∷ xs) zero h = (x, refl)

@@ -1,4 +1,4 @@
--- A write as a whole: how it begins, and what it is told without a reply.
+-- A write as a whole: how it begins, and how it goes on without a reply.
 use Rattle.job_model.specs.Files.{File}
 use Rattle.job_model.specs.Jobs.{Task}
 use Rattle.job_model.specs.declared.ends.TaskEnd.{TaskEnd}
@@ -34,7 +34,7 @@ pub start_is : (t : Task) → t.job.committer ≡ Magic
 start_is t m = with_files t t.files refl ∙ (sym (next_files (task_script t) t.minimum t.files) ∙
     (ap writing (sym (own_files t)) ∙ ap (λ (c : Committer). write_start_by c (files (task_script t) (who_of t))) (sym m)))
 
--- ---- a request that wore out
+-- ---- a request that exhausted its retries
 
 pub worn_told : (t : Task) (o : Write) → (let m : Attempting Write = record { plan = t; operation = writes.WriteOver ends.StoreFault } in m
     ≡ write_told (record { plan = t; operation = o }) WornOut)
@@ -45,7 +45,7 @@ worn_told t (writes.Recording f fs) = sym (ap (λ k. record { plan = with_known 
     (same_known t.known _ (no_set (task_script t) (who_of t) (f.0 ++ codes ".pending"))))
 worn_told t _ = refl
 
--- ---- while it asks, it is about a file
+-- ---- while a write has a request, it has a current file
 
 open_by : (t : Task) (place : ℕ) (s : WriteStage) (e : Option TaskEnd) → IsOpen e place t.files
     → IsSome (write_wants (seen_write t place s e)) → (e ≡ None) × (place < length t.files)

@@ -1,4 +1,4 @@
--- A commit of a magic attempt, by the keys listed, the places of the files that it commits, and how many records were read.
+-- A magic attempt's commit, by the keys listed, the places of the files that it commits, and how many records it has read.
 use Rattle.basics.specs.Order.{text_eq}
 use Rattle.job_model.specs.Files.{File}
 use Rattle.job_model.specs.Jobs.{Task}
@@ -18,101 +18,102 @@ use Rattle.task_magic.specs.declared.committing.Committing.{Committing}
 use Rattle.task_magic.specs.declared.listing.Listed.{Listed}
 use Rattle.task_requests.specs.Publishing.{AreReady, are_places, picked}
 
--- ---- where it stands
+-- ---- how far a commit has come
 
--- it lists, or commits these files, of which so many were read, or it has ended
+-- The commit that lists, or that has read `at` of the records of these files, or that has ended.
 abbrev pub commit_by : Bool → List (List ℕ) → List File → ℕ → Option TaskEnd → TaskCommit
 commit_by listing keys cs at (Some end) = TaskCommitOver end
 commit_by true keys cs at None = Looking keys
 commit_by false keys cs at None = reading cs (drop at cs)
 
--- the task's commit that what is kept stands for
+-- The task commit that the kept values represent.
 abbrev pub commit_of : Task → Committing → TaskCommit
 commit_of t c = commit_by c.listing (keys_on c.walk) (picked t.files c.places) c.at c.end
 
--- ---- what is kept
+-- ---- what a commit keeps
 
--- the key of a file's record
+-- The key of a file's record.
 abbrev pub record_of : Task → File → List ℕ
 record_of t f = record_key (task_script t) (who_of t) f
 
--- these are the keys of the records of the files at these places
+-- These are the keys of the records of the files at these places.
 abbrev pub AreRecords : Task → List (List ℕ) → List ℕ → Type 0
 AreRecords t keys places = keys ≡ map (record_of t) (picked t.files places)
 
--- the places are of files, these are the keys of their records, and what is known of those that were read is a record
+-- The places are those of files, the keys are those of their records, and the attempt knows the uploads of the files whose records were
+-- read.
 pub record HoldsCommit (t : Task) (places : List ℕ) (keys : List (List ℕ)) (at : ℕ) : Type 0 where
   pub within : are_places (length t.files) places ≡ true
   pub records : AreRecords t keys places
   pub ready : AreReady t (take at (picked t.files places))
 
--- what is kept of a commit is true of its plan
+-- What a commit keeps is true of its plan.
 abbrev pub Keeps : Task → Committing → Type 0
 Keeps t c = HoldsCommit t c.places c.records c.at
 
--- ---- replies and sendings
+-- ---- replies and sends
 
--- the reply is NoSuchKey
+-- True if the reply is NoSuchKey.
 abbrev pub is_no_key : Reply → Bool
 is_no_key (Refused NoSuchKey) = true
 is_no_key _ = false
 
--- its request publishes
+-- True if the commit's current request publishes.
 abbrev pub publishes : TaskCommit → Bool
 publishes (Publishing cs) = true
 publishes _ = false
 
--- what is known once it was sent
+-- What is known after a request was sent, which publishes or not.
 abbrev pub known_if : Bool → Known → Known
 known_if true k = record { drawn = k.drawn; put_sent = k.put_sent; publish_sent = true }
 known_if false k = k
 
--- the plan once its publishing request was sent, if it was
+-- The plan after a request was sent, which publishes or not.
 abbrev pub with_sent : Task → Bool → Task
 with_sent t b = with_known t (known_if b t.known)
 
 -- ---- the listing
 
--- a key is that of the record of this path
+-- The key is that of the record of this path.
 abbrev pub IsRecordAt : List ℕ → List ℕ → List ℕ → Type 0
 IsRecordAt prefix key path = key ≡ prefix ++ (path ++ codes ".pending")
 
--- the place is this one
+-- True if the place is `j`.
 abbrev pub is_at : Option ℕ → ℕ → Bool
 is_at None j = false
 is_at (Some i) j = nat_eq i j
 
--- the places that it is
+-- The place as a list, empty if there is none.
 abbrev pub places_in : Option ℕ → List ℕ
 places_in None = []
 places_in (Some i) = i ∷ []
 
--- the key, where there is a place
+-- The key as a list, empty if there is no place.
 abbrev pub records_in : Option ℕ → List ℕ → List (List ℕ)
 records_in None key = []
 records_in (Some i) key = key ∷ []
 
--- what is set at it
+-- The flags with the one at this place set, if there is a place.
 abbrev pub set_at : List Bool → Option ℕ → List Bool
 set_at seen None = seen
 set_at seen (Some i) = slice_set seen i true
 
--- a key is that of the record of the file at this place, and of no other
+-- The key is that of the record of the file at this place and of no other file; without a place, of no file at all.
 abbrev pub IsPlaceOf : Task → List ℕ → Option ℕ → Type 0
 IsPlaceOf t key place = (j : ℕ) (f : File) → slice_get t.files j ≡ Some f → text_eq (record_of t f) key ≡ is_at place j
 
--- of each file whether its record is among the keys
+-- For each file, whether the key of its record is among the keys.
 abbrev pub seen_in : Task → List (List ℕ) → List Bool
 seen_in t keys = map (λ f. list_any (text_eq (record_of t f)) keys) t.files
 
--- the least of the keys that are not seen
+-- The least of the keys that are not seen.
 abbrev pub least_unseen : List Bool → List (List ℕ) → Option (List ℕ)
 least_unseen (false ∷ seen) (k ∷ ks) = Some (least_of (least_unseen seen ks) k)
 least_unseen (true ∷ seen) (k ∷ ks) = least_unseen seen ks
 least_unseen _ _ = None
 
--- what the keys of a listing are of: the places of the files whose records are among them, these records, and of each file whether its
--- record is
+-- The places of the files whose records are among the keys, in the order of the keys, the keys of these records, and for each file whether
+-- its record is among them.
 pub record IsListed (t : Task) (keys : List (List ℕ)) (x : Listed) : Type 0 where
   pub places : are_places (length t.files) x.places ≡ true
   pub records : AreRecords t x.records x.places

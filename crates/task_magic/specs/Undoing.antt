@@ -1,4 +1,4 @@
--- An abort of a magic attempt, by how many of its uploads are aborted, its sweep and its end.
+-- A magic attempt's abort, by how many of its uploads are aborted, its sweep and its end.
 use Rattle.job_model.specs.Jobs.{Task}
 use Rattle.job_model.specs.Known.{Drawn, Known}
 use Rattle.job_model.specs.declared.ends.TaskEnd.{TaskEnd}
@@ -9,22 +9,22 @@ use Rattle.std.specs.Prelude.{Bool, List, None, Option, Some, drop, if◌then◌
 use Rattle.task_magic.specs.declared.undoing.Undoing.{Undoing}
 use Rattle.job_model.specs.declared.ends.TaskEnd.TheVariants as ends
 
--- ---- where it stands
+-- ---- how far an abort has come
 
--- these uploads are to be aborted, and then the sweep goes on
+-- The abort that still has to abort these uploads and then goes on with the sweep.
 abbrev pub abort_from : List Drawn → Bool → Sweep → TaskAbort
 abort_from [] sent s = Sweeping s
 abort_from (d ∷ ds) sent s = Dropping d ds sent
 
--- so many of the uploads are aborted, or it has ended
+-- The abort that has aborted this many of the known uploads, or that has ended.
 abbrev pub abort_by : Known → ℕ → Sweep → Option TaskEnd → TaskAbort
 abort_by k at s None = abort_from (drop at (as_made k.drawn)) k.put_sent s
 abort_by k at s (Some end) = TaskAbortOver end
 
--- the task's abort that what is kept stands for
+-- The task abort that the kept values represent.
 abbrev pub abort_of : Task → Undoing → TaskAbort
 abort_of t h = abort_by t.known h.at h.sweep h.end
 
--- an attempt that has sent its publishing request is over
+-- Kept if the attempt has sent its publishing request, else None.
 abbrev pub kept_if : Bool → Option TaskEnd
 kept_if b = if b then Some ends.Kept else None

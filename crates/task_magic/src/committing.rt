@@ -18,8 +18,12 @@ use std::alloc::{AllocError, Global};
 use task_machines::{Holds, TaskMachine, TheCommit};
 use task_requests::{bucket_of, prefix, publish_request};
 
-/// A commit as it goes on: whether it lists, the keys so far, the places of the files that it commits, the
-/// keys of their records, how many of them were read, and how it ended.
+/// A commit in progress:
+///
+/// - whether it still lists, and the keys listed so far;
+/// - the places of the files that it commits, the keys of their records, and how many records it
+///   has read;
+/// - how it ended.
 #[derive(Drop)]
 pub struct Committing {
     pub listing: bool,
@@ -30,13 +34,13 @@ pub struct Committing {
     pub end: Option<TaskEnd>,
 }
 
-/// A magic attempt's commit of its task. It lists its own directory, reads the record of each of its files,
-/// in the order of the listing, and puts the set of them, which publishes. Gone comes with the key of the
-/// least record that is not listed, or of one that is not there when it is read. (Hadoop, S3A committer
-/// architecture: task commit.)
+/// A magic attempt's commit of its task. It lists its own directory, reads the record of each of
+/// its files in the order of the listing, and puts the set of these uploads, which publishes them.
+/// It ends with Gone and a key if a record is missing: the least record key that is not listed, or
+/// the key that a read did not find. (Hadoop, S3A committer architecture: task commit.)
 pub type CommitTask = TaskMachine<TheCommit, Committing>;
 
-/// The request for the next page of the attempt's directory.
+/// Returns the request for the next page of the attempt's directory.
 fn page_request(alloc: Global, plan: &TaskPlan, walk: &KeyWalk) -> Asked
     ensures { IfOk result (λ request. request ≡ Some (page_after plan.now.job.dest.bucket
         (attempt_prefix (task_script plan.now) (who_of plan.now)) (keys_on walk.now))) }
@@ -48,7 +52,7 @@ fn page_request(alloc: Global, plan: &TaskPlan, walk: &KeyWalk) -> Asked
     }
 }
 
-/// What the keys are of that a walk has met.
+/// Finds the files whose records are among the keys that a walk has listed.
 fn listed(alloc: Global, plan: &TaskPlan, walk: &KeyWalk) -> Result<Listed, AllocError>
     ensures { IfOk result (IsListed plan.now (keys_on walk.now)) }
 {
@@ -56,7 +60,7 @@ fn listed(alloc: Global, plan: &TaskPlan, walk: &KeyWalk) -> Result<Listed, Allo
     files_of_keys(alloc, plan, &prefix, keys.as_slice())
 }
 
-/// The read of the record at a key.
+/// Returns the read of the record at a key.
 fn read_request(plan: &TaskPlan, key: &Key) -> Asked
     ensures { IfOk result (λ request. request ≡ Some (GetObject plan.now.job.dest.bucket key.now)) }
 {
@@ -66,14 +70,14 @@ fn read_request(plan: &TaskPlan, key: &Key) -> Asked
     }
 }
 
-/// The key of a record behind so many. Takes no memory.
+/// Returns the key of record number `at`, counted from 0. Takes no memory.
 fn record_key(records: &[Key], at: usize) -> Option<&Key>
     ensures { option_map (λ key. key.now) result ≡ slice_get records.now at }
 {
     records.get(at)
 }
 
-/// The read of the record behind so many, or where all are read the put of the set.
+/// Returns the read of record number `at`, or the put of the set if all records are read.
 fn record_or_set(
     alloc: Global,
     plan: &TaskPlan,
@@ -101,7 +105,7 @@ fn is_no_key(reply: &Reply) -> bool
     }
 }
 
-/// The place behind one of so many.
+/// Returns the place after `at`.
 fn behind(at: usize, len: usize) -> usize
     requires { at < len }
     ensures { result ≡ at + 1 }
@@ -109,7 +113,7 @@ fn behind(at: usize, len: usize) -> usize
     at + 1
 }
 
-/// What a plan knows once a request was sent that publishes, or does not. Takes no memory.
+/// Notes in the plan that a request was sent, and whether it publishes. Takes no memory.
 fn tell_sent(plan: &mut TaskPlan, publishes: bool)
     ensures { plan.new ≡ with_sent plan.old publishes }
 {
@@ -119,7 +123,7 @@ fn tell_sent(plan: &mut TaskPlan, publishes: bool)
 }
 
 impl Committing {
-    /// Whether its present request publishes. Takes no memory.
+    /// Returns whether the current request publishes. Takes no memory.
     fn publishes(&self, plan: &TaskPlan) -> bool
         ensures { result ≡ publishes (commit_of plan.now self.now) }
     {
@@ -130,7 +134,7 @@ impl Committing {
         !self.listing && self.places.len() <= self.at
     }
 
-    /// A page of the listing came.
+    /// Takes a page of the listing.
     fn hear_page(&mut self, alloc: Global, plan: &TaskPlan, reply: &Reply) -> Result<(), AllocError>
         requires end { self.old.end ≡ None }
         requires listing { self.old.listing ≡ true }
@@ -158,7 +162,7 @@ impl Committing {
         Ok(())
     }
 
-    /// The read of the record of the file at a place was answered.
+    /// Takes the reply to the read of the record of the file at a place.
     fn hear_record(
         &mut self,
         alloc: Global,
@@ -186,7 +190,7 @@ impl Committing {
         Ok(())
     }
 
-    /// Goes where the reply to its present request leads.
+    /// Takes the reply to the current request and goes on from there.
     fn go_on(&mut self, alloc: Global, plan: &TaskPlan, reply: &Reply) -> Result<(), AllocError>
         requires keeps { Keeps plan.now self.old }
         requires fits { FitsCommit (task_script plan.now) (who_of plan.now) plan.now.known (commit_of plan.now self.old)

@@ -9,8 +9,8 @@ use s3_types::{Key, KeyList, Sequence, Text, let_go};
 use std::alloc::{AllocError, Global};
 use task_requests::{directory, file_at, record};
 
-/// What the keys of a listing are of: the places of the files whose records are listed, in the order of the
-/// keys, the keys of these records, and of each file whether its record is listed.
+/// The files whose records are among the keys of a listing: their places in the order of the keys,
+/// the keys of their records, and for each file whether its record is listed.
 #[derive(Drop)]
 pub struct Listed {
     pub places: Sequence<usize>,
@@ -18,7 +18,7 @@ pub struct Listed {
     pub seen: Vec<bool>,
 }
 
-/// What stands between a prefix and `.pending` in a key.
+/// Returns the text between a prefix and `.pending` in a key, if the key has that form.
 fn path_in<'a>(prefix: &str, key: &'a str) -> Option<&'a str>
     ensures { MatchOption result ((path : List ℕ) → IsRecordAt prefix.now key.now path
         → ⊥) (λ path. IsRecordAt prefix.now key.now path.now) }
@@ -29,7 +29,7 @@ fn path_in<'a>(prefix: &str, key: &'a str) -> Option<&'a str>
     }
 }
 
-/// The place of the file whose record has this key, where there is one.
+/// Returns the place of the file whose record has this key, if there is one.
 fn place_of(
     alloc: Global,
     plan: &TaskPlan,
@@ -47,14 +47,14 @@ fn place_of(
     Ok(plan.files.held().get_index_of(&path))
 }
 
-/// So many files of which none is seen.
+/// Returns `count` flags, all false.
 fn unseen(alloc: Global, count: usize) -> Result<Vec<bool>, AllocError>
     ensures { IfOk result (λ seen. seen.items ≡ replicate count false) }
 {
     vec![in alloc; false; count]
 }
 
-/// Adds the file at a place, where there is one, whose record has this key.
+/// Adds to `listed` the file at a place, if there is one, whose record has this key.
 fn add_place(listed: &mut Listed, place: Option<usize>, key: &Key) -> Result<(), AllocError>
     requires { IfSome place (λ i. i < length listed.old.seen.items) }
     ensures places { OnOk result (listed.new.places ≡ listed.old.places ++ places_in place) }
@@ -70,7 +70,7 @@ fn add_place(listed: &mut Listed, place: Option<usize>, key: &Key) -> Result<(),
     Ok(())
 }
 
-/// What these keys are of.
+/// Finds the files whose records have these keys.
 pub fn files_of_keys(
     alloc: Global,
     plan: &TaskPlan,
@@ -99,7 +99,7 @@ pub fn files_of_keys(
     Ok(listed)
 }
 
-/// The key of the record of the file at a place.
+/// Returns the key of the record of the file at a place.
 pub fn record_at(alloc: Global, plan: &TaskPlan, place: usize) -> Result<Key, AllocError>
     requires { place < length plan.now.files }
     ensures { IfOk result (λ key. key ≡ record_of plan.now (get_or plan.now.files place ([], []))) }
@@ -111,7 +111,7 @@ pub fn record_at(alloc: Global, plan: &TaskPlan, place: usize) -> Result<Key, Al
     record(alloc, plan, &dir, path)
 }
 
-/// The lesser of two keys, where there are two.
+/// Returns the lesser of two keys, or `key` if there is no other.
 fn lesser(least: Option<Key>, key: Key) -> Key
     ensures { result ≡ least_of least key }
 {
@@ -121,7 +121,8 @@ fn lesser(least: Option<Key>, key: Key) -> Key
     }
 }
 
-/// The end of a commit that has seen these records: Gone with the least key of one that is not seen, or none.
+/// Returns how a commit ends that has seen these records: Gone with the least key that is not seen,
+/// or None if all are seen.
 pub fn missing(alloc: Global, plan: &TaskPlan, seen: &[bool]) -> Result<Option<TaskEnd>, AllocError>
     requires { length seen.now ≡ length plan.now.files }
     ensures { IfOk result (λ end. end ≡ option_map TaskEnd.Gone

@@ -15,7 +15,7 @@ use task_requests::{
     upload_in,
 };
 
-/// Where a write stands after a step, with what it asks next.
+/// The state of a write after a step, and its next request.
 #[derive(Drop)]
 pub struct Turned {
     pub place: usize,
@@ -24,7 +24,8 @@ pub struct Turned {
     pub asked: Option<Request>,
 }
 
-/// The end of a write that asks this. Takes no memory.
+/// Returns the end of a write whose next request is this one: None while there is one, else Done.
+/// Takes no memory.
 fn ended_by(asked: &Option<Request>) -> Option<TaskEnd>
     ensures { result ≡ ended_by asked.now }
 {
@@ -34,7 +35,7 @@ fn ended_by(asked: &Option<Request>) -> Option<TaskEnd>
     }
 }
 
-/// Goes to a stage of a file, or to the end where no file is left.
+/// Goes to a stage of the file at a place, or ends the write if no file is left.
 pub fn turn(
     alloc: Global,
     plan: &TaskPlan,
@@ -57,7 +58,8 @@ pub fn turn(
     })
 }
 
-/// The upload of the present file is begun.
+/// Notes the upload that S3 created for the current file. If memory runs out, the plan is
+/// unchanged.
 fn begin(
     alloc: Global,
     plan: &mut TaskPlan,
@@ -85,7 +87,7 @@ fn begin(
     }
 }
 
-/// A part of the present file came back.
+/// Notes a part of the current file that S3 acknowledged.
 fn add_part(
     alloc: Global,
     plan: &mut TaskPlan,
@@ -120,7 +122,7 @@ fn add_part(
     }
 }
 
-/// The name of what is gone, by its key.
+/// Returns the name of a missing upload, which is its key.
 pub fn name_of(key: Key) -> Result<Text, AllocError>
     ensures { IfOk result (λ name. name ≡ key) }
 {
@@ -128,7 +130,7 @@ pub fn name_of(key: Key) -> Result<Text, AllocError>
     Ok(name)
 }
 
-/// The upload of the present file is not there.
+/// Ends the write because the upload of the current file does not exist.
 fn stop_gone(
     alloc: Global,
     plan: &TaskPlan,
@@ -157,7 +159,7 @@ fn stop_gone(
     })
 }
 
-/// The place of the file behind another. Takes no memory.
+/// Returns the place of the next file. Takes no memory.
 fn next_place(plan: &TaskPlan, place: usize) -> usize
     requires { place < length plan.now.files }
     ensures { result ≡ place + 1 }
@@ -166,7 +168,8 @@ fn next_place(plan: &TaskPlan, place: usize) -> usize
     place + 1
 }
 
-/// Where the reply to what was asked leads. After want of memory the plan is as before.
+/// Takes the reply to the current request and goes on from there. If memory runs out, the plan is
+/// unchanged.
 pub fn advance(
     alloc: Global,
     plan: &mut TaskPlan,

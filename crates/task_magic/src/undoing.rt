@@ -15,7 +15,7 @@ use std::alloc::{AllocError, Global};
 use task_machines::{Holds, TaskMachine, TheAbort};
 use task_requests::{abort_request, bucket_of, made, prefix};
 
-/// An abort as it goes on: how many of the uploads are aborted, the sweep of the attempt's directory, and
+/// An abort in progress: how many uploads it has aborted, the sweep of the attempt's directory, and
 /// how it ended.
 #[derive(Drop)]
 pub struct Undoing {
@@ -24,19 +24,19 @@ pub struct Undoing {
     pub end: Option<TaskEnd>,
 }
 
-/// A magic attempt's abort of its task. An attempt that has sent its publishing request ends Kept and sends
-/// nothing. Any other aborts its uploads, in the order of their making, and then empties its own directory.
-/// (Hadoop, S3A committer architecture: task abort.)
+/// A magic attempt's abort of its task. An attempt that has sent its publishing request ends with
+/// Kept and sends nothing. Any other aborts its uploads, oldest first, and then empties its own
+/// directory. (Hadoop, S3A committer architecture: task abort.)
 pub type AbortTask = TaskMachine<TheAbort, Undoing>;
 
-/// The end of an attempt that has sent its publishing request, or none.
+/// Returns Kept if the attempt has sent its publishing request, else None.
 fn kept_if(sent: bool) -> Option<TaskEnd>
     ensures { result ≡ kept_if sent }
 {
     if sent { Some(TaskEnd::Kept) } else { None }
 }
 
-/// The next request of the sweep of the attempt's directory.
+/// Returns the next request of the sweep of the attempt's directory.
 fn sweep_request(alloc: Global, plan: &TaskPlan, sweep: &Sweep) -> Asked
     ensures { IfOk result (λ request. request ≡ Some (sweep_asks plan.now.job.dest.bucket
         (attempt_prefix (task_script plan.now) (who_of plan.now)) sweep.now)) }
@@ -46,7 +46,7 @@ fn sweep_request(alloc: Global, plan: &TaskPlan, sweep: &Sweep) -> Asked
 }
 
 impl Undoing {
-    /// Goes where the reply to its present request leads.
+    /// Takes the reply to the current request and goes on from there.
     fn go_on(&mut self, alloc: Global, plan: &TaskPlan, reply: &Reply) -> Result<(), AllocError>
         requires magic { plan.now.job.committer ≡ Magic }
         requires fits { FitsAbort (abort_of plan.now self.old) reply.now }

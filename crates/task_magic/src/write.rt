@@ -11,8 +11,8 @@ use std::alloc::{AllocError, Global};
 use task_machines::{Holds, TaskMachine, TheWrite};
 use task_requests::{WriteStage, ask, directory};
 
-/// A write as it goes on: the attempt's directory, how many files are whole, the stage of the next one, and how it
-/// ended.
+/// A write in progress: the attempt's directory, how many files are complete, the stage of the next
+/// one, and how the write ended.
 #[derive(Drop)]
 pub struct Writing {
     pub dir: S3Path,
@@ -21,11 +21,12 @@ pub struct Writing {
     pub end: Option<TaskEnd>,
 }
 
-/// A magic attempt's write of its files, in the script's order: each is an upload that is not completed, with
-/// a marker and a record below the attempt's directory. (Hadoop, S3A committer architecture.)
+/// A magic attempt's write of its files, in the script's order. Each file becomes an upload that is
+/// not completed, with a marker and a record below the attempt's directory. (Hadoop, S3A committer
+/// architecture.)
 pub type WriteFiles = TaskMachine<TheWrite, Writing>;
 
-/// The end of a write of which nothing was sent yet: without files it is done. Takes no memory.
+/// Returns Done if the plan has no files, else None. Takes no memory.
 fn done_if_none(plan: &TaskPlan) -> Option<TaskEnd>
     ensures { result ≡ done_if_none plan.now.files }
 {
@@ -37,7 +38,7 @@ fn done_if_none(plan: &TaskPlan) -> Option<TaskEnd>
 }
 
 impl Writing {
-    /// Goes where a step led, and gives what is asked next. Takes no memory.
+    /// Moves to the state after a step, and returns the next request. Takes no memory.
     fn turn_to(&mut self, turned: Turned) -> Option<Request>
         ensures asked { result ≡ turned.asked }
         ensures goes { self.new ≡ record {

@@ -1,4 +1,4 @@
--- What is cut of a plan's file, in numbers that fit.
+-- The parts of a plan's file, with numbers that fit.
 use Rattle.job_model.specs.Jobs.{Task}
 use Rattle.job_model.specs.Plans.{IsTask}
 use Rattle.s3_types.proofs.Blocks.{few_parts, length-parts, most_size, some_size}

@@ -1,4 +1,4 @@
--- The uploads of an attempt in the order of their making.
+-- The uploads of an attempt, oldest first.
 use Rattle.job_model.specs.Known.{Drawn}
 use Rattle.job_protocol.specs.Knowledge.{as_made}
 use Rattle.std.proofs.Common.{List, ap, refl, reverse, sym, [], ◌++◌, ◌∙◌, ◌∷◌, ◌≡◌}

@@ -1,4 +1,4 @@
--- Where the upload of a key that was drawn last stands.
+-- The place of a key's newest upload.
 use Rattle.basics.proofs.Lists.{get_left}
 use Rattle.basics.specs.Order.{text_eq}
 use Rattle.job_model.specs.Files.{File}
@@ -50,7 +50,7 @@ last_step made i d old new key w e h n =
     subst (λ l. IsLastAt l key new) (sym (take_more made i d w ∙ ap (λ (x : Drawn). take i made ++ x ∷ []) (sym e)))
     (last_push (take i made) d i old new key (sym (length-take-le i made within)) h n)
 
--- ---- a file's
+-- ---- the upload of a file
 
 made_back : (ds : List Drawn) → reverse (as_made ds) ≡ ds
 made_back ds = ap reverse (made_reverse ds) ∙ reverse-reverse ds
@@ -59,7 +59,7 @@ pub drawn_there : (w : Script) (k : Known) (f : File) (key : List ℕ) (o : Opti
     → key ≡ file_key w f → o ≡ Some i → slice_get (as_made k.drawn) i ≡ Some (drawn_of w k f)
 drawn_there w k f key o i h g e = grind (arith, made_back)
 
--- ---- the file at a place, where what is known of its upload is a record
+-- ---- the file at a place whose known upload can become a record
 
 module _ (t : Task) (place : ℕ) (f : File) (key : List ℕ) (o : Option ℕ) (at : Some f ≡ slice_get t.files place)
     (named : key ≡ file_key (task_script t) f) (last : IsLastAt (as_made t.known.drawn) key o)

@@ -1,4 +1,4 @@
--- The paths of an attempt's files as parts of keys.
+-- The paths of an attempt's files, as parts of keys.
 use Rattle.basics.proofs.Bools.{contrary}
 use Rattle.basics.proofs.Lists.{short_number}
 use Rattle.basics.proofs.Pieces.{join_parts, one_part}
@@ -200,14 +200,14 @@ dest_short key h = grind arith
 joined_short : (root path : List ℕ) → length root ≤ 520 → length path ≤ 473 → length (root ++ 47 ∷ path) ≤ 1024
 joined_short root path h g = simp length-append (omega arith)
 
--- the length of the key of a file below a destination
+-- The key of a file below a destination has at most 1,024 bytes.
 pub target_short : (j : Job) (path : List ℕ) → IsJob j → IsPlaced j.job path → length (below j.dest.key path) ≤ 1024
 target_short j path h p =
     let d = dest_short j.dest.key h.dest.below in
     let short = placed_short j.job path h.job p in
     subst (λ (l : List ℕ). length l ≤ 1024) (sym (below_is j.dest.key path d.0)) (simp length-append (omega (arith, d.1, short)))
 
--- and of one below the attempt's directory
+-- The key of a file below the attempt's directory has at most 1,024 bytes.
 pub dir_short : (t : Task) (dir : Path) (path : List ℕ) → IsJob t.job → IsTask t → dir ≡ dir_of t → length path ≤ 473
     → length (below dir.key path) ≤ 1024
 dir_short t dir path j k e short =

@@ -1,4 +1,4 @@
--- The steps of a write, by the parts that its machine keeps.
+-- The steps of a write, by the data that its machine keeps.
 use Rattle.basics.proofs.Naturals.{at_most_so, below_is, below_not, below_so}
 use Rattle.job_model.specs.Files.{File}
 use Rattle.job_model.specs.Jobs.{Task}
@@ -50,7 +50,7 @@ turned t dir place s (Some r) d h e = record {
 }
 turned t dir place s None d h e = record { dir = d; asked = refl; holds = h; within = tt }
 
--- ---- what is asked behind a part
+-- ---- the request after a part
 
 pub first_tags : (ds : List Drawn) (parts : List (List ℕ)) → HasSent ds parts → length (first_drawn ds).tags ≡ length parts
 first_tags ds parts h = grind arith
@@ -92,7 +92,7 @@ pub holds_next : (t : Task) (f : File) (fs : List File) (n : ℕ) → HasSent t.
     → HoldsAt (task_script t) t.minimum t.known (next_stage n (length (parts_in t f))) (f ∷ fs)
 holds_next t f fs n h = holds_next_by t f fs n (nat_lt (n + 1) (length (parts_in t f))) refl h
 
--- ---- the upload is begun
+-- ---- the upload was created
 
 pub begun_kept : (t : Task) (dir : Path) (place : ℕ) (f : File) (id : ℕ) → slice_get t.files place ≡ Some f → dir ≡ dir_of t
     → is_new id t.known.drawn ≡ true
@@ -113,7 +113,7 @@ begun_kept t dir place f id e d n =
       within = slice_get_within t.files place f e;
     }
 
--- ---- a part came back
+-- ---- a part was acknowledged
 
 pub holds_sending : (t : Task) (place n : ℕ) (f : File) → slice_get t.files place ≡ Some f → Holds t place (stage.Sending n)
     → (n < length (parts_in t f)) × HasSent t.known.drawn (take n (parts_in t f))
@@ -151,7 +151,7 @@ sent_kept t dir place n f tag e d h plain =
       within = slice_get_within t.files place f e;
     }
 
--- ---- the upload is gone
+-- ---- the upload does not exist
 
 -- ---- marker and record
 
@@ -167,7 +167,7 @@ recorded_told t place f r b e =
     subst (λ l. seen_at t (drop (place + 1) t.files) stage.Creating ≡ write_told (seen_at t l stage.Recording) (Got r b))
     (sym (front_is t.files place f e)) (sym (recorded t f (drop (place + 1) t.files) r b))
 
--- ---- the stage behind a part
+-- ---- the stage after a part
 
 pub goes_on : (n x count : ℕ) → x ≡ count → n + 1 < x → stage.Sending (n + 1) ≡ next_stage n count
 goes_on n x count e h = ap (λ (b : Bool). cond b (stage.Sending (n + 1)) stage.Marking)
@@ -176,7 +176,7 @@ goes_on n x count e h = ap (λ (b : Bool). cond b (stage.Sending (n + 1)) stage.
 pub goes_by : (n x count : ℕ) → x ≡ count → x ≤ n + 1 → stage.Marking ≡ next_stage n count
 goes_by n x count h g = grind arith
 
--- ---- the same, as the code comes to it
+-- ---- the same, in the form that the code needs
 
 pub known_of : (i t : Task) (g : Known → Known) (k : Known) → i ≡ t → k ≡ g i.known → with_known i k ≡ with_known t (g t.known)
 known_of i t g k e h = ap (with_known i) h ∙ ap (λ (x : Task). with_known x (g x.known)) e
@@ -189,7 +189,7 @@ begun_told_by t t' place f key id b h g e = grind (arith, seen_at, front_is, cre
 pub at_place : (fs : List File) (place : ℕ) → place < length fs → Some (get_or fs place ([], [])) ≡ slice_get fs place
 at_place fs place h = sym (slice_get-get_or fs place ([], []) h)
 
--- the file at a place
+-- The file at a place.
 pub file_is : (t : Task) (place : ℕ) (f : File) → Some f ≡ slice_get t.files place → f ≡ get_or t.files place ([], [])
 file_is t place f e = sym (get_or_from_slice_get t.files place f ([], []) (sym e))
 
@@ -266,7 +266,7 @@ pub gone_told_by : (t : Task) (place n : ℕ) (f : File) (name : List ℕ) (b : 
     (Got (Refused NoSuchUpload) b)
 gone_told_by t place n f name b h g e = grind (arith, holds_sending, seen_at, front_is, part_gone, first_part)
 
--- ---- what is asked at a stage
+-- ---- the request at a stage
 
 asked_at : (t : Task) (place : ℕ) (f : File) (s y : WriteStage) (r : Request) → s ≡ y → Some f ≡ slice_get t.files place
     → Some r ≡ write_wants (seen_at t (f ∷ drop (place + 1) t.files) y) → Some r ≡ write_wants (seen_write t place s None)
@@ -296,7 +296,7 @@ pub nothing_asked : {X : Type 0} (t : Task) (place : ℕ) (s : WriteStage) (g : 
 nothing_asked t place s g None e n = ap (λ l. write_wants (seen_at t l s)) (sym (none_left t.files place (sym e)))
 nothing_asked t place s g (Some x) e n = absurd (n x refl)
 
--- ---- the record of the upload that was drawn last
+-- ---- the record of the newest upload
 
 pub first_is : (ds : List Drawn) (d : Drawn) → Some d ≡ slice_get ds 0 → (parts : List (List ℕ)) → HasSent ds parts → (first_drawn ds ≡ d)
     × ((length d.tags ≡ length parts) × (d.sizes ≡ map length parts) × (list_all is_plain_tag d.tags ≡ true))
@@ -369,7 +369,7 @@ part_none t place n s r b i h k f e =
     tag_none r (fits_sending t place n x.0 r b x.1 (subst (Holds t place) i k)
     (subst (λ z. write_fits (seen_write t place z None) r b) i f)) e
 
--- ---- where they lead
+-- ---- the write after a reply
 
 pub told_as : {X E : Type 0} (r : Result X E) (g : X → Attempting Write) (m m' : Attempting Write) (a a' : Reply)
     → IfOk r (λ x. (b : Bool) → g x ≡ write_told m (Got a b)) → m ≡ m' → a ≡ a' → IfOk r (λ x. (b : Bool) → g x ≡ write_told m' (Got a' b))

@@ -1,4 +1,4 @@
--- Where replies lead a write, at the file that it is about.
+-- A write after a reply, at its current file.
 use Rattle.basics.proofs.Bools.{contrary, not_so}
 use Rattle.basics.proofs.Lists.{one_longer}
 use Rattle.basics.proofs.Members.{nat_true}
@@ -40,7 +40,7 @@ use Rattle.job_model.specs.declared.ends.TaskEnd.TheVariants as ends
 use Rattle.job_protocol.specs.Writes as writes
 use Rattle.task_requests.specs.declared.stage.WriteStage.TheVariants as stage
 
--- a write whose files from here on are to be written
+-- The write that still has to write these files.
 abbrev pub seen_at : Task → List File → WriteStage → Attempting Write
 seen_at t l s = record { plan = t; operation = at_stage (task_script t) t.minimum s l }
 
@@ -67,7 +67,7 @@ none_left [] (suc i) e = refl
 none_left (g ∷ fs) zero e = absurd (cc)
 none_left (g ∷ fs) (suc i) e = none_left fs i e
 
--- ---- what is put below an attempt's directory is no set
+-- ---- no set is put below an attempt's directory
 
 unlike : (a b : ℕ) → a ≡ b → b < a → ⊥
 unlike a b e h = omega arith
@@ -90,13 +90,13 @@ no_set w a p =
     (apart w.dest.key w.job p a.task a.attempt a.task ((bytes_decides key (layout.set_key w.dest.key w.job a.task)).0
     (and_parts (text_eq w.dest.bucket w.dest.bucket) (text_eq key (layout.set_key w.dest.key w.job a.task)) h).1)))
 
--- a put there teaches nothing
+-- A put below an attempt's directory teaches nothing.
 pub same_known : (k : Known) (b : Bool) → b ≡ false
     → (let after : Known = record { drawn = k.drawn; put_sent = k.put_sent; publish_sent = k.publish_sent || b } in after ≡ k)
 same_known k b e = ap (λ c. record { drawn = k.drawn; put_sent = k.put_sent; publish_sent = c })
     (ap (λ c. k.publish_sent || c) e ∙ or-false k.publish_sent)
 
--- ---- the upload is begun
+-- ---- the upload was created
 
 uploaded_parts : (w : Script) (f : File) (fs : List File) (ps : List (List ℕ)) → uploaded w f fs (sending ps) ≡ at_parts f fs ps
 uploaded_parts w f fs ps = grind arith
@@ -158,7 +158,7 @@ part_sent t f fs n p tag b parts e h =
     ∙ ap (λ (o : Write). record { plan = with_known t (with_tag t.known tag (length p)); operation = o })
     (uploaded_parts w f fs rest ∙ sym (at_next w t.minimum f fs n)))
 
--- ---- what came back
+-- ---- an acknowledged part
 
 pub has_more : (ds : List Drawn) (parts : List (List ℕ)) (p : List ℕ) (tag : Spelled) → HasSent ds parts → is_plain_tag tag ≡ true
     → HasSent (with_last tag (length p) ds) (parts ++ p ∷ [])

@@ -1,4 +1,4 @@
--- What a set publishes: files by their places, and what an attempt knows of their uploads.
+-- The set that publishes an attempt's files, and what the attempt knows of their uploads.
 use Rattle.job_model.specs.Attempts.{Who}
 use Rattle.job_model.specs.Files.{File}
 use Rattle.job_model.specs.JobScript.{Script}
@@ -14,37 +14,37 @@ use Rattle.s3_types.specs.declared.reply.Reply.TheVariants.{Object, Refused}
 use Rattle.std.specs.List.{AllByRecursion, list_all}
 use Rattle.std.specs.Prelude.{Bool, List, None, Option, Some, get_or, length, map, nat_lt, reverse, slice_get, true, ℕ, [], ◌≡◌}
 
--- the files at these places
+-- The files at these places.
 abbrev pub picked : List File → List ℕ → List File
 picked fs places = map (λ i. get_or fs i ([], [])) places
 
--- the upload of a file that was drawn last
+-- The newest known upload for a file's key.
 abbrev pub drawn_of : Script → Known → File → Drawn
 drawn_of w k f = drawn_for k (file_key w f)
 
--- an upload's tags and sizes are those of a record of a file of this length
+-- The upload's tags and sizes can be those of the record of a file of this length.
 abbrev pub IsPending : Drawn → ℕ → Type 0
 IsPending d length = (are_tags d.tags ≡ true) × (are_sizes (Some d.sizes) d.tags length ≡ true)
 
--- what is known of the upload of each of these files is a record
+-- For each of these files, the attempt knows an upload that can become a record.
 abbrev pub AreReady : Task → List File → Type 0
 AreReady t fs = AllByRecursion (λ f. IsPending (drawn_of (task_script t) t.known f) (length f.1)) fs
 
--- the records of these files
+-- The records of these files.
 abbrev pub records_of : Task → List File → List Pending
 records_of t fs = map (λ f. file_record (task_script t) (who_of t) f (drawn_of (task_script t) t.known f)) fs
 
--- these are places among so many
+-- True if all these places are below `count`.
 abbrev pub are_places : ℕ → List ℕ → Bool
 are_places count places = list_all (λ i. nat_lt i count) places
 
--- a file's record, or that it is not there
+-- The reply to reading a file's record: the record's text, or that the key does not exist.
 abbrev pub FitsRecord : Script → Who → Known → File → Reply → Type 0
 FitsRecord w a k f (Object bytes header) = (bytes ≡ record_text w a f (drawn_of w k f)) × IsPending (drawn_of w k f) (length f.1)
 FitsRecord w a k f (Refused NoSuchKey) = Unit {0}
 FitsRecord w a k f _ = ⊥
 
--- where the upload of a key that was drawn last stands in the order of their making
+-- The place of a key's newest upload among the uploads, oldest first, or None if the key has no upload.
 abbrev pub IsLastAt : List Drawn → List ℕ → Option ℕ → Type 0
 IsLastAt made key None = drawn_in (reverse made) key ≡ nothing_drawn
 IsLastAt made key (Some i) = slice_get made i ≡ Some (drawn_in (reverse made) key)

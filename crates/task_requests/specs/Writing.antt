@@ -1,4 +1,4 @@
--- A write of a magic attempt's files, by how many files are whole and how far the next has come.
+-- How a magic attempt writes its files: how many are complete, and how far the next one has come.
 use Rattle.job_model.specs.Files.{File}
 use Rattle.job_model.specs.JobScript.{Script}
 use Rattle.job_model.specs.Jobs.{Task}
@@ -29,14 +29,14 @@ use Rattle.job_model.specs.declared.ends.TaskEnd.TheVariants as ends
 use Rattle.job_protocol.specs.Writes as writes
 use Rattle.task_requests.specs.declared.stage.WriteStage.TheVariants as stage
 
--- ---- where it stands
+-- ---- how far a write has come
 
--- a file whose parts from these on are to be sent
+-- The write that still has to send these parts of file `f`, then the files `fs`.
 abbrev pub at_parts : File → List File → List (List ℕ) → Write
 at_parts f fs [] = writes.Marking f fs
 at_parts f fs (p ∷ ps) = writes.Uploads f fs (Sending p ps)
 
--- the first of these files has come to this stage
+-- The write whose first remaining file is at this stage; with no file left it has ended with Done.
 abbrev pub at_stage : Script → ℕ → WriteStage → List File → Write
 at_stage w minimum s [] = writes.WriteOver ends.Done
 at_stage w minimum stage.Creating (f ∷ fs) = writes.Uploads f fs Creating
@@ -44,26 +44,26 @@ at_stage w minimum (stage.Sending n) (f ∷ fs) = at_parts f fs (drop n (file_pa
 at_stage w minimum stage.Marking (f ∷ fs) = writes.Marking f fs
 at_stage w minimum stage.Recording (f ∷ fs) = writes.Recording f fs
 
--- so many files are whole, or it has ended
+-- The write of a task after `place` complete files, or the write that ended so.
 abbrev pub write_by : Task → ℕ → WriteStage → Option TaskEnd → Write
 write_by t place s None = at_stage (task_script t) t.minimum s (drop place t.files)
 write_by t place s (Some end) = writes.WriteOver end
 
--- a write of a plan at so many whole files and a stage of the next
+-- A plan with its write, after `place` complete files and at this stage of the next.
 abbrev pub seen_write : Task → ℕ → WriteStage → Option TaskEnd → Attempting Write
 seen_write t place s end = record { plan = t; operation = write_by t place s end }
 
--- behind part n + 1 of so many
+-- The stage after part n + 1 of `count` parts: the next part, or the marker after the last.
 abbrev pub next_stage : ℕ → ℕ → WriteStage
 next_stage n count = cond (nat_lt (n + 1) count) (stage.Sending (n + 1)) stage.Marking
 
--- ---- what is known of the upload that was drawn last
+-- ---- what is known of the newest upload
 
--- none of these uploads has the id
+-- True if none of these uploads has the id.
 abbrev pub is_new : ℕ → List Drawn → Bool
 is_new id ds = list_all (λ d. not (nat_eq d.upload id)) ds
 
--- an upload of which no part was sent, beside what is known
+-- What is known after an upload was created with this key and id.
 abbrev pub with_drawn : Known → List ℕ → ℕ → Known
 with_drawn k key id = record {
   drawn = record { key = key; upload = id; tags = []; sizes = [] } ∷ k.drawn;
@@ -71,21 +71,21 @@ with_drawn k key id = record {
   publish_sent = k.publish_sent;
 }
 
--- the first of them has these parts and no more, under an id of its own
+-- The newest upload has exactly these parts, plain tags, and an id that no older upload has.
 abbrev pub HasSent : List Drawn → List (List ℕ) → Type 0
 HasSent [] parts = ⊥
 HasSent (d ∷ ds) parts = (is_new d.upload ds ≡ true) × (length d.tags ≡ length parts) × (d.sizes ≡ map length parts)
     × (list_all is_plain_tag d.tags ≡ true)
 
--- an upload with one more part
+-- An upload with one more part.
 abbrev pub one_more : Spelled → ℕ → Drawn → Drawn
 one_more tag size d = record { key = d.key; upload = d.upload; tags = d.tags ++ tag ∷ []; sizes = d.sizes ++ size ∷ [] }
 
--- one more part of it came back
+-- What is known after one more part of the newest upload was acknowledged.
 abbrev pub with_tag : Known → Spelled → ℕ → Known
 with_tag k tag size = record { drawn = with_last tag size k.drawn; put_sent = k.put_sent; publish_sent = k.publish_sent }
 
--- what is known of the file that is under way: as many parts as its stage says
+-- The newest upload has as many parts as the stage of the current file says.
 abbrev pub HoldsAt : Script → ℕ → Known → WriteStage → List File → Type 0
 HoldsAt w minimum k s [] = Unit {0}
 HoldsAt w minimum k stage.Creating (f ∷ fs) = Unit {0}
@@ -93,133 +93,133 @@ HoldsAt w minimum k (stage.Sending n) (f ∷ fs) = (n < length (file_parts w min
 HoldsAt w minimum k stage.Marking (f ∷ fs) = HasSent k.drawn (file_parts w minimum f)
 HoldsAt w minimum k stage.Recording (f ∷ fs) = HasSent k.drawn (file_parts w minimum f)
 
--- the parts that came back are those that were sent
+-- The newest upload has the parts that the attempt sent for its current file.
 abbrev pub Holds : Task → ℕ → WriteStage → Type 0
 Holds t place s = HoldsAt (task_script t) t.minimum t.known s (drop place t.files)
 
--- the directory of an attempt
+-- The directory of an attempt.
 abbrev pub dir_of : Task → Path
 dir_of t = record { bucket = t.job.dest.bucket; key = layout.attempt_key t.job.dest.key t.job.job t.task t.attempt }
 
--- while it has not ended it is about one of the files
+-- A write that has not ended has a current file.
 abbrev pub IsOpen : Option TaskEnd → ℕ → List File → Type 0
 IsOpen None place fs = place < length fs
 IsOpen (Some end) place fs = Unit {0}
 
--- what a machine keeps: its request is the one that is wanted
+-- What a machine keeps of a write; its pending request is the one that the write sends next.
 pub record IsWrite (t : Task) (base : Path) (place : ℕ) (s : WriteStage) (end : Option TaskEnd) (request : Option Request) : Type 0 where
   pub dir : base ≡ dir_of t
   pub asked : request ≡ write_wants (seen_write t place s end)
   pub holds : Holds t place s
   pub within : IsOpen end place t.files
 
--- ---- what fits, and what is left
+-- ---- which replies fit, and how many requests are left
 
--- an id that is none of the known ones
+-- A reply to CreateUpload: an id that none of the known uploads has.
 abbrev pub FitsCreate : List Drawn → Reply → Type 0
 FitsCreate ds (Upload id) = is_new id ds ≡ true
 FitsCreate ds _ = ⊥
 
--- the tag of a part, or that the upload is not there
+-- A reply to UploadPart: a plain tag, or that the upload does not exist.
 abbrev pub FitsPart : Reply → Type 0
 FitsPart (Part tag) = is_plain_tag tag ≡ true
 FitsPart (Refused NoSuchUpload) = Unit {0}
 FitsPart _ = ⊥
 
--- a reply that the upload of a file may be told
+-- A reply that the upload of a file may receive.
 abbrev pub FitsUpload : List Drawn → Uploading → Reply → Type 0
 FitsUpload ds Creating r = FitsCreate ds r
 FitsUpload ds (Sending p ps) r = FitsPart r
 
--- a reply that a write may be told
+-- A reply that a write may receive.
 abbrev pub FitsWrite : Known → Write → Reply → Type 0
 FitsWrite k (writes.Uploads f fs u) r = FitsUpload k.drawn u r
 FitsWrite k _ r = Unit {0}
 
--- a reply that a write of a plan may be told
+-- A reply that a plan's write may receive.
 abbrev pub write_fits : Attempting Write → Reply → Bool → Type 0
 write_fits m r repeated = FitsWrite m.plan.known m.operation r
 
--- the requests of a file: the upload is begun, its parts sent, its marker and its record put
+-- How many requests a file needs: its upload, its parts, its marker and its record.
 abbrev pub file_left : Script → ℕ → File → ℕ
 file_left w minimum f = 3 + length (file_parts w minimum f)
 
--- the requests that these files have yet to send
+-- How many requests these files still need.
 abbrev pub files_left : Script → ℕ → List File → ℕ
 files_left w minimum [] = 0
 files_left w minimum (f ∷ fs) = file_left w minimum f + files_left w minimum fs
 
--- the requests that a file under way has yet to send
+-- How many requests the current file still needs while it is uploaded.
 abbrev pub upload_left : Script → ℕ → File → Uploading → ℕ
 upload_left w minimum f Creating = 3 + length (file_parts w minimum f)
 upload_left w minimum f (Sending p ps) = 3 + length ps
 
--- the requests that a write has yet to send
+-- How many requests a write still has to send.
 abbrev pub left_of : Script → ℕ → Write → ℕ
 left_of w minimum (writes.Uploads f fs u) = upload_left w minimum f u + files_left w minimum fs
 left_of w minimum (writes.Marking f fs) = 2 + files_left w minimum fs
 left_of w minimum (writes.Recording f fs) = 1 + files_left w minimum fs
 left_of w minimum (writes.WriteOver end) = 0
 
--- the requests that a write of a plan has yet to send
+-- How many requests a plan's write still has to send.
 abbrev pub write_left : Attempting Write → Scene → ℕ
 write_left m s = left_of (task_script m.plan) m.plan.minimum m.operation
 
 -- ---- a file of the plan
 
--- a plan within its bounds, and a path that it may give a file
+-- A plan within its bounds, and a path that it may give a file.
 pub record IsNamed (t : Task) (path : List ℕ) : Type 0 where
   pub job : IsJob t.job
   pub task : IsTask t
   pub placed : IsPlaced t.job.job path
 
--- a file that a plan may have: its path, and its length within a script's
+-- A file that a plan may have: an allowed path, and a length within the limit of scripts.
 pub record IsFile (t : Task) (f : File) : Type 0 where
   pub named : IsNamed t f.0
   pub short : length f.1 ≤ MOST_SCRIPT_BYTES
 
--- the size in bytes of its parts
+-- The part size in bytes that a task uses for these bytes.
 abbrev pub size_of : Task → List ℕ → ℕ
 size_of t bytes = block_of (length bytes) t.block t.minimum
 
--- the part of a file behind so many others
+-- The part that follows `n` parts of a file.
 abbrev pub part_behind : Task → List ℕ → ℕ → List ℕ
 part_behind t bytes n = take (size_of t bytes) (drop (n * size_of t bytes) bytes)
 
--- how many parts bytes are cut into
+-- How many parts the bytes are cut into.
 abbrev pub count_of : Task → List ℕ → ℕ
 count_of t bytes = length (parts_of (size_of t bytes) bytes)
 
--- its parts
+-- The parts of a file.
 abbrev pub parts_in : Task → File → List (List ℕ)
 parts_in t f = file_parts (task_script t) t.minimum f
 
 -- ---- what a reply says
 
--- the upload's id that a reply has, or none
+-- The upload id in a reply, or None.
 abbrev pub upload_in : Reply → Option ℕ
 upload_in (Upload id) = Some id
 upload_in _ = None
 
--- the part's tag that a reply has, or none
+-- The part's tag in a reply, or None.
 abbrev pub tag_in : Reply → Option Spelled
 tag_in (Part tag) = Some tag
 tag_in _ = None
 
--- ---- what is asked behind a part
+-- ---- the request after a part
 
--- the stage of a file of which a part was just answered
+-- If the next request sends a part, the file has that part and the attempt knows an upload.
 abbrev pub IsBehind : List (List ℕ) → List Drawn → WriteStage → Type 0
 IsBehind parts ds (stage.Sending n) = (n < length parts) × (0 < length ds)
 IsBehind parts ds _ = Unit {0}
 
--- the next part of the upload that was drawn last, else the marker
+-- The request after a part: the next part for the newest upload, or the put of the marker.
 abbrev pub asks_behind : Task → File → WriteStage → Request
 asks_behind t f (stage.Sending n) = UploadPart t.job.dest.bucket (file_key (task_script t) f) (drawn_last t.known).upload (n + 1)
     (part_behind t f.1 n)
 asks_behind t f _ = PutObject t.job.dest.bucket (marker_key (task_script t) (who_of t) f) [] (Some (length f.1))
 
--- the end of a write that asks nothing
+-- The end of a write that has no next request: Done.
 abbrev pub ended_by : Option Request → Option TaskEnd
 ended_by (Some r) = None
 ended_by None = Some ends.Done

@@ -11,7 +11,7 @@ fn greater(a: u64, b: u64) -> u64
     if a < b { b } else { a }
 }
 
-/// A quotient, rounded up.
+/// Returns `n` divided by `d`, rounded up.
 fn quotient_up(n: u64, d: u64) -> u64
     requires some { 1 ≤ d }
     requires fits { n + d < 2 ^ 64 }
@@ -20,7 +20,7 @@ fn quotient_up(n: u64, d: u64) -> u64
     (n + (d - 1)) / d
 }
 
-/// The size in bytes of the parts of a file of this length.
+/// Returns the part size in bytes for a file of this length.
 pub fn part_size(length: u64, block: u64, minimum: u64) -> u64
     requires { length < 2 ^ 32 }
     ensures { result ≡ block_of length block minimum }
@@ -31,7 +31,7 @@ pub fn part_size(length: u64, block: u64, minimum: u64) -> u64
     )
 }
 
-/// The number of the parts of a file of this length, of this size in bytes each.
+/// Returns how many parts of `size` bytes a file of this length has, at least 1.
 pub fn part_count(length: u64, size: u64) -> u64
     requires some { 1 ≤ size }
     requires fits { length + size < 2 ^ 64 }
@@ -40,8 +40,8 @@ pub fn part_count(length: u64, size: u64) -> u64
     greater(1, quotient_up(length, size))
 }
 
-/// The part of a file behind so many parts of this size. A file of one part is shared, and else the part's
-/// bytes are copied.
+/// Returns the part that follows `behind` parts of `size` bytes. A file of a single part shares its
+/// bytes; other parts are copied.
 pub fn part(alloc: Global, bytes: &Bytes, size: u64, behind: u64) -> Result<Bytes, AllocError>
     requires { behind * size < 2 ^ 63 }
     ensures { IfOk result (λ part. part ≡ take size (drop (behind * size) bytes.now)) }
@@ -63,7 +63,7 @@ pub fn part(alloc: Global, bytes: &Bytes, size: u64, behind: u64) -> Result<Byte
     }
 }
 
-/// The length in bytes of that part.
+/// Returns the length in bytes of the part that follows `behind` parts of `size` bytes.
 pub fn part_length(length: u64, size: u64, behind: u64) -> u64
     requires { behind * size < 2 ^ 63 }
     ensures { result ≡ min size (length - behind * size) }

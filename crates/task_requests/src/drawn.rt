@@ -6,28 +6,28 @@ use job_model::{DrawnPart, DrawnUpload, Knowledge};
 use s3_types::{Sequence, SizeList, TagList, let_go};
 use std::alloc::{AllocError, Global};
 
-/// The uploads in the order of their making. Takes no memory.
+/// Returns the uploads that the attempt created, oldest first. Takes no memory.
 pub fn made(known: &Knowledge) -> &[DrawnUpload]
     ensures { result.now ≡ as_made known.now.drawn }
 {
     known.as_made()
 }
 
-/// The upload behind so many in the order of their making. Takes no memory.
+/// Returns upload number `at`, counted from 0 with the oldest first. Takes no memory.
 pub fn made_at(known: &Knowledge, at: usize) -> Option<&DrawnUpload>
     ensures { option_copied result ≡ slice_get (as_made known.now.drawn) at }
 {
     made(known).get(at)
 }
 
-/// The upload that was drawn last, if there is one. Takes no memory.
+/// Returns the newest upload, if there is one. Takes no memory.
 pub fn last_drawn(known: &Knowledge) -> Option<&DrawnUpload>
     ensures { option_copied result ≡ slice_get known.now.drawn 0 }
 {
     known.as_made().last()
 }
 
-/// The tags of an upload's parts.
+/// Returns the tags of an upload's parts.
 pub fn tags_of(alloc: Global, drawn: &DrawnUpload) -> Result<TagList, AllocError>
     ensures { IfOk result (λ tags. tags ≡ drawn.now.tags) }
 {
@@ -42,7 +42,7 @@ pub fn tags_of(alloc: Global, drawn: &DrawnUpload) -> Result<TagList, AllocError
     Ok(tags)
 }
 
-/// The sizes of an upload's parts in bytes.
+/// Returns the sizes in bytes of an upload's parts.
 pub fn sizes_of(alloc: Global, drawn: &DrawnUpload) -> Result<SizeList, AllocError>
     ensures { IfOk result (λ sizes. sizes ≡ drawn.now.sizes) }
 {
@@ -57,7 +57,7 @@ pub fn sizes_of(alloc: Global, drawn: &DrawnUpload) -> Result<SizeList, AllocErr
     Ok(sizes)
 }
 
-/// The same, with one more part behind them.
+/// Returns the tags of an upload's parts, followed by that of one more part.
 pub fn tags_with(
     alloc: Global,
     drawn: &DrawnUpload,
@@ -70,7 +70,7 @@ pub fn tags_with(
     Ok(tags)
 }
 
-/// The same, with one more part behind them.
+/// Returns the sizes in bytes of an upload's parts, followed by that of one more part.
 pub fn sizes_with(
     alloc: Global,
     drawn: &DrawnUpload,

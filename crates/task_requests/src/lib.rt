@@ -1,12 +1,12 @@
-//! What an attempt sends to upload its files and to publish them, made from its plan: the uploads and their
-//! parts, the records and the task's set, and of the magic committer the markers. (Hadoop, S3A committer
-//! architecture.)
+//! Builds the requests that a task attempt sends to upload its files and to publish them: uploads
+//! and their parts, records, the task's set and, for the magic committer, markers. Each request is
+//! made from the attempt's plan. (Hadoop, S3A committer architecture.)
 //!
 //! # What is proved
 //!
-//! `ask`, `publish_request`: What an attempt sends, made from its plan: what a magic write asks at each
-//! stage of a file, with the record that each committer writes, and the put of the set of the uploads
-//! that it knows.
+//! - `ask` returns the request that a magic write sends at each stage of a file.
+//! - The record of a file is the one that the job's committer writes.
+//! - `publish_request` returns the put of the set, made from the uploads that the attempt knows.
 #![tactic(auto)]
 
 mod cutting;

@@ -11,7 +11,7 @@ use path_keys::S3Path;
 use s3_types::{Bucket, Bytes, Key, Text, let_go};
 use std::alloc::{AllocError, Global};
 
-/// The job of a plan, which keeps its bounds. Takes no memory.
+/// Returns the job of a plan, which keeps within its bounds. Takes no memory.
 pub fn job_of(plan: &TaskPlan) -> &JobPlan
     ensures value { result.now ≡ plan.now.job }
     ensures job { IsJob plan.now.job }
@@ -22,7 +22,7 @@ pub fn job_of(plan: &TaskPlan) -> &JobPlan
     job
 }
 
-/// The directory of an attempt.
+/// Returns the directory of an attempt.
 pub fn directory(alloc: Global, plan: &TaskPlan) -> Result<S3Path, AllocError>
     ensures { IfOk result (λ dir. dir ≡ dir_of plan.now) }
 {
@@ -30,7 +30,7 @@ pub fn directory(alloc: Global, plan: &TaskPlan) -> Result<S3Path, AllocError>
     attempt_dir(alloc, &job.dest, &job.job, plan.task, plan.attempt)
 }
 
-/// What the keys below the directory of an attempt begin with.
+/// Returns the prefix of the keys below an attempt's directory.
 pub fn prefix(alloc: Global, plan: &TaskPlan) -> Result<Text, AllocError>
     ensures { IfOk result (λ prefix. prefix ≡ attempt_prefix (task_script plan.now) (who_of plan.now)) }
 {
@@ -40,7 +40,7 @@ pub fn prefix(alloc: Global, plan: &TaskPlan) -> Result<Text, AllocError>
     prefix
 }
 
-/// A file by its place in the script's order. Takes no memory.
+/// Returns the file at a place, counted from 0 in the script's order. Takes no memory.
 pub fn file_at(plan: &TaskPlan, place: usize) -> Option<(&Text, &Bytes)>
     ensures file { option_map (λ f. (f.0.now, f.1.now)) result ≡ slice_get plan.now.files place }
     ensures is { IfSome result (λ f. IsFile plan.now (f.0.now, f.1.now)) }
@@ -49,7 +49,7 @@ pub fn file_at(plan: &TaskPlan, place: usize) -> Option<(&Text, &Bytes)>
     plan.files.held().get_index(place)
 }
 
-/// The bucket of the destination. Takes no memory.
+/// Returns the bucket of the destination. Takes no memory.
 pub fn bucket_of(plan: &TaskPlan) -> &Bucket
     ensures { result.now ≡ plan.now.job.dest.bucket }
 {
@@ -57,7 +57,7 @@ pub fn bucket_of(plan: &TaskPlan) -> &Bucket
     job.dest.bucket()
 }
 
-/// The key where a file will be.
+/// Returns the key under which a file appears once the job commits.
 pub fn target(alloc: Global, plan: &TaskPlan, path: &Text) -> Result<Key, AllocError>
     requires { IsNamed plan.now path.now }
     ensures { IfOk result (λ key. key ≡ below plan.now.job.dest.key path.now) }
@@ -66,7 +66,7 @@ pub fn target(alloc: Global, plan: &TaskPlan, path: &Text) -> Result<Key, AllocE
     file_key(alloc, &job.dest, path)
 }
 
-/// The key of a file's marker.
+/// Returns the key of a file's marker.
 pub fn marker(alloc: Global, plan: &TaskPlan, dir: &S3Path, path: &Text) -> Result<Key, AllocError>
     requires dir { dir.now ≡ dir_of plan.now }
     requires named { IsNamed plan.now path.now }
@@ -76,7 +76,7 @@ pub fn marker(alloc: Global, plan: &TaskPlan, dir: &S3Path, path: &Text) -> Resu
     file_key(alloc, dir, path)
 }
 
-/// The path of a file's record.
+/// Returns the path of a file's record.
 fn pending_path(alloc: Global, path: &Text) -> Result<Text, AllocError>
     ensures { IfOk result (λ name. name ≡ path.now ++ codes ".pending") }
 {
@@ -84,7 +84,7 @@ fn pending_path(alloc: Global, path: &Text) -> Result<Text, AllocError>
     Text::new(alloc, format!(in alloc; "{path}.pending")?)
 }
 
-/// The key of a file's record.
+/// Returns the key of a file's record.
 pub fn record(alloc: Global, plan: &TaskPlan, dir: &S3Path, path: &Text) -> Result<Key, AllocError>
     requires dir { dir.now ≡ dir_of plan.now }
     requires named { IsNamed plan.now path.now }

@@ -17,7 +17,7 @@ use pending_json::{PendingList, PendingSet, PendingUpload};
 use s3_types::{Bytes, Request, Sequence, Text, both, let_go};
 use std::alloc::{AllocError, Global};
 
-/// Notes the place of one more upload by its key.
+/// Maps the key of one more upload to its place.
 fn add_place(
     places: &mut IndexMap<Text, usize>,
     drawn: &DrawnUpload,
@@ -36,7 +36,7 @@ fn add_place(
     }
 }
 
-/// Of each key of an upload the place of the one that was drawn last, in the order of their making.
+/// Maps each key to the place of its newest upload, counted from the oldest.
 pub fn last_places(alloc: Global, made: &[DrawnUpload]) -> Result<IndexMap<Text, usize>, AllocError>
     ensures { IfOk result (λ places. (key : List ℕ) → IsLastAt made.now key (get text_eq places key)) }
 {
@@ -50,7 +50,7 @@ pub fn last_places(alloc: Global, made: &[DrawnUpload]) -> Result<IndexMap<Text,
     Ok(places)
 }
 
-/// The record of the file at a place.
+/// Returns the record of the file at a place.
 fn pending_at(
     alloc: Global,
     plan: &TaskPlan,
@@ -77,7 +77,7 @@ fn pending_at(
     pending(alloc, plan, path, bytes, drawn)
 }
 
-/// The records of the files at these places.
+/// Returns the records of the files at these places.
 fn pendings(alloc: Global, plan: &TaskPlan, places: &[usize]) -> Result<PendingList, AllocError>
     requires within { are_places (length plan.now.files) places.now ≡ true }
     requires ready { AreReady plan.now (picked plan.now.files places.now) }
@@ -102,7 +102,7 @@ fn pendings(alloc: Global, plan: &TaskPlan, places: &[usize]) -> Result<PendingL
     Ok(list)
 }
 
-/// The text of the set that publishes the files at these places.
+/// Returns the text of the set that publishes the files at these places.
 fn set_bytes(alloc: Global, plan: &TaskPlan, places: &[usize]) -> Result<Bytes, AllocError>
     requires within { are_places (length plan.now.files) places.now ≡ true }
     requires ready { AreReady plan.now (picked plan.now.files places.now) }
@@ -121,7 +121,7 @@ fn set_bytes(alloc: Global, plan: &TaskPlan, places: &[usize]) -> Result<Bytes, 
     bytes
 }
 
-/// The put of the set that publishes the files at these places.
+/// Returns the put of the set that publishes the files at these places.
 pub fn publish_request(
     alloc: Global,
     plan: &TaskPlan,

@@ -20,7 +20,7 @@ use s3_types::{
 };
 use std::alloc::{AllocError, Global};
 
-/// The size in bytes of the parts of a file. Takes no memory.
+/// Returns the part size in bytes for a file. Takes no memory.
 fn size_of(plan: &TaskPlan, bytes: &Bytes) -> u64
     requires { length bytes.now ≤ MOST_SCRIPT_BYTES }
     ensures { result ≡ size_of plan.now bytes.now }
@@ -28,7 +28,7 @@ fn size_of(plan: &TaskPlan, bytes: &Bytes) -> u64
     part_size(bytes.as_slice().len() as u64, plan.block, plan.minimum)
 }
 
-/// The number of the parts of a file. Takes no memory.
+/// Returns how many parts a file has. Takes no memory.
 fn count_of(plan: &TaskPlan, bytes: &Bytes) -> u64
     requires task { IsTask plan.now }
     requires short { length bytes.now ≤ MOST_SCRIPT_BYTES }
@@ -38,7 +38,8 @@ fn count_of(plan: &TaskPlan, bytes: &Bytes) -> u64
     part_count(bytes.as_slice().len() as u64, size)
 }
 
-/// The sizes that a record tells: a magic attempt's tells them, a staging one's does not. Takes no memory.
+/// Returns the part sizes that a record lists: the magic committer's records list them, a staging
+/// committer's do not. Takes no memory.
 fn told_sizes(plan: &TaskPlan, sizes: SizeList) -> Option<SizeList>
     ensures { result ≡ sizes_by plan.now.job.committer sizes }
 {
@@ -48,7 +49,7 @@ fn told_sizes(plan: &TaskPlan, sizes: SizeList) -> Option<SizeList>
     }
 }
 
-/// The record of a file's upload with these tags and sizes of its parts.
+/// Returns the record of a file's upload, with these tags and sizes of its parts.
 fn made_record(
     alloc: Global,
     plan: &TaskPlan,
@@ -83,7 +84,7 @@ fn made_record(
     ))
 }
 
-/// The record of a file whose parts have all come back.
+/// Returns the record of a file whose parts have all been acknowledged.
 pub fn pending(
     alloc: Global,
     plan: &TaskPlan,
@@ -101,7 +102,7 @@ pub fn pending(
     made_record(alloc, plan, path, bytes, drawn.upload, tags, sizes)
 }
 
-/// The record of a file of whose upload one more part has come back, the last one.
+/// Returns the record of a file whose last part, `part`, has just been acknowledged.
 pub fn pending_with(
     alloc: Global,
     plan: &TaskPlan,
@@ -124,7 +125,7 @@ pub fn pending_with(
     made_record(alloc, plan, path, bytes, drawn.upload, tags, sizes)
 }
 
-/// The request that aborts an upload.
+/// Returns the request that aborts an upload.
 pub fn abort_request(bucket: &Bucket, drawn: &DrawnUpload) -> Result<Option<Request>, AllocError>
     ensures { IfOk result (λ request. request ≡ Some (Request.AbortUpload bucket.now drawn.now.key drawn.now.upload)) }
 {
@@ -134,7 +135,7 @@ pub fn abort_request(bucket: &Bucket, drawn: &DrawnUpload) -> Result<Option<Requ
     }
 }
 
-/// The beginning of the upload of a file.
+/// Returns the request that creates a file's upload.
 pub fn ask_upload(alloc: Global, plan: &TaskPlan, path: &Text) -> Result<Request, AllocError>
     requires { IsNamed plan.now path.now }
     ensures { IfOk result (λ r. r ≡ Request.CreateUpload plan.now.job.dest.bucket
@@ -144,7 +145,7 @@ pub fn ask_upload(alloc: Global, plan: &TaskPlan, path: &Text) -> Result<Request
     Request::create_upload(bucket_of(plan), &key)
 }
 
-/// The sending to a file's key of the part behind so many others.
+/// Returns the request that uploads to `key` the part that follows `behind` others.
 pub fn ask_part(
     alloc: Global,
     plan: &TaskPlan,
@@ -164,7 +165,8 @@ pub fn ask_part(
     Request::upload_part(bucket_of(plan), key, upload, behind as u32 + 1, &part)
 }
 
-/// The put of a file's marker, which has no bytes and the file's length as header.
+/// Returns the put of a file's marker, which has no bytes and carries the file's length in its
+/// header.
 fn ask_marker(
     alloc: Global,
     plan: &TaskPlan,
@@ -184,7 +186,7 @@ fn ask_marker(
     asked
 }
 
-/// The text of a file's record.
+/// Returns the text of a file's record.
 fn record_text(
     alloc: Global,
     plan: &TaskPlan,
@@ -227,7 +229,7 @@ fn ask_record(
     asked
 }
 
-/// The stage behind a part of a file that is sent behind so many others, and the part's length in bytes.
+/// Returns the stage that follows part `sent + 1` of a file, and the length in bytes of that part.
 /// Takes no memory.
 pub fn behind(plan: &TaskPlan, bytes: &Bytes, sent: u64) -> (WriteStage, u64)
     requires task { IsTask plan.now }
@@ -246,7 +248,7 @@ pub fn behind(plan: &TaskPlan, bytes: &Bytes, sent: u64) -> (WriteStage, u64)
     }
 }
 
-/// The part behind so many others, of the upload that was drawn last.
+/// Returns the request that sends the part after `sent` others to the newest upload.
 pub fn ask_next(
     alloc: Global,
     plan: &TaskPlan,
@@ -266,7 +268,8 @@ pub fn ask_next(
     ask_part(alloc, plan, bytes, &key, drawn.upload, sent)
 }
 
-/// What is asked behind a part of a file: the next part of the upload that was drawn last, or its marker.
+/// Returns the request that follows a part: the next part for the newest upload, or the put of the
+/// file's marker.
 pub fn ask_behind(
     alloc: Global,
     plan: &TaskPlan,
@@ -287,7 +290,7 @@ pub fn ask_behind(
     ask_next(alloc, plan, path, bytes, sent)
 }
 
-/// What is asked at a stage of a file; nothing where no file is left.
+/// Returns the request for this stage of the file at a place, or None if no file is left.
 pub fn ask(
     alloc: Global,
     plan: &TaskPlan,

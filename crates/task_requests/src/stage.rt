@@ -1,12 +1,12 @@
-/// How far the present file of a write has come.
+/// The next request that a write sends for its current file.
 #[derive(Clone, Copy)]
 pub enum WriteStage {
-    /// Its upload is begun.
+    /// Creates the file's upload.
     Creating,
-    /// So many of its parts were sent, and the next one is.
+    /// Sends the next part; this many parts have been sent.
     Sending(u64),
-    /// Its marker is put.
+    /// Puts the file's marker.
     Marking,
-    /// Its record is put.
+    /// Puts the file's record.
     Recording,
 }

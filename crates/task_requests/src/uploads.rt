@@ -10,7 +10,7 @@ use job_model::TaskPlan;
 use s3_types::{Reply, Request, Tag, let_go};
 use std::alloc::{AllocError, Global};
 
-/// The id of an upload that is begun. Takes no memory.
+/// Returns the upload id in a reply, if it has one. Takes no memory.
 pub fn upload_in(reply: &Reply) -> Option<u64>
     ensures { result ≡ upload_in reply.now }
 {
@@ -20,7 +20,7 @@ pub fn upload_in(reply: &Reply) -> Option<u64>
     }
 }
 
-/// The tag of a part. Takes no memory.
+/// Returns the part's tag in a reply, if it has one. Takes no memory.
 pub fn tag_in(reply: &Reply) -> Option<Tag>
     ensures { result ≡ tag_in reply.now }
 {
@@ -30,8 +30,8 @@ pub fn tag_in(reply: &Reply) -> Option<Tag>
     }
 }
 
-/// The upload of the file at a place is begun under this id: its first part is asked. After want of memory the plan
-/// is as before.
+/// Notes in the plan that S3 created an upload with this id for the file at a place, and returns
+/// the request for its first part. If memory runs out, the plan is unchanged.
 pub fn begin_upload(
     alloc: Global,
     plan: &mut TaskPlan,
@@ -63,8 +63,8 @@ pub fn begin_upload(
     }
 }
 
-/// A part of the upload that was drawn last came back, and this is asked next. After want of memory the plan is as
-/// before.
+/// Notes in the plan that S3 acknowledged a part of the newest upload, and returns `asked`, the
+/// next request. If memory runs out, the plan is unchanged.
 pub fn note_part(
     plan: &mut TaskPlan,
     asked: Request,

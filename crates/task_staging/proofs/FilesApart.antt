@@ -1,4 +1,4 @@
--- The files of an attempt in order: each stands at a key of its own.
+-- The files of an attempt in order; each has a key of its own.
 use Rattle.basics.proofs.Bools.{contrary}
 use Rattle.basics.proofs.Lists.{front_cancels}
 use Rattle.basics.specs.Order.{text_eq}
@@ -41,7 +41,7 @@ other_key : (key p q : List ℕ) → text_eq p q ≡ false → text_eq (below ke
 other_key key p q h = contrary (text_eq (below key p) (below key q)) (λ e. sym h ∙ (bytes_decides p q).1
     (below_same key p q ((bytes_decides (below key p) (below key q)).0 e)))
 
--- these files have other keys
+-- These files have other keys than `key`.
 abbrev pub AreOthers : Script → List ℕ → List File → Type 0
 AreOthers w key [] = Unit {0}
 AreOthers w key (g ∷ fs) = (text_eq key (file_key w g) ≡ false) × AreOthers w key fs

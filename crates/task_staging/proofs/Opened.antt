@@ -24,7 +24,7 @@ pub all_to_check : (t : Task) (j : Job) (b : Bool) → j ≡ t.job → b ≡ che
     → partitions (map (λ f. f.0) t.files) ≡ to_check (task_script t) (who_of t)
 all_to_check t j b h g e = grind (arith, partitions_of_ordered, own_files, checked_by)
 
--- one path more
+-- One more path.
 pub paths_more : (fs : List File) (place : ℕ) → place < length fs → (paths : List (List ℕ)) (p : List ℕ)
     → paths ≡ map (λ f. f.0) (take place fs) → p ≡ (get_or fs place ([], [])).0 → paths ++ p ∷ [] ≡ map (λ f. f.0) (take (place + 1) fs)
 paths_more fs place h paths p e g =

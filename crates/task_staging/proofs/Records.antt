@@ -1,4 +1,4 @@
--- The records of files that are uploaded stay while the next file is, and its own comes behind them.
+-- The records of the uploaded files stay the same while the next file is uploaded, whose record then follows them.
 use Rattle.basics.specs.Order.{text_eq}
 use Rattle.job_model.specs.Files.{File}
 use Rattle.job_model.specs.Jobs.{Task}
@@ -20,7 +20,7 @@ use Rattle.task_requests.specs.Writing.{HasSent, one_more, parts_in, with_drawn,
 use Rattle.task_staging.proofs.FilesApart.{AreOthers, others_before}
 use Rattle.task_staging.specs.Staging.{IsLastPart, IsOfKey, set_of}
 
--- ---- an upload that is begun
+-- ---- an upload was created
 
 drawn_still : (t : Task) (key : List ℕ) (id : ℕ) (fs : List File) → AreOthers (task_script t) key fs
     → records_of (with_known t (with_drawn t.known key id)) fs ≡ records_of t fs
@@ -41,7 +41,7 @@ set_drawn t place id k h =
     let key = file_key (task_script t) (get_or t.files place ([], [])) in
     sym (ap (with_records t) (drawn_still t key id (take place t.files) (others_before (task_script t) t.job.job t.files place k.files h)))
 
--- ---- a part that came back
+-- ---- a part was acknowledged
 
 part_there : (tag : Spelled) (size : ℕ) (key : List ℕ) (ds : List Drawn) (other : List ℕ) → IsOfKey key ds → text_eq key other ≡ false
     → drawn_in (with_last tag size ds) other ≡ drawn_in ds other
@@ -96,7 +96,7 @@ module _ (t : Task) (place : ℕ) (tag : Spelled) (size : ℕ) (k : IsTask t) (h
             [];
       } in s) e ∙ sym (ap (with_records t) all))
 
--- ---- the record of a file whose last part came back
+-- ---- the record of a file whose last part was acknowledged
 
 first_more : (tag : Spelled) (size : ℕ) (ds : List Drawn) (d : Drawn) → Some d ≡ slice_get ds 0
     → Some (one_more tag size d) ≡ slice_get (with_last tag size ds) 0

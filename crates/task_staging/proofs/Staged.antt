@@ -1,4 +1,4 @@
--- What a staged commit asks, and where replies lead it.
+-- The requests of a staging commit, and the commit after a reply.
 use Rattle.basics.proofs.Naturals.{at_most_is, at_most_so}
 use Rattle.conflict.proofs.Tells.{checks_tell}
 use Rattle.conflict.specs.Checks.{check_asks, found_below, is_none, left_after}
@@ -65,7 +65,7 @@ pub start_is : (t : Task) (ds : List (List ℕ)) → (t.job.committer ≡ Magic 
     → opening ds t.files ≡ task_commit_start (task_script t) (who_of t)
 start_is t ds h g = grind (arith, opened)
 
--- ---- where it stands, by equations
+-- ---- how far the commit has come, by equations
 
 is_empty : (ds : List (List ℕ)) → is_none ds ≡ true → ds ≡ []
 is_empty ds h = grind arith
@@ -91,7 +91,7 @@ module _ (t : Task) (s : Stage) (ds : List (List ℕ)) (place : ℕ) (end : Opti
   as_renaming : s ≡ stages.Renaming → staged_by t s ds place end ≡ Renaming
   as_renaming i = ap (staged_by t s ds place) e ∙ ap (λ x. staged_by t x ds place None) i
 
--- the parts of the file at a place that came back
+-- The newest upload has `n` parts of the file at a place, but not all.
 pub record IsSent (t : Task) (place n : ℕ) : Type 0 where
   pub within : place < length t.files
   pub more : n < length (parts_in t (file_at t place))
@@ -113,7 +113,7 @@ is_sent t s ds place n h i = by (drop place t.files) refl (subst (λ x. HoldsAt 
 pub none_checked : (t : Task) (s : Stage) (ds : List (List ℕ)) (place n : ℕ) → HoldsAt t s ds place → s ≡ stages.Sending n → ds ≡ []
 none_checked t s ds place n h i = (subst (λ x. HoldsAt t x ds place) i h).0
 
--- the same of what is kept
+-- The same for what a commit keeps.
 pub sent_here : (t : Task) (h : Staging) (n : ℕ) → h.end ≡ None → KeepsBy t h h.end → h.stage ≡ stages.Sending n → IsSent t h.place n
 sent_here t h n e k i = is_sent t h.stage h.checks h.place n (holds_open t h e k).at i
 
@@ -121,7 +121,7 @@ pub part_behind_is : {t : Task} {place n : ℕ} → IsSent t place n
     → IsBehind (parts_in t (file_at t place)) t.known.drawn (write_stages.Sending n)
 part_behind_is {t = t} {place = place} {n = n} k = (k.more, some_drawn t.known.drawn (take n (parts_in t (file_at t place))) k.sent)
 
--- ---- what it asks
+-- ---- the next request
 
 pub asks_check : (t : Task) (s : Stage) (ds : List (List ℕ)) (place : ℕ) (end : Option TaskEnd) → end ≡ None → s ≡ stages.Opening
     → is_none ds ≡ false → check_asks t.job.dest ds ≡ task_commit_wants (at t (staged_by t s ds place end))
@@ -196,7 +196,7 @@ module _ (t : Task) (s : Stage) (ds : List (List ℕ)) (place : ℕ) (end : Opti
   pub passed_holds : (left : List (List ℕ)) → HoldsAt t s ds place → HoldsAt t s left place
   passed_holds left h = grind arith
 
--- ---- an upload is begun
+-- ---- an upload was created
 
 reply_upload : (r : Reply) (id : ℕ) → Some id ≡ upload_in r → r ≡ Upload id
 reply_upload r id h = grind arith
@@ -265,7 +265,7 @@ module _ (t : Task) (s : Stage) (ds : List (List ℕ)) (place : ℕ) (end : Opti
       → Some r ≡ task_commit_wants (at t' (staged_by t' stages.Renaming ds place end))
   stored_next r h = grind arith
 
--- ---- a part came back
+-- ---- a part was acknowledged
 
 part_told : (t : Task) (f : File) (fs : List File) (n : ℕ) (tag : Spelled) (b : Bool) → n < length (parts_in t f)
     → HasSent t.known.drawn (take n (parts_in t f))
@@ -397,7 +397,7 @@ pub rename_told : (t : Task) (s : Stage) (ds : List (List ℕ)) (place : ℕ) (e
     → at t' (TaskCommitOver x) ≡ task_commit_told (at t (staged_by t s ds place end)) (Got r b)
 rename_told t s ds place end r b x t' h g e f = grind arith
 
--- ---- a request wore out
+-- ---- a request exhausted its retries
 
 Tells : Task → TaskCommit → Type 0
 Tells t o = learned (task_script t) (who_of t) t.known (task_commit_wants (at t o)) WornOut ≡ worn_known o t.known
@@ -432,7 +432,7 @@ unfolding Tells
 worn_told t t' s ds place end u = ap (λ x. at x (TaskCommitOver ends.StoreFault)) u ∙ ap
     (λ k. at (with_known t k) (TaskCommitOver ends.StoreFault)) (sym (worn_by t s ds place end))
 
--- what is known then
+-- What is known after the put of the set exhausted its retries.
 module _ (t : Task) (s : Stage) (ds : List (List ℕ)) (place : ℕ) (end : Option TaskEnd) (e : end ≡ None) where
   pub worn_stored : s ≡ stages.Opening → (is_none ds && nat_le (length t.files) place) ≡ true
       → put_known t.known ≡ worn_known (staged_by t s ds place end) t.known
@@ -470,7 +470,7 @@ module _ (t : Task) (s : Stage) (ds : List (List ℕ)) (place : ℕ) (end : Opti
   pub worn_rename : s ≡ stages.Renaming → published_known t.known ≡ worn_known (staged_by t s ds place end) t.known
   worn_rename i = sym (ap (λ o. worn_known o t.known) (as_renaming t s ds place end e i))
 
--- whether it is the put of the set
+-- The current request is not the put of the set.
 pub stores_not : (ds : List (List ℕ)) (fs : List File) (place : ℕ) (b : Bool) → b ≡ is_none ds → b ≡ false
     → false ≡ (is_none ds && nat_le (length fs) place)
 stores_not ds fs place b e f = sym (ap (λ x. x && nat_le (length fs) place) (sym e ∙ f))
@@ -483,7 +483,7 @@ pub worn_over : (t : Task) (s : Stage) (ds : List (List ℕ)) (place : ℕ) (end
     → t.known ≡ worn_known (staged_by t s ds place end) t.known
 worn_over t s ds place end x e = sym (ap (λ o. worn_known (staged_by t s ds place o) t.known) e)
 
--- ---- the file at a place, as it was found
+-- ---- the file at a place, in the form that the code found it
 
 pub asks_file : (t : Task) (set : PendingSet) (place : ℕ) (f : File) → Some f ≡ slice_get t.files place
     → CreateUpload t.job.dest.bucket (file_key (task_script t) f) ≡ next_asks t set (drop place t.files)
@@ -493,7 +493,7 @@ pub asks_put : (t : Task) (set : PendingSet) (place : ℕ) → None ≡ slice_ge
     → ClusterPut (temporary_path (task_script t) (who_of t)) (text_of set) ≡ next_asks t set (drop place t.files)
 asks_put t set place e = sym (ap (next_asks t set) (none_left t.files place (sym e)))
 
--- the record of the file at a place, of the upload that was drawn last
+-- The record of the file at a place, from the newest upload.
 pub record_at : (t : Task) (place size : ℕ) (tag : Spelled) (f : File) (d : Drawn) → Some f ≡ slice_get t.files place
     → Some d ≡ slice_get t.known.drawn 0
     → file_record (task_script t) (who_of t) f (one_more tag size d) ≡ file_record (task_script t) (who_of t) (file_at t place)
@@ -511,7 +511,7 @@ is_last t s ds place n end e i hold tag size z plain last = record {
   sent = last_sent t s ds place n end e i hold tag size z plain (with_known t (with_tag t.known tag size)) refl last;
 }
 
--- the set with its record
+-- The set with the record of the file.
 pub closes : (t : Task) (s : Stage) (ds : List (List ℕ)) (place n : ℕ) → (i : s ≡ stages.Sending n) → (hold : HoldsAt t s ds place)
     → (tag : Spelled) (size : ℕ) (set : PendingSet) (p : Pending) (commits : List Pending) → IsTask t → set ≡ set_of t place
     → p ≡ file_record (task_script t) (who_of t) (file_at t place) (one_more tag size (drawn_last t.known))
@@ -522,7 +522,7 @@ closes t s ds place n i hold tag size set p commits k g r e =
     set_closed t place tag size k x.within x.key set _ p g r (ap
     (λ (l : List Pending). let v : PendingSet = record { job = set.job; task = set.task; attempt = set.attempt; commits = l } in v) e)
 
--- ---- which part is sent behind it
+-- ---- the part to send after it
 
 pub stage_more : (n count : ℕ) (s : WriteStage) (m : ℕ) → s ≡ next_stage n count → s ≡ write_stages.Sending m → n + 1 < count
 stage_more n count s m h g = grind arith
@@ -530,7 +530,7 @@ stage_more n count s m h g = grind arith
 pub stage_last : (n count : ℕ) (s : WriteStage) → s ≡ next_stage n count → ((m : ℕ) → s ≡ write_stages.Sending m → ⊥) → count ≤ n + 1
 stage_last n count s h g = grind arith
 
--- ---- what fits by the stage
+-- ---- the replies that fit a stage
 
 pub open_fits : (t : Task) (s : Stage) (ds : List (List ℕ)) (place n : ℕ) (end : Option TaskEnd) (r : Reply) → end ≡ None
     → s ≡ stages.Sending n → HoldsAt t s ds place → FitsCommit (task_script t) (who_of t) t.known (staged_by t s ds place end) r
@@ -546,12 +546,12 @@ at_err r P h = grind arith
 pub at_ok : {X E : Type 0} (r : Result X E) (P : Type 0) → P → OnOk r P
 at_ok r P h = grind arith
 
--- what is told of a part's tag is told of the reply
+-- A fact about a part's tag is a fact about the reply that has it.
 pub told_part : {X E : Type 0} (x : Result X E) (m n : Attempting TaskCommit) (r : Reply) (tag : Spelled) → Some tag ≡ tag_in r
     → OnOk x ((b : Bool) → n ≡ task_commit_told m (Got (Part tag) b)) → OnOk x ((b : Bool) → n ≡ task_commit_told m (Got r b))
 told_part x m n r tag e h = subst (λ y. OnOk x ((b : Bool) → n ≡ task_commit_told m (Got y b))) (part_reply r tag e) h
 
--- a list to which a thing was added, where the thing is known
+-- A list to which an item was added, if the item is known.
 pub grown : {X Y E : Type 0} (r : Result Y E) (new old : List X) (x y : X) → OnOk r (new ≡ old ++ x ∷ []) → x ≡ y
     → OnOk r (new ≡ old ++ y ∷ [])
 grown r new old x y h g = grind arith

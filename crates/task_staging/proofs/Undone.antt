@@ -1,4 +1,4 @@
--- Where replies lead an abort of a staging attempt, by how many of its uploads are aborted.
+-- A staging attempt's abort after a reply, by how many of its uploads are aborted.
 use Rattle.basics.proofs.Naturals.{below_is, below_not}
 use Rattle.conflict.proofs.Deleting.{first_of}
 use Rattle.job_model.specs.Jobs.{Task}
@@ -17,7 +17,7 @@ use Rattle.std.specs.Prelude.{if◌then◌else◌}
 use Rattle.task_staging.specs.Undoing.{abort_by, abort_from, done_at, end_at}
 use Rattle.job_model.specs.declared.ends.TaskEnd.TheVariants as ends
 
--- once none is left
+-- The abort after its last upload was aborted.
 none_left : (c : Committer) (k : Known) (at : ℕ) (sent : Bool) → (c ≡ Magic → ⊥) → k.put_sent ≡ sent → drop at (as_made k.drawn) ≡ []
     → abort_by k at (if sent then None else Some ends.Done) ≡ dropped c sent
 none_left c k at sent h g e = grind arith

@@ -16,6 +16,6 @@ pub start_is : (t : Task) → (t.job.committer ≡ Magic → ⊥) → writes.Wri
 start_is t n = (elim t.job.committer as (λ c. (c ≡ Magic → ⊥)
     → writes.WriteOver ends.Done ≡ write_start_by c (files (task_script t) (who_of t))) [ Magic ↦ λ h. absurd (h refl) | _ ↦ λ h. refl ]) n
 
--- nothing is asked
+-- A write that has ended has no request.
 pub asks_none : (t : Task) (end : TaskEnd) (o : writes.Write) → writes.WriteOver end ≡ o → IsSome (write_wants (at t o)) → ⊥
 asks_none t end o e h = false≢true (subst (λ (x : writes.Write). IsSome (write_wants (at t x))) (sym e) h)

@@ -1,5 +1,4 @@
--- A commit of a staging attempt, by the partitions that are left to check, the records of the files that are uploaded, and how far the next
--- file has come.
+-- A staging attempt's commit, by the partitions left to check, the records of the uploaded files, and how far the next file has come.
 use Rattle.conflict.specs.Checks.{is_none}
 use Rattle.job_model.specs.Files.{File}
 use Rattle.job_model.specs.JobScript.{Script}
@@ -29,99 +28,99 @@ use Rattle.task_staging.specs.declared.staging.Staging.{Staging}
 use Rattle.job_protocol.specs.TaskCommits as commits
 use Rattle.task_staging.specs.declared.staging.Stage.TheVariants as stages
 
--- ---- where it stands
+-- ---- how far a commit has come
 
--- these partitions are to be checked, and then these files uploaded
+-- The commit that still has to check these partitions and then upload these files.
 abbrev pub opening : List (List ℕ) → List File → TaskCommit
 opening (d ∷ ds) fs = Checking d ds
 opening [] fs = storing fs
 
--- these parts of a file are to be sent, and then the other files uploaded
+-- The commit that still has to send these parts of file `f` and then upload the files `fs`.
 abbrev pub sending_from : File → List File → List (List ℕ) → TaskCommit
 sending_from f fs [] = storing fs
 sending_from f fs (p ∷ ps) = commits.Uploads f fs (Sending p ps)
 
--- the commit with the first of these files under way, of which so many parts came back
+-- The commit that is uploading the first of these files, after `n` acknowledged parts.
 abbrev pub sending_at : Script → ℕ → ℕ → List File → TaskCommit
 sending_at w minimum n [] = Storing
 sending_at w minimum n (f ∷ fs) = sending_from f fs (drop n (file_parts w minimum f))
 
--- the commit at a stage
+-- The commit at a stage.
 abbrev pub staged_at : Script → ℕ → Stage → List (List ℕ) → List File → TaskCommit
 staged_at w minimum stages.Opening ds fs = opening ds fs
 staged_at w minimum (stages.Sending n) ds fs = sending_at w minimum n fs
 staged_at w minimum stages.Renaming ds fs = Renaming
 
--- so many files are uploaded, or it has ended
+-- The commit after `place` uploaded files, or the commit that ended so.
 abbrev pub staged_by : Task → Stage → List (List ℕ) → ℕ → Option TaskEnd → TaskCommit
 staged_by t s ds place None = staged_at (task_script t) t.minimum s ds (drop place t.files)
 staged_by t s ds place (Some end) = TaskCommitOver end
 
--- the task's commit that what is kept stands for
+-- The task commit that the kept values represent.
 abbrev pub commit_of : Task → Staging → TaskCommit
 commit_of t h = staged_by t h.stage h.checks h.place h.end
 
--- a task's commit with its plan
+-- The task commit together with its plan.
 abbrev pub seen : Task → Staging → Attempting TaskCommit
 seen t h = record { plan = t; operation = commit_of t h }
 
--- ---- what is kept
+-- ---- what a commit keeps
 
--- the upload that was drawn last is of this key
+-- The newest upload is for this key.
 abbrev pub IsOfKey : List ℕ → List Drawn → Type 0
 IsOfKey key [] = ⊥
 IsOfKey key (d ∷ ds) = d.key ≡ key
 
--- so many parts of the first of these files came back, and not all
+-- The newest upload is for the first of these files, and has `n` of its parts but not all.
 abbrev pub HoldsSent : Script → ℕ → Known → ℕ → List File → Type 0
 HoldsSent w minimum k n [] = ⊥
 HoldsSent w minimum k n (f ∷ fs) = (n < length (file_parts w minimum f)) × HasSent k.drawn (take n (file_parts w minimum f))
     × IsOfKey (file_key w f) k.drawn
 
--- while partitions are left to check no file is uploaded
+-- No file is uploaded while partitions are left to check.
 abbrev pub HoldsAt : Task → Stage → List (List ℕ) → ℕ → Type 0
 HoldsAt t stages.Opening [] place = Unit {0}
 HoldsAt t stages.Opening (d ∷ ds) place = place ≡ 0
 HoldsAt t (stages.Sending n) ds place = (ds ≡ []) × HoldsSent (task_script t) t.minimum t.known n (drop place t.files)
 HoldsAt t stages.Renaming ds place = Unit {0}
 
--- the set of so many files
+-- The set of the first `place` files.
 abbrev pub set_of : Task → ℕ → PendingSet
 set_of t place = files_set (task_script t) (who_of t) (take place t.files) t.known
 
--- the set that is kept is that of the files that are uploaded, and the file under way is known
+-- The kept set is that of the uploaded files, and the upload of the current file is known.
 pub record Holds (t : Task) (s : Stage) (ds : List (List ℕ)) (place : ℕ) (held : PendingSet) : Type 0 where
   pub set : held ≡ set_of t place
   pub at : HoldsAt t s ds place
 
--- what is kept is true as long as the commit goes on
+-- What a commit keeps is true until it ends.
 abbrev pub KeepsBy : Task → Staging → Option TaskEnd → Type 0
 KeepsBy t h None = Holds t h.stage h.checks h.place h.set
 KeepsBy t h (Some end) = Unit {0}
 
--- what is kept of a commit is true of its plan
+-- What a commit keeps is true of its plan.
 abbrev pub Keeps : Task → Staging → Type 0
 Keeps t h = KeepsBy t h h.end
 
--- the tag and the size are those of the last part of the file at a place, whose others came back
+-- The tag and the size are those of the last part of the file at a place, and all other parts were acknowledged.
 pub record IsLastPart (t : Task) (place : ℕ) (tag : Spelled) (size : ℕ) : Type 0 where
   pub within : place < length t.files
   pub sent : let f = get_or t.files place ([], []) in HasSent (with_tag t.known tag size).drawn (parts_in t f)
 
--- ---- what holds before a reply, and what is due behind it
+-- ---- what holds before a reply, and the result after it
 
--- it has come to this stage, and has not ended
+-- The commit is at this stage and has not ended.
 pub record IsAt (t : Task) (h : Staging) (s : Stage) : Type 0 where
   pub stage : h.stage ≡ s
   pub end : h.end ≡ None
   pub keeps : Keeps t h
 
--- the part behind so many others of the file at a place came back
+-- The part that follows `sent` others of the file at a place was acknowledged.
 pub record CameBack (t : Task) (place sent : ℕ) (part : DrawnPart) : Type 0 where
   pub size : let f = get_or t.files place ([], []) in part.size ≡ length (part_behind t f.1 sent)
   pub plain : is_plain_tag part.tag ≡ true
 
--- it went where a reply leads, what is kept still is, and what is asked next was given; after want of memory the plan is as before
+-- The commit went on as the reply says, still keeps what is true, and returned its next request. If memory ran out, the plan is unchanged.
 pub record Heard {E : Type 0} (t u : Task) (h g : Staging) (r : Reply) (result : Result (Option Request) E) : Type 0 where
   pub keeps : OnOk result (Keeps u g)
   pub told : OnOk result ((b : Bool) → seen u g ≡ task_commit_told (seen t h) (Got r b))
@@ -130,25 +129,25 @@ pub record Heard {E : Type 0} (t u : Task) (h g : Staging) (r : Reply) (result :
 
 -- ---- requests and replies
 
--- the text of a set
+-- The text of a set.
 abbrev pub text_of : PendingSet → List ℕ
 text_of set = compact_text (set_tree set)
 
--- the upload of the first of these files is begun, or the set is put
+-- The request that creates the upload of the first of these files, or the put of the set.
 abbrev pub next_asks : Task → PendingSet → List File → Request
 next_asks t set [] = ClusterPut (temporary_path (task_script t) (who_of t)) (text_of set)
 next_asks t set (f ∷ fs) = CreateUpload t.job.dest.bucket (file_key (task_script t) f)
 
--- the reply is NoSuchFile
+-- True if the reply is NoSuchFile.
 abbrev pub is_no_file : Reply → Bool
 is_no_file (Refused NoSuchFile) = true
 is_no_file _ = false
 
--- no partition is left to check, and no file to upload
+-- True if no partition is left to check and no file to upload.
 abbrev pub stores : Task → Staging → Bool
 stores t h = is_none h.checks && nat_le (length t.files) h.place
 
--- what is known once its request wore out
+-- What is known after the current request exhausted its retries.
 abbrev pub worn_known : TaskCommit → Known → Known
 worn_known Storing k = record { drawn = k.drawn; put_sent = true; publish_sent = k.publish_sent }
 worn_known Renaming k = record { drawn = k.drawn; put_sent = k.put_sent; publish_sent = true }

@@ -9,14 +9,14 @@ use s3_types::{Sequence, Text, TextList};
 use std::alloc::{AllocError, Global};
 use task_requests::{file_at, job_of};
 
-/// Whether the commits of a job's tasks look for files of the partitions that they write.
+/// Returns whether the task commits of a job check the partitions that they write.
 fn is_checked(job: &JobPlan) -> bool
     ensures { result ≡ checks_partitions job.now.committer job.now.mode }
 {
     checks_partitions(job.committer, job.mode)
 }
 
-/// The path of the file at a place, which is shared.
+/// Returns the path of the file at a place, shared with the plan.
 fn path_at(plan: &TaskPlan, place: usize) -> Result<Text, AllocError>
     requires { place < length plan.now.files }
     ensures { IfOk result (λ path. path ≡ (get_or plan.now.files place ([], [])).0) }
@@ -28,7 +28,7 @@ fn path_at(plan: &TaskPlan, place: usize) -> Result<Text, AllocError>
     Ok(copy)
 }
 
-/// The paths of an attempt's files, which are shared.
+/// Returns the paths of an attempt's files, shared with the plan.
 fn paths_of(alloc: Global, plan: &TaskPlan) -> Result<TextList, AllocError>
     ensures { IfOk result (λ paths. paths ≡ map (λ f. f.0) plan.now.files) }
 {
@@ -40,7 +40,8 @@ fn paths_of(alloc: Global, plan: &TaskPlan) -> Result<TextList, AllocError>
     Ok(paths)
 }
 
-/// The partitions that an attempt writes, where its commit is to check them.
+/// Returns the partitions that an attempt writes, if its commit must check them; else an empty
+/// list.
 pub fn to_check(alloc: Global, plan: &TaskPlan) -> Result<TextList, AllocError>
     ensures { IfOk result (λ dirs. dirs ≡ to_check (task_script plan.now) (who_of plan.now)) }
 {

@@ -17,7 +17,7 @@ use s3_types::{Request, Text, both};
 use std::alloc::{AllocError, Global};
 use task_requests::{ask_next, ask_upload, file_at};
 
-/// The destination of the job. Takes no memory.
+/// Returns the destination of the job. Takes no memory.
 fn dest_of(plan: &TaskPlan) -> &S3Path
     ensures { result.now ≡ plan.now.job.dest }
 {
@@ -25,7 +25,7 @@ fn dest_of(plan: &TaskPlan) -> &S3Path
     &job.dest
 }
 
-/// The look for a key below the next partition.
+/// Returns the request that looks for a key below the next partition, or None if none is left.
 pub fn check_request(
     alloc: Global,
     plan: &TaskPlan,
@@ -36,14 +36,14 @@ pub fn check_request(
     checks.request(alloc, dest_of(plan))
 }
 
-/// The path of the attempt's temporary file.
+/// Returns the path of the attempt's temporary file.
 pub fn temporary(alloc: Global, plan: &TaskPlan) -> Result<Text, AllocError>
     ensures { IfOk result (λ path. path ≡ temporary_path (task_script plan.now) (who_of plan.now)) }
 {
     temporary_path(alloc, &plan.job.job, plan.task, plan.attempt)
 }
 
-/// The put of a set into the attempt's temporary file.
+/// Returns the put of a set into the attempt's temporary file.
 fn store_request(alloc: Global, plan: &TaskPlan, set: &PendingSet) -> Result<Request, AllocError>
     ensures { IfOk result (λ request. request ≡ ClusterPut (temporary_path (task_script plan.now) (who_of plan.now))
         (text_of set.now)) }
@@ -52,14 +52,14 @@ fn store_request(alloc: Global, plan: &TaskPlan, set: &PendingSet) -> Result<Req
     Request::cluster_put(&path, &bytes)
 }
 
-/// The path of the task's set.
+/// Returns the path of the task's set.
 fn published(alloc: Global, plan: &TaskPlan) -> Result<Text, AllocError>
     ensures { IfOk result (λ path. path ≡ layout.staged_set_path plan.now.job.job plan.now.task) }
 {
     staged_set_path(alloc, &plan.job.job, plan.task)
 }
 
-/// The rename of the temporary file to the task's set, which publishes it.
+/// Returns the rename of the temporary file to the task's set, which publishes the set.
 pub fn rename_request(alloc: Global, plan: &TaskPlan) -> Result<Request, AllocError>
     ensures { IfOk result (λ request. request ≡ ClusterRename (temporary_path (task_script plan.now) (who_of plan.now))
         (layout.staged_set_path plan.now.job.job plan.now.task)) }
@@ -68,7 +68,8 @@ pub fn rename_request(alloc: Global, plan: &TaskPlan) -> Result<Request, AllocEr
     Request::cluster_rename(&source, &target)
 }
 
-/// The beginning of the upload of the file at a place, or where no file is left the put of the set.
+/// Returns the request that creates the upload of the file at a place, or the put of the set if no
+/// file is left.
 pub fn next_request(
     alloc: Global,
     plan: &TaskPlan,
@@ -83,7 +84,7 @@ pub fn next_request(
     }
 }
 
-/// The part of the file at a place behind so many others.
+/// Returns the request for the part that follows `sent` others of the file at a place.
 pub fn part_request(
     alloc: Global,
     plan: &TaskPlan,

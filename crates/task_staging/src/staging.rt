@@ -29,17 +29,17 @@ use task_requests::{
 /// How far a commit has come.
 #[derive(Clone, Copy)]
 pub enum Stage {
-    /// A partition is checked, where one is left; or else the upload of the next file is begun; or where no file is
-    /// left the set is put.
+    /// Checks the next partition. If none is left, creates the next file's upload, and if no file
+    /// is left either, puts the set.
     Opening,
-    /// So many parts of the file were sent, and the next one is.
+    /// Sends the next part of the file; this many parts have been sent.
     Sending(u64),
-    /// The set is renamed.
+    /// Renames the set.
     Renaming,
 }
 
-/// A commit as it goes on: the check of the partitions, the set of the files that are uploaded, how many these are,
-/// the stage, and how it ended.
+/// A commit in progress: the check of the partitions, the set of the uploaded files, how many these
+/// are, the stage, and how it ended.
 #[derive(Drop)]
 pub struct Staging {
     pub checks: CheckAbsent,
@@ -49,12 +49,17 @@ pub struct Staging {
     pub end: Option<TaskEnd>,
 }
 
-/// A staging attempt's commit of its task. For the partitioned committer with the mode `fail` it looks for a key below
-/// each partition that it writes, and a key ends it with Conflict; then it uploads its files, in the script's order, puts
-/// the set of their uploads into its temporary file in the cluster's file system, and renames that to the task's set,
-/// which publishes it. A rename that finds nothing counts as done where it is a repeated one. Gone comes with the key of
-/// an upload that is not there, or with the path of the temporary file. (Hadoop, S3A committer architecture: task
-/// commit.)
+/// A staging attempt's commit of its task, in these steps:
+///
+/// - For the partitioned committer in mode `fail`, it looks for a key below each partition that it
+///   writes. A key ends it with Conflict.
+/// - It uploads its files, in the script's order.
+/// - It puts the set of their uploads into its temporary file in the cluster's file system.
+/// - It renames that file to the task's set, which publishes the set. A repeated rename that finds
+///   nothing counts as done.
+///
+/// Gone names the key of an upload that does not exist, or the path of the temporary file. (Hadoop,
+/// S3A committer architecture: task commit.)
 pub type CommitTask = TaskMachine<TheCommit, Staging>;
 
 fn is_no_file(reply: &Reply) -> bool
@@ -66,7 +71,8 @@ fn is_no_file(reply: &Reply) -> bool
     }
 }
 
-/// The end that a reply to the rename leads to: a repeated one that finds nothing is done.
+/// Returns how the commit ends after this reply to the rename. A repeated rename that finds nothing
+/// is done.
 fn renamed_end(
     alloc: Global,
     plan: &TaskPlan,
@@ -83,7 +89,7 @@ fn renamed_end(
     Ok(TaskEnd::Gone(name))
 }
 
-/// The name of the upload of the file at a place, which is gone.
+/// Returns the key of the file at a place, whose upload does not exist.
 fn gone_name(alloc: Global, plan: &TaskPlan, place: usize) -> Result<Text, AllocError>
     requires { place < length plan.now.files }
     ensures { IfOk result (λ name. name ≡ file_key (task_script plan.now) (get_or plan.now.files place ([], []))) }
@@ -96,7 +102,7 @@ fn gone_name(alloc: Global, plan: &TaskPlan, place: usize) -> Result<Text, Alloc
     Ok(name)
 }
 
-/// Adds the record of the file at a place, whose last part came back.
+/// Adds the record of the file at a place, whose last part was acknowledged.
 fn add_record(
     alloc: Global,
     plan: &TaskPlan,
@@ -119,7 +125,7 @@ fn add_record(
     records.push(record)
 }
 
-/// The put of the set was sent. Takes no memory.
+/// Notes that the put of the set was sent. Takes no memory.
 fn tell_put(plan: &mut TaskPlan)
     ensures { plan.new ≡ with_known plan.old (record {
       drawn = plan.old.known.drawn;
@@ -130,7 +136,7 @@ fn tell_put(plan: &mut TaskPlan)
     plan.known.tell_put_sent();
 }
 
-/// The rename was sent. Takes no memory.
+/// Notes that the rename was sent. Takes no memory.
 fn tell_rename(plan: &mut TaskPlan)
     ensures { plan.new ≡ with_known plan.old (record {
       drawn = plan.old.known.drawn;
@@ -141,7 +147,8 @@ fn tell_rename(plan: &mut TaskPlan)
     plan.known.tell_publish_sent();
 }
 
-/// The stage behind a part of the file at a place that is sent behind so many others, and the part's length.
+/// Returns the stage that follows part `sent + 1` of the file at a place, and the length in bytes
+/// of that part.
 fn behind_at(plan: &TaskPlan, place: usize, sent: u64) -> (WriteStage, u64)
     requires within { place < length plan.now.files }
     requires sent { sent < length (parts_in plan.now (get_or plan.now.files place ([], []))) }
@@ -155,7 +162,7 @@ fn behind_at(plan: &TaskPlan, place: usize, sent: u64) -> (WriteStage, u64)
 }
 
 impl Staging {
-    /// The next request while no upload is begun.
+    /// Returns the next request at the stage `Opening`.
     fn open_request(&self, alloc: Global, plan: &TaskPlan) -> Asked
         requires { IsAt plan.now self.now Stage.Opening }
         ensures { IfOk result (λ request. request ≡ task_commit_wants (seen plan.now self.now)) }
@@ -169,7 +176,7 @@ impl Staging {
         }
     }
 
-    /// The next request while a file is uploaded.
+    /// Returns the next request while a file is uploaded.
     fn part_request(&self, alloc: Global, plan: &TaskPlan, sent: u64) -> Asked
         requires { IsAt plan.now self.now (Stage.Sending sent) }
         ensures { IfOk result (λ request. request ≡ task_commit_wants (seen plan.now self.now)) }
@@ -180,7 +187,7 @@ impl Staging {
         }
     }
 
-    /// The next request once the set is put.
+    /// Returns the next request after the set was put.
     fn rename_request(&self, alloc: Global, plan: &TaskPlan) -> Asked
         requires { IsAt plan.now self.now Stage.Renaming }
         ensures { IfOk result (λ request. request ≡ task_commit_wants (seen plan.now self.now)) }
@@ -191,7 +198,7 @@ impl Staging {
         }
     }
 
-    /// The look below a partition was answered.
+    /// Takes the reply to the check of a partition.
     fn hear_check(&mut self, alloc: Global, plan: &TaskPlan, reply: &Reply) -> Asked
         requires at { IsAt plan.now self.old Stage.Opening }
         requires some { is_none self.old.checks ≡ false }
@@ -206,7 +213,7 @@ impl Staging {
         }
     }
 
-    /// The upload of the next file is begun.
+    /// Takes the reply to the creation of the next file's upload.
     fn hear_upload(&mut self, alloc: Global, plan: &mut TaskPlan, reply: &Reply) -> Asked
         requires at { IsAt plan.old self.old Stage.Opening }
         requires none { is_none self.old.checks ≡ true }
@@ -227,7 +234,7 @@ impl Staging {
         }
     }
 
-    /// The set is put.
+    /// Takes the reply to the put of the set.
     fn hear_stored(&mut self, alloc: Global, plan: &mut TaskPlan, reply: &Reply) -> Asked
         requires at { IsAt plan.old self.old Stage.Opening }
         requires none { is_none self.old.checks ≡ true }
@@ -245,7 +252,7 @@ impl Staging {
         }
     }
 
-    /// A part came back that is not the file's last.
+    /// Notes an acknowledged part that is not the file's last.
     fn send_next(
         &mut self,
         alloc: Global,
@@ -269,7 +276,7 @@ impl Staging {
         }
     }
 
-    /// The last part of a file came back.
+    /// Notes the last part of a file.
     fn close(&mut self, alloc: Global, plan: &mut TaskPlan, sent: u64, part: &DrawnPart) -> Asked
         requires at { IsAt plan.old self.old (Stage.Sending sent) }
         requires last { length (parts_in plan.old (get_or plan.old.files self.old.place ([], []))) ≤ sent + 1 }
@@ -290,7 +297,7 @@ impl Staging {
         }
     }
 
-    /// A part came back.
+    /// Notes an acknowledged part.
     fn add_part(&mut self, alloc: Global, plan: &mut TaskPlan, sent: u64, tag: Tag) -> Asked
         requires at { IsAt plan.old self.old (Stage.Sending sent) }
         requires plain { is_plain_tag tag ≡ true }
@@ -304,7 +311,7 @@ impl Staging {
         }
     }
 
-    /// The sending of a part was answered.
+    /// Takes the reply to the send of a part.
     fn hear_part(&mut self, alloc: Global, plan: &mut TaskPlan, sent: u64, reply: &Reply) -> Asked
         requires at { IsAt plan.old self.old (Stage.Sending sent) }
         requires fits { commit_fits (seen plan.old self.old) reply.now false }
@@ -320,7 +327,7 @@ impl Staging {
         }
     }
 
-    /// The rename was answered.
+    /// Takes the reply to the rename.
     fn hear_rename(
         &mut self,
         alloc: Global,
@@ -341,7 +348,7 @@ impl Staging {
         Ok(None)
     }
 
-    /// What was asked while no upload is begun was answered.
+    /// Takes the reply to a request of the stage `Opening`.
     fn hear_opening(&mut self, alloc: Global, plan: &mut TaskPlan, reply: &Reply) -> Asked
         requires at { IsAt plan.old self.old Stage.Opening }
         requires fits { commit_fits (seen plan.old self.old) reply.now false }
@@ -356,8 +363,8 @@ impl Staging {
         self.hear_stored(alloc, plan, reply)
     }
 
-    /// Goes where the reply to its present request leads. After want of memory the plan is as before, and the commit is
-    /// to be ended.
+    /// Takes the reply to the current request and goes on from there. If memory runs out, the plan
+    /// is unchanged, and the caller must end the commit.
     fn go_on(&mut self, alloc: Global, plan: &mut TaskPlan, reply: &Reply, repeated: bool) -> Asked
         requires keeps { Keeps plan.old self.old }
         requires fits { commit_fits (seen plan.old self.old) reply.now repeated }
@@ -377,7 +384,7 @@ impl Staging {
         }
     }
 
-    /// Whether its present request is the put of the set. Takes no memory.
+    /// Returns whether the current request is the put of the set. Takes no memory.
     fn stores(&self, plan: &TaskPlan) -> bool
         ensures { result ≡ stores plan.now self.now }
     {
@@ -387,7 +394,7 @@ impl Staging {
         plan.files.len() <= self.place
     }
 
-    /// Tells the plan of what was sent while no upload is begun. Takes no memory.
+    /// Notes in the plan the request that was sent at the stage `Opening`. Takes no memory.
     fn tell_opening(&self, plan: &mut TaskPlan)
         requires { IsAt plan.old self.now Stage.Opening }
         ensures { plan.new ≡ with_known plan.old (worn_known (commit_of plan.old self.now) plan.old.known) }
@@ -398,7 +405,7 @@ impl Staging {
         tell_put(plan);
     }
 
-    /// Tells the plan of what was sent. Takes no memory.
+    /// Notes in the plan the request that was sent. Takes no memory.
     fn tell_sent(&self, plan: &mut TaskPlan)
         requires { Keeps plan.old self.now }
         ensures { plan.new ≡ with_known plan.old (worn_known (commit_of plan.old self.now) plan.old.known) }

@@ -14,19 +14,19 @@ use std::alloc::{AllocError, Global};
 use task_machines::{Holds, TaskMachine, TheAbort};
 use task_requests::{abort_request, bucket_of, made};
 
-/// An abort as it goes on: how many of the uploads are aborted, and how it ended.
+/// An abort in progress: how many uploads it has aborted, and how it ended.
 #[derive(Drop)]
 pub struct Undoing {
     pub at: usize,
     pub end: Option<TaskEnd>,
 }
 
-/// A staging attempt's abort of its task. An attempt that has sent its publishing request ends Kept and sends
-/// nothing. Any other aborts its uploads, in the order of their making, and then deletes its temporary file, where it
-/// has sent the put of it. (Hadoop, S3A committer architecture: task abort.)
+/// A staging attempt's abort of its task. An attempt that has sent its publishing request ends with
+/// Kept and sends nothing. Any other aborts its uploads, oldest first, and then deletes its
+/// temporary file if it has sent the put of it. (Hadoop, S3A committer architecture: task abort.)
 pub type AbortTask = TaskMachine<TheAbort, Undoing>;
 
-/// The deletion of the attempt's temporary file.
+/// Returns the deletion of the attempt's temporary file.
 fn remove_request(alloc: Global, plan: &TaskPlan) -> Result<Option<Request>, AllocError>
     ensures { IfOk result (λ request. request ≡ Some (ClusterDelete (temporary_path (task_script plan.now)
         (who_of plan.now)))) }
@@ -38,7 +38,8 @@ fn remove_request(alloc: Global, plan: &TaskPlan) -> Result<Option<Request>, All
     }
 }
 
-/// The end of an abort once so many uploads are aborted, where nothing is left to do. Takes no memory.
+/// Returns Done if nothing is left to do after `at` uploads are aborted, else None. Takes no
+/// memory.
 fn done_at(plan: &TaskPlan, at: usize) -> Option<TaskEnd>
     ensures { result ≡ done_at plan.now.known at }
 {
@@ -49,7 +50,8 @@ fn done_at(plan: &TaskPlan, at: usize) -> Option<TaskEnd>
     }
 }
 
-/// The end of an abort of which nothing was sent yet, where there is nothing to do. Takes no memory.
+/// Returns how an abort ends that has nothing to do, or None if it has something to do. Takes no
+/// memory.
 fn end_at(plan: &TaskPlan) -> Option<TaskEnd>
     ensures { result ≡ end_at plan.now.known }
 {
@@ -61,7 +63,7 @@ fn end_at(plan: &TaskPlan) -> Option<TaskEnd>
 }
 
 impl Undoing {
-    /// Its present request was answered. Takes no memory.
+    /// Takes the reply to the current request and goes on from there. Takes no memory.
     fn go_on(&mut self, plan: &TaskPlan, reply: &Reply)
         requires { plan.now.job.committer ≡ Magic → ⊥ }
         ensures { abort_of plan.now self.new ≡ task_abort_hears (task_script plan.now) (abort_of plan.now self.old)

@@ -8,7 +8,7 @@ use std::alloc::{AllocError, Global};
 use std::marker::Model;
 use task_machines::{Holds, TaskMachine, TheWrite};
 
-/// A write of files that stay where the plan has them: how it ended.
+/// A write whose files stay where the plan has them, and how it ended.
 #[derive(Drop)]
 pub struct Keeping {
     end: TaskEnd,
@@ -22,8 +22,8 @@ impl Model for Keeping {
     ghost view = { λ k. writes.WriteOver k.end };
 }
 
-/// A staging attempt's write of its files. They stay where the plan has them, and nothing is sent. (Hadoop, S3A
-/// committer architecture: the staging committers write local files.)
+/// A staging attempt's write of its files. They stay where the plan has them, and nothing is sent.
+/// (Hadoop, S3A committer architecture: the staging committers write local files.)
 pub type WriteFiles = TaskMachine<TheWrite, Keeping>;
 
 impl Holds<TheWrite> for Keeping {

@@ -5,7 +5,7 @@ use crate::twins::put_twins;
 use anyhow::Result;
 use std::alloc::{AllocError, Global};
 
-/// What reads bytes.
+/// A reader of bytes.
 #[derive(Clone, Copy)]
 pub enum Reader {
     Script,
@@ -14,17 +14,17 @@ pub enum Reader {
     Image,
 }
 
-/// What is done with bytes, once for each place.
+/// A change of bytes, made once for each place.
 #[derive(Clone, Copy)]
 pub enum Change {
-    /// What stands before it is left.
+    /// Keeps only the bytes before the place.
     Front,
-    /// The lowest bit of the byte there is turned.
+    /// Flips the lowest bit of the byte at the place.
     Turned,
 }
 
 impl Change {
-    /// How many places there are in so many bytes.
+    /// The number of places in so many bytes.
     fn places(self, length: usize) -> usize {
         match self {
             Change::Front => length.saturating_add(1),
@@ -33,7 +33,7 @@ impl Change {
     }
 }
 
-/// The change that a row asks for, if it asks for one, and what it is about.
+/// The change that a row asks for, if it asks for one, and the rest of the row.
 pub fn change_in(line: &str) -> (Option<Change>, &str) {
     if let Some(row) = line.strip_prefix("<") {
         return (Some(Change::Front), row);
@@ -62,7 +62,7 @@ fn changed(
     Ok(copy)
 }
 
-/// What a reader says of bytes, and of a record whether it is the one that stood there before.
+/// What a reader says about bytes. For a record it also says whether it equals the one before.
 fn outcome_of(alloc: Global, reader: Reader, bytes: &[u8], before: &[u8]) -> Result<String> {
     let mut line = String::new(alloc);
     match reader {
@@ -74,7 +74,8 @@ fn outcome_of(alloc: Global, reader: Reader, bytes: &[u8], before: &[u8]) -> Res
     Ok(line)
 }
 
-/// Tells what a reader says of changed bytes, at each place where that differs from the place before.
+/// Shows what a reader says about the changed bytes, at each place where that differs from the
+/// place before.
 pub fn tell_changes(
     rt: &impl Print,
     alloc: Global,

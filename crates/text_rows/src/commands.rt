@@ -5,7 +5,7 @@ use s3a_words::{Command, WordFault, read_words};
 use std::alloc::{AllocError, Global};
 use std::io;
 
-/// The words of a row, which has a `|` between them; none where it is empty.
+/// The words of a row, which are separated by `|`. An empty row has none.
 fn words_in(alloc: Global, line: &str) -> Result<Vec<Text>, AllocError> {
     let mut words = Vec::new(alloc);
     if line.is_empty() {
@@ -49,7 +49,7 @@ fn show_read(rt: &impl Print, command: &Command) -> io::Result<()> {
     }
 }
 
-/// Shows the command that a row's words are.
+/// Shows the command that a row's words name.
 pub fn show_command(rt: &impl Print, alloc: Global, line: &str) -> Result<()> {
     let words = words_in(alloc, line)?;
     let command = match read_words(alloc, words.as_slice()) {

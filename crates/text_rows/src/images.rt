@@ -4,7 +4,7 @@ use s3_types::let_go;
 use std::alloc::{AllocError, Global};
 use store_image::decode;
 
-/// Writes what bytes are as an image.
+/// Writes what the bytes are as an image.
 pub fn put_image(line: &mut String, alloc: Global, bytes: &[u8]) -> Result<(), AllocError> {
     match decode(alloc, bytes) {
         Ok(service) => {
@@ -19,7 +19,7 @@ pub fn put_image(line: &mut String, alloc: Global, bytes: &[u8]) -> Result<(), A
     }
 }
 
-/// Says of a row's bytes what they are as an image.
+/// Shows what a row's bytes are as an image.
 pub fn show_image(rt: &impl Print, alloc: Global, line: &str) -> Result<()> {
     let (change, digits) = change_in(line);
     let bytes = hex::decode(alloc, digits)?;

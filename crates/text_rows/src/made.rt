@@ -19,7 +19,7 @@ fn show_script(rt: &impl Print, alloc: Global, seed: u32, tasks: u32, files: u32
     shown
 }
 
-/// Prints the script that is made of a seed and the numbers of tasks and of files.
+/// Prints the script that is made from a seed and the numbers of tasks and of files.
 pub fn show_made(rt: &impl Print, alloc: Global, line: &str) -> Result<()> {
     let (seed, numbers) = line.split_once(' ').context("a seed")?;
     let (tasks, files) = numbers.split_once(' ').context("two numbers")?;

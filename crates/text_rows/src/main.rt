@@ -1,24 +1,25 @@
-//! What texts and images are read as, line by line. A line `== NAME` of standard input says what the lines
-//! behind it are; each of those is answered by a line, or some. Of records, scripts and images, in a line
-//! that begins with `<` each front of what stands there is read, and in one that begins with `*` all of it
-//! with the lowest bit of each of its bytes turned; of both it is told where the answer changes.
+//! Shows how texts and images are read, line by line. A line `== NAME` of standard input says what
+//! the lines after it are. Each of those is answered by one or more lines.
 //!
-//! `records`: `upload`, `set` or `mark` and a JSON text, in which `~` stands for the byte 255. Printed is
-//! the one text of the record that it is, or why it is none.
+//! A line of records, scripts or images may begin with `<` or `*`. With `<` each front of the bytes
+//! is read, with `*` all bytes with the lowest bit of one of them flipped, for each of them. Both
+//! show where the answer changes.
 //!
-//! `images`: the bytes of a store's image in hex, of which is told whether they are one, or the fault and
-//! its place.
+//! - `records`: `upload`, `set` or `mark` and a JSON text, in which `~` stands for the byte 255.
+//!   The answer is the one text of the record, or why it is no record.
+//! - `images`: the bytes of a store's image in hex. The answer is whether they are an image, or the
+//!   fault and its place.
+//! - `scripts`: a job script. The answer is what it is, or its fault. A script in a line that
+//!   begins with `=` is printed.
+//! - `twins`: two job scripts and an order, with the same answers.
+//! - `paths`: a question about a path.
+//! - `commands`: the words of a command line, separated by `|`.
+//! - `made`: a seed and the numbers of tasks and of files, from which a script is made.
 //!
-//! `scripts`: a job script, of which is told what it is, or its fault. In it `|` stands for LF, `^` for CR,
-//! `~` for the byte 255, and `@` for the first five lines of an ordinary script. Behind a `{` stand a
-//! count, a `:`, and a text that is repeated so often, with `%` for the number of its turn, from 1, and `$`
-//! for that number's hundreds, a dot, and its rest. A script in a line that begins with `=` is printed.
-//!
-//! `twins`: two job scripts and an order, written as a script is, of which the same is told.
-//!
-//! `paths`: what is asked of a path, which is written as a script is. `commands`: the words of a command
-//! line, with a `|` between them. `made`: a seed and the numbers of tasks and of files, of which a script
-//! is made.
+//! In scripts, twins and paths `|` stands for LF, `^` for CR, `~` for the byte 255, and `@` for the
+//! first five lines of an ordinary script. After a `{` come a count, a `:`, and a text that is
+//! repeated so often. In that text `%` stands for the number of its turn, from 1, and `$` for that
+//! number's hundreds, a dot, and its rest.
 #![tactic(auto)]
 
 mod changes;
@@ -41,7 +42,7 @@ use scripts::show_script;
 use std::alloc::Global;
 use twins::show_twins;
 
-/// What a line is.
+/// What the lines after a `== NAME` are.
 #[derive(Clone, Copy)]
 enum Part {
     Record,
@@ -77,7 +78,7 @@ fn show_row(rt: &impl Print, alloc: Global, part: Part, line: &str) -> Result<()
     }
 }
 
-/// Answers a line, and says what the lines behind it are.
+/// Answers a line, and returns what the lines after it are.
 fn part_after(rt: &impl Print, alloc: Global, part: Part, line: &str) -> Result<Part> {
     match line.strip_prefix("== ") {
         Some(name) => {

@@ -13,7 +13,7 @@ use path_keys::S3Path;
 use s3_types::{Key, Text, let_go};
 use std::alloc::Global;
 
-/// The most bytes of a key that is shown as a whole.
+/// The most bytes of a key that is shown whole.
 const MOST_SHOWN: usize = 100;
 
 fn show_key(rt: &impl Print, key: &str) -> Result<()> {
@@ -25,7 +25,7 @@ fn show_key(rt: &impl Print, key: &str) -> Result<()> {
     Ok(())
 }
 
-/// The key of the file `f` below a path that was joined.
+/// Shows the key of the file `f` below a joined path.
 fn show_joined(rt: &impl Print, alloc: Global, path: &S3Path, relative: &str) -> Result<()> {
     match path.join(alloc, relative) {
         Ok(joined) => {
@@ -68,7 +68,7 @@ fn show_unique(rt: &impl Print, alloc: Global, path: &str, job: &str) -> Result<
     show_key(rt, name.as_str())
 }
 
-/// Shows the markers that a file makes needless where it is made.
+/// Shows the markers above a file that its creation makes needless.
 fn show_above(rt: &impl Print, alloc: Global, path: &S3Path) -> Result<()> {
     let markers = after_create(alloc, MarkerPolicy::Delete, path)?;
     for marker in markers.as_slice() {
@@ -95,7 +95,7 @@ fn show_directory(rt: &impl Print, name: &str, path: S3Path) -> Result<()> {
     Ok(shown?)
 }
 
-/// Where a magic job keeps what is its own, and its marker.
+/// Shows where a magic job keeps its own keys, and where its `_SUCCESS` marker is.
 fn show_keys(rt: &impl Print, alloc: Global, dest: &S3Path, job: &Text) -> Result<()>
     requires some { 1 ≤ length dest.now.key }
     requires most { length dest.now.key ≤ 400 }
@@ -107,7 +107,7 @@ fn show_keys(rt: &impl Print, alloc: Global, dest: &S3Path, job: &Text) -> Resul
     show_text(rt, "prefix", magic_prefix(alloc, dest, job)?)
 }
 
-/// Where a staging job keeps what is its own in the cluster's file system.
+/// Shows where a staging job keeps its own files in the cluster's file system.
 fn show_cluster(rt: &impl Print, alloc: Global, job: &Text) -> Result<()> {
     show_text(rt, "cluster", cluster_prefix(alloc, job)?)?;
     show_text(rt, "temporary", temporary_path(alloc, job, 7, 0)?)?;
@@ -123,7 +123,7 @@ fn show_places(rt: &impl Print, alloc: Global, dest: &S3Path, job: &Text) -> Res
     show_cluster(rt, alloc, job)
 }
 
-/// Where the committers keep what is theirs.
+/// Shows where the committers keep their own keys and files.
 fn show_layout(rt: &impl Print, alloc: Global, dest: &S3Path) -> Result<()> {
     let length = dest.key().as_bytes().len();
     if length == 0 || length > 400 {
@@ -163,9 +163,14 @@ fn show_row(rt: &impl Print, alloc: Global, row: &str) -> Result<()> {
     }
 }
 
-/// Shows what a row asks of a path: `read`, `parent` or `final` of it, what it is `join`ed with, what
-/// of a key comes `behind` it, what a file's path is once it is `unique` to a job, which markers are
-/// `above` a file, or the `layout` of a job that writes there.
+/// Answers a row about a path:
+///
+/// - `read`, `parent` and `final` show the path itself, its parent and its final path.
+/// - `join` shows the path joined with another.
+/// - `behind` shows the part of a key after the path.
+/// - `unique` shows a file's path made unique to a job.
+/// - `above` shows the markers above a file.
+/// - `layout` shows where a job that writes there keeps its own keys.
 pub fn show_path(rt: &impl Print, alloc: Global, line: &str) -> Result<()> {
     let bytes = spelled(alloc, line)?;
     show_row(rt, alloc, str::from_utf8(&bytes)?)

@@ -43,7 +43,7 @@ fn mark_again(alloc: Global, text: &[u8]) -> Result<Bytes, RecordFault> {
     Ok(again?)
 }
 
-/// The one text of the record that a text is.
+/// The one text of the record that this text is.
 fn again(alloc: Global, record: Record, text: &[u8]) -> Result<Bytes, RecordFault> {
     match record {
         Record::Upload => upload_again(alloc, text),
@@ -72,7 +72,7 @@ fn put_again(
     }
 }
 
-/// Writes what a text is as a record, beside the text of one.
+/// Writes what a text is as a record, compared with another text.
 pub fn put_record(
     line: &mut String,
     alloc: Global,

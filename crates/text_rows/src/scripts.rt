@@ -5,12 +5,12 @@ use job_script::{Script, print_script, read_script};
 use s3_types::let_go;
 use std::alloc::{AllocError, Global};
 
-/// What is told of a script, or of two, beside its counts.
+/// What is shown of a script, or of two, beside the counts.
 #[derive(Clone, Copy)]
 pub enum Told {
     Nothing,
     Text,
-    /// What it is once it is changed.
+    /// The answers after changes of its bytes.
     Changes(Change),
 }
 
@@ -25,7 +25,7 @@ pub fn asked(line: &str) -> (Told, &str) {
     }
 }
 
-/// Writes whether bytes are a script, or the fault's number and its line.
+/// Writes whether the bytes are a script, or the fault's number and its line.
 pub fn put_script(line: &mut String, alloc: Global, bytes: &[u8]) -> Result<(), AllocError> {
     match read_script(alloc, bytes) {
         Ok(script) => {
@@ -67,7 +67,7 @@ fn tell_script(
     }
 }
 
-/// Says of a row's script what it is, or its fault.
+/// Shows what a row's script is, or its fault.
 pub fn show_script(rt: &impl Print, alloc: Global, line: &str) -> Result<()> {
     let (told, row) = asked(line);
     let bytes = spelled(alloc, row)?;

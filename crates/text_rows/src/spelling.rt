@@ -12,7 +12,7 @@ fn byte_of(b: u8) -> u8 {
     }
 }
 
-/// Adds the bytes that a text without turns stands for.
+/// Adds the bytes that a text without repetitions stands for.
 pub fn put(bytes: &mut Vec<u8>, text: &str) -> Result<(), AllocError> {
     for b in text.as_bytes() {
         if *b == b'@' {

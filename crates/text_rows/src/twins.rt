@@ -6,7 +6,7 @@ use s3_types::let_go;
 use std::alloc::{AllocError, Global};
 use twin_script::{Twins, print_twins, read_twins};
 
-/// Writes whether bytes are two scripts and an order, or the fault.
+/// Writes whether the bytes are two scripts and an order, or the fault.
 pub fn put_twins(line: &mut String, alloc: Global, bytes: &[u8]) -> Result<(), AllocError> {
     match read_twins(alloc, bytes) {
         Ok(twins) => {
@@ -37,7 +37,7 @@ fn tell_twins(
     }
 }
 
-/// Says of a row's two scripts and order what they are, or their fault.
+/// Shows what a row's two scripts and order are, or their fault.
 pub fn show_twins(rt: &impl Print, alloc: Global, line: &str) -> Result<()> {
     let (told, row) = asked(line);
     let bytes = spelled(alloc, row)?;

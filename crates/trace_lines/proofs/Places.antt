@@ -1,4 +1,4 @@
--- Where a member is put among others.
+-- The place of a member among others.
 use Rattle.serde_json.specs.Data.{Data, Members, member, put}
 use Rattle.std.proofs.Common.{Equal, Greater, Less, List, Ordering, add-one, ap, arith, drop, get_or, insert, is_eq, length, nat_cmp, refl}
 use Rattle.std.proofs.Common.{set, sym, take, ℕ, [], ◌++◌, ◌+◌, ◌<◌, ◌∙◌, ◌∷◌, ◌≡◌, ◌≤◌}
@@ -10,7 +10,7 @@ use Rattle.std.specs.Ordering.{match_ordering}
 use Rattle.trace_lines.specs.Members.{data_of, listed}
 use Rattle.trace_lines.specs.declared.line.Member.{Member}
 
--- members before others
+-- These members in front of others.
 abbrev pub before : List Member → Members → Members
 before [] others = others
 before (m ∷ ms) others = member m.name.now (data_of m.value) (before ms others)
@@ -33,7 +33,7 @@ at_order name d x others o =
     match_ordering o (member name d (member x.name.now (data_of x.value) others)) (member x.name.now d others)
     (member x.name.now (data_of x.value) (put name d others))
 
--- what is put behind the first i members, where this one comes next
+-- The members after a put that comes to member `x` next.
 put_by : (all : List Member) (i : ℕ) (name : List ℕ) (d : Data) (x : Member) (o : Ordering) → i < length all → x ≡ get_or all i x
     → slice_cmp nat_cmp name x.name.now ≡ o → Passes all i name d
     → put name d (listed all) ≡ before (take i all) (at_order name d x (listed (drop (i + 1) all)) o)
@@ -45,7 +45,7 @@ put_by all i name d x o there is compared passes =
 same_name : (s t : List ℕ) → slice_cmp nat_cmp s t ≡ Equal → s ≡ t
 same_name s t same = (bytes_eq-Decides s t).0 (sym (is_eq-slice_cmp s t) ∙ ap is_eq same)
 
--- a member goes before the first whose name is greater
+-- A member goes in front of the first one with a greater name.
 pub put_before : (all : List Member) (i : ℕ) (m x : Member) → i < length all → x ≡ get_or all i x
     → slice_cmp nat_cmp m.name.now x.name.now ≡ Less → Passes all i m.name.now (data_of m.value)
     → listed (insert all i m) ≡ put m.name.now (data_of m.value) (listed all)
@@ -55,7 +55,7 @@ put_before all i m x there is less passes =
     ∙ before_listed (take i all) (m ∷ x ∷ drop (i + 1) all)
     ∙ ap (λ ys. listed (take i all ++ m ∷ ys)) rest)
 
--- a member takes the place of the one of its name
+-- A member replaces the one with its name.
 pub put_over : (all : List Member) (i : ℕ) (m x : Member) → i < length all → x ≡ get_or all i x
     → slice_cmp nat_cmp m.name.now x.name.now ≡ Equal → Passes all i m.name.now (data_of m.value)
     → listed (set all i m) ≡ put m.name.now (data_of m.value) (listed all)
@@ -67,7 +67,7 @@ put_over all i m x there is same passes =
     ∙ ap (λ k. listed (take i all ++ m ∷ drop k all)) (add-one i)
     ∙ ap listed (sym (set_split all i m there)))
 
--- a member goes behind those whose names are less
+-- A member goes after those with lesser names.
 pub put_behind : (all : List Member) (i : ℕ) (m x : Member) → i < length all → x ≡ get_or all i x
     → slice_cmp nat_cmp m.name.now x.name.now ≡ Greater → Passes all i m.name.now (data_of m.value)
     → Passes all (i + 1) m.name.now (data_of m.value)
@@ -78,7 +78,7 @@ put_behind all i m x there is greater passes =
     ∙ sym (before_more (take i all) x others)
     ∙ ap (λ ys. before ys others) (sym front)
 
--- a member goes at the end, where all names are less
+-- A member goes to the end if all names are less.
 pub put_last : (all : List Member) (i n : ℕ) (m : Member) → length all ≤ i → n ≡ length all → Passes all i m.name.now (data_of m.value)
     → listed (insert all n m) ≡ put m.name.now (data_of m.value) (listed all)
 put_last all i n m past end passes =

@@ -1,4 +1,4 @@
--- What a line sends to a writer is the object of its members, and the text of that is the object's.
+-- A line sends the object of its members to a writer, whose text is that of the object.
 use Rattle.std.proofs.Common.{List, Some, [], ap, false, length, map, refl, subst, suc, sym, take, ℕ, ◌∷◌, ◌∙◌, ◌≡◌, ◌≤◌, ◌||◌}
 use Rattle.std.proofs.lemmas.List.{take_all}
 use Rattle.serde.specs.Event.{Log, Logs, WritesEach, WritesSeq, field_key, map_begins, map_ends, seq_begins, seq_ends}
@@ -26,7 +26,7 @@ items_count f [] = refl
 items_count f (x ∷ xs) = ap suc (items_count f xs)
 
 module _ {A : Type 0} (f : A → Data) where
-  -- Sends what stands for a value.
+  -- Sends the data of a value.
   abbrev pub Sends : A → Log → Log → Type 0
   Sends x = SendsValue (f x)
 
@@ -39,7 +39,7 @@ module _ {A : Type 0} (f : A → Data) where
   seq_sent xs old new h =
       (h.0, subst (λ n. Logs old h.0 (seq_begins (Some n))) (sym (items_count f xs)) h.2, items_sent xs h.0 h.1 new h.3 h.4)
 
--- the text of a tag, and a text
+-- The text of a tag, as data.
 abbrev pub tag_data : Spelled → Data
 tag_data tag = string (tag_text tag)
 
@@ -50,7 +50,7 @@ at_once (t ∷ tags) = ap (λ ds. tag_data t ∷ ds) (at_once tags)
 pub tags_sent : (tags : List Spelled) (old new : Log) → WritesSeq (Sends tag_data) tags old new → SendsValue (etags tags) old new
 tags_sent tags old new h = subst (λ ds. SendsValue (array (items_of ds)) old new) (at_once tags) (seq_sent tag_data tags old new h)
 
--- what is sent of a text is sent of one that is the same
+-- Equal texts send the same.
 pub said_is : (s t : List ℕ) (old new : Log) → s ≡ t → SendsValue (string s) old new → SendsValue (string t) old new
 said_is s t old new same h = subst (λ x. SendsValue (string x) old new) same h
 

@@ -1,4 +1,4 @@
--- The tag of what was sent.
+-- The tag of the bytes that were sent.
 use Rattle.std.proofs.Common.{Bool, IfSome, List, None, Option, Some, cond, false, option_map, refl, subst, true, ℕ, ◌∙◌, ◌≡◌}
 use Rattle.std.specs.FinMap as fin
 use Rattle.s3_types.specs.Answer.{answer, answer_at, part_answer}
@@ -13,12 +13,12 @@ use Rattle.s3_types.specs.declared.request.Request.{Request}
 use Rattle.s3_types.specs.declared.request.Request.TheVariants.{PutObject, UploadPart}
 use Rattle.trace_lines.specs.Requests.{TellsTag, part_tag}
 
--- the tag of a put or of a part is written as its digits
+-- The tag of a put or of a part is written as its digits.
 plain_text : (bytes : List ℕ) → (plain_tag bytes).digits ≡ tag_text (plain_tag bytes)
 unfolding plain_tag
 plain_text bytes = refl
 
--- the digits of the tag of what is sent are the tag's text
+-- The digits of the tag of the bytes that are sent are the tag's text.
 pub digits_spell : (sent : Option (List ℕ)) (tag : Option Spelled) (digits : List ℕ) → tag ≡ option_map plain_tag sent
     → IfSome tag (λ t. digits ≡ t.digits) → IfSome sent (λ bytes. digits ≡ tag_text (plain_tag bytes))
 digits_spell None tag digits same h = tt
@@ -27,7 +27,7 @@ digits_spell (Some bytes) tag digits same h =
     let here : digits ≡ (plain_tag bytes).digits = subst P same h in
     here ∙ plain_text bytes
 
--- ---- the reply that is due
+-- ---- the reply that S3 must give
 
 part_cond : (b : Bool) (bytes : List ℕ) → IfSome (part_tag (cond b (Part (plain_tag bytes)) (Refused BadPartNumber)))
     (λ tag. tag ≡ plain_tag bytes)
@@ -55,6 +55,6 @@ answer_so s (UploadPart bucket key upload n bytes) =
     part_at (fin.get s.content.buckets bucket) s.content.next s.content.minimum bucket key upload n bytes
 answer_so s _ = tt
 
--- the reply that a request is due tells the tag of the bytes that it sends
+-- A tag in the reply that S3 must give is that of the bytes that the request sends.
 pub answer_tells : (s : Scene) (r : Request) (due : Reply) → answer s r ≡ due → TellsTag r due
 answer_tells s r due is = subst (TellsTag r) is (answer_so s r)

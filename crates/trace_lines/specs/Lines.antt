@@ -1,4 +1,4 @@
--- A line of a trace: a JSON object on one line, written compactly, its members in the byte order of their names.
+-- A line of a trace: a JSON object on one line, written compactly, with its members in the byte order of their names.
 use Rattle.std.specs.Prelude.{ℕ, List, [], ◌∷◌, ◌++◌, map}
 use Rattle.serde_json.specs.Data.{Data, Members, array, no_members, number, object, put, string, unsigned}
 use Rattle.serde_json.specs.View.{items_of}
@@ -22,7 +22,7 @@ texts all = array (items_of (map string all))
 abbrev pub etags : List Spelled → Data
 etags tags = texts (map tag_text tags)
 
--- These members put among others, each at its place in the byte order of the names.
+-- The members with these put among them, each at its place in the byte order of the names.
 abbrev pub put_all : List Named → Members → Members
 put_all [] others = others
 put_all (m ∷ ms) others = put_all ms (put m.0 m.1 others)

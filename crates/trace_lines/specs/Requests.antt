@@ -21,7 +21,7 @@ use Rattle.s3_types.specs.declared.request.UploadRef.{UploadRef}
 use Rattle.trace_lines.specs.Lines.{Named, line, object_of, texts, whole}
 use Rattle.trace_lines.specs.Words.{error_code, operation_name, outcome_word}
 
--- ---- what is asked
+-- ---- the request
 
 -- An object's bucket and key.
 abbrev pub place : List ℕ → List ℕ → List Named
@@ -31,7 +31,7 @@ place bucket key = (codes "bucket", string bucket) ∷ (codes "key", string key)
 abbrev pub upload_place : List ℕ → List ℕ → ℕ → List Named
 upload_place bucket key upload = place bucket key ++ (codes "upload", whole upload) ∷ []
 
--- The bytes that are sent: their MD5 tag and how many they are.
+-- The ETag and the length of the bytes that a request sends; the ETag is their MD5.
 abbrev pub payload : List ℕ → List Named
 payload bytes = (codes "etag", string (tag_text (plain_tag bytes))) ∷ (codes "length", whole (length bytes)) ∷ []
 
@@ -40,7 +40,7 @@ abbrev pub magic_length : Option ℕ → List Named
 magic_length None = []
 magic_length (Some n) = (codes "magic_length", whole n) ∷ []
 
--- The delimiter of a listing, where it folds keys.
+-- The delimiter of a listing that folds keys.
 abbrev pub delimiter : Bool → List Named
 delimiter false = []
 delimiter true = (codes "delimiter", string (codes "/")) ∷ []
@@ -53,12 +53,12 @@ part_object part = object_of ((codes "etag", string (tag_text part.tag)) ∷ (co
 abbrev pub part_objects : List NamedPart → Data
 part_objects parts = array (items_of (map part_object parts))
 
--- Behind which upload a listing goes on.
+-- The upload after which a listing goes on.
 abbrev pub behind : Option UploadRef → List Named
 behind None = []
 behind (Some last) = (codes "after", string last.key) ∷ (codes "after_upload", whole last.upload) ∷ []
 
--- What a request asks for.
+-- The members that describe a request.
 abbrev pub asked : Request → List Named
 asked (MakeBucket name) = (codes "bucket", string name) ∷ []
 asked (PutObject bucket key bytes header) = place bucket key ++ payload bytes ++ magic_length header
@@ -84,9 +84,9 @@ asked (ClusterGet path) = (codes "path", string path) ∷ []
 asked (ClusterDelete path) = (codes "path", string path) ∷ []
 asked (ClusterList prefix) = (codes "prefix", string prefix) ∷ []
 
--- ---- what came of it
+-- ---- the outcome
 
--- A send reached the store, or the cluster, where it was answered or its reply was lost.
+-- True if a send reached the store, or the cluster: it was answered, or its reply was lost.
 abbrev pub has_reached : Outcome → Bool
 has_reached (Answered reply) = true
 has_reached ReplyLost = true
@@ -97,34 +97,34 @@ abbrev pub refusal_in : Reply → Option Refusal
 refusal_in (Refused refusal) = Some refusal
 refusal_in _ = None
 
--- A send took effect where it reached the store and was not refused, by the reply that it is due.
+-- True if a send reached the store, or the cluster, and the reply that S3 must give is no refusal.
 abbrev pub took_effect : Outcome → Reply → Bool
 took_effect outcome due = has_reached outcome && is_none (refusal_in due)
 
--- The error code, where there is a refusal.
+-- The error code of a refusal, if there is one.
 abbrev pub error : Option Refusal → List Named
 error None = []
 error (Some refusal) = (codes "error", string (error_code refusal)) ∷ []
 
--- The error code of a send that reached the store and was refused, by the reply that it is due.
+-- The error code of a send that reached the store and was refused, by the reply that S3 must give.
 abbrev pub error_of : Outcome → Reply → List Named
 error_of outcome due = cond (has_reached outcome) (error (refusal_in due)) []
 
--- What a reply tells that a line repeats: how many entries were listed and whether more remain, or the id of a new upload.
+-- The facts of a reply that a line repeats: how many entries were listed and whether more remain, or the id of a new upload.
 abbrev pub told : Reply → List Named
 told (Page entries more) = (codes "listed", whole (length entries)) ∷ (codes "more", boolean more) ∷ []
 told (Uploads entries more) = (codes "listed", whole (length entries)) ∷ (codes "more", boolean more) ∷ []
 told (Upload id) = (codes "upload", whole id) ∷ []
 told _ = []
 
--- What the sender was told.
+-- The facts that the sender received in a reply.
 abbrev pub told_to : Outcome → List Named
 told_to (Answered reply) = told reply
 told_to _ = []
 
 -- ---- the line
 
--- Who sent what and when, and what became of it.
+-- The number, the event, the actor, the operation and the outcome of a send.
 abbrev pub send_members : ℕ → Entry → List Named
 send_members n e =
     (codes "n", whole n)
@@ -134,7 +134,7 @@ send_members n e =
     ∷ (codes "outcome", string (outcome_word e.outcome))
     ∷ []
 
--- The members of the line of the n-th send of a run, by the reply that it is due.
+-- The members of the line of the n-th send of a run; `due` is the reply that S3 must give.
 abbrev pub request_members : ℕ → Entry → Reply → List Named
 request_members n e due =
     send_members n e
@@ -143,11 +143,11 @@ request_members n e due =
     ++ asked e.request
     ++ told_to e.outcome
 
--- The line of the n-th send of a run, by the reply that it is due.
+-- The line of the n-th send of a run; `due` is the reply that S3 must give.
 abbrev pub request_line : ℕ → Entry → Reply → List ℕ
 request_line n e due = line (request_members n e due)
 
--- ---- the tag of what was sent
+-- ---- the tag of the bytes that were sent
 
 -- The bytes of an object or a part that a request sends.
 abbrev pub sent_bytes : Request → Option (List ℕ)
@@ -155,17 +155,17 @@ sent_bytes (PutObject bucket key bytes header) = Some bytes
 sent_bytes (UploadPart bucket key upload n bytes) = Some bytes
 sent_bytes _ = None
 
--- The tag that the reply to a PutObject tells.
+-- The tag in the reply to a PutObject.
 abbrev pub stored_tag : Reply → Option Spelled
 stored_tag (Stored tag) = Some tag
 stored_tag _ = None
 
--- The tag that the reply to an UploadPart tells.
+-- The tag in the reply to an UploadPart.
 abbrev pub part_tag : Reply → Option Spelled
 part_tag (Part tag) = Some tag
 part_tag _ = None
 
--- If a reply to a PutObject or an UploadPart tells a tag, it is that of the bytes that were sent.
+-- A tag in the reply to a PutObject or an UploadPart is that of the bytes that were sent.
 abbrev pub TellsTag : Request → Reply → Type 0
 TellsTag (PutObject bucket key bytes header) due = IfSome (stored_tag due) (λ tag. tag ≡ plain_tag bytes)
 TellsTag (UploadPart bucket key upload n bytes) due = IfSome (part_tag due) (λ tag. tag ≡ plain_tag bytes)

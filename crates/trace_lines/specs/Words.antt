@@ -1,4 +1,4 @@
--- The words of a trace: operations and errors as the Amazon S3 API Reference names them, and what became of a send.
+-- The words of a trace: operations and errors as the Amazon S3 API Reference names them, and the outcome of a send.
 use Rattle.std.specs.Prelude.{List, codes, ℕ}
 use Rattle.s3_types.specs.declared.request.Request.{Request}
 use Rattle.s3_types.specs.declared.request.Request.TheVariants.{MakeBucket, PutObject, GetObject, HeadObject, DeleteObject, DeleteObjects}
@@ -50,7 +50,8 @@ error_code BucketExists = codes "BucketAlreadyExists"
 error_code BadName = codes "InvalidBucketName"
 error_code NoSuchFile = codes "NoSuchFile"
 
--- What became of a send: it was answered, it was answered SlowDown, it was lost on the way to S3, or it took effect and its reply was lost.
+-- The word for the outcome of a send: answered, answered with SlowDown, lost on the way to S3, or the request took effect but the reply
+-- was lost.
 abbrev pub outcome_word : Outcome → List ℕ
 outcome_word (Answered reply) = codes "answered"
 outcome_word Slow = codes "slow"

@@ -1,4 +1,4 @@
-//! What a request asks for, member by member.
+//! Writes the members of a line that describe a request.
 ghost use Rattle.std.specs.Prelude.{◌≡◌, ◌++◌, IfSome, OnOk};
 ghost use Rattle.s3_types.specs.Spelling.{tag_text};
 ghost use Rattle.s3_types.specs.Tags.{plain_tag};
@@ -32,7 +32,7 @@ fn put_upload<'a>(
     line.whole("upload", upload)
 }
 
-/// The bytes that are sent, whose ETag this is.
+/// Puts the ETag and the length of the bytes that a request sends.
 fn put_payload<'a>(line: &mut Line<'a>, bytes: &Bytes, etag: &'a str) -> Result<(), AllocError>
     requires { etag.now ≡ tag_text (plain_tag bytes.now) }
     ensures { OnOk result (members_of line.new ≡ put_all (payload bytes.now) (members_of line.old)) }
@@ -200,7 +200,8 @@ fn cluster_rename<'a>(
     line.text("target", target.as_str())
 }
 
-/// Puts what a request asks for. The ETag is that of the bytes, where it sends an object or a part.
+/// Puts the members that describe a request. `etag` is the ETag of the bytes if the request sends
+/// an object or a part.
 pub(crate) fn put_asked<'a>(
     line: &mut Line<'a>,
     request: &'a Request,

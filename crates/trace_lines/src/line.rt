@@ -28,10 +28,10 @@ pub(crate) struct Member<'a> {
     pub(crate) value: MemberValue<'a>,
 }
 
-/// How many members there is room for at first. No line of a request has more.
+/// The number of members for which a line reserves room at first. No line of a request has more.
 const ROOM: usize = 16;
 
-/// Adds a member at a place among others. Those behind it move on.
+/// Inserts a member at a place among others, and moves those after it.
 fn insert_at<'a>(
     members: &mut Vec<Member<'a>>,
     at: usize,
@@ -50,7 +50,8 @@ fn insert_at<'a>(
     }
 }
 
-/// The order of two names by their bytes. Most differ in the first one, which is compared by itself.
+/// Returns the order of two names by their bytes. It compares the first bytes separately, since
+/// most names differ there.
 #[inline]
 fn name_order(name: &str, other: &str) -> Ordering
     ensures { result ≡ slice_cmp nat_cmp name.now other.now }
@@ -62,7 +63,8 @@ fn name_order(name: &str, other: &str) -> Ordering
     name.cmp(other)
 }
 
-/// Puts a member at its place in the byte order of the names. It replaces the one of its name.
+/// Puts a member at its place in the byte order of the names. It replaces the member of the same
+/// name.
 fn put<'a>(members: &mut Vec<Member<'a>>, member: Member<'a>) -> Result<(), AllocError>
     ensures ok { OnOk result
         (listed members.new.items ≡ put member.entry.name.now (data_of member.entry.value) (listed members.old.items)) }
@@ -90,7 +92,7 @@ pub struct Line<'a> {
 }
 
 impl<'a> Line<'a> {
-    /// A line of no members. Takes no memory.
+    /// Returns a line without members. Takes no memory.
     pub fn new(alloc: Global) -> Line<'a>
         ensures { members_of result ≡ no_members }
     {

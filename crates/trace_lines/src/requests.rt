@@ -12,7 +12,7 @@ use crate::words::{operation_name, outcome_word};
 use s3_types::{Actor, Bytes, Entry, Reply, Request, Tag, part_tag};
 use std::alloc::{AllocError, Global};
 
-/// The tag of an object's bytes, which the reply tells where they were stored.
+/// Returns the tag of an object's bytes. It takes the tag from the reply if S3 stored the object.
 fn object_tag(bytes: &Bytes, due: &Reply) -> Tag
     requires { IfSome (stored_tag due.now) (λ tag. tag ≡ plain_tag bytes.now) }
     ensures { result ≡ plain_tag bytes.now }
@@ -23,7 +23,7 @@ fn object_tag(bytes: &Bytes, due: &Reply) -> Tag
     }
 }
 
-/// The tag of a part's bytes, which the reply tells where they were stored.
+/// Returns the tag of a part's bytes. It takes the tag from the reply if S3 stored the part.
 fn tag_of_part(bytes: &Bytes, due: &Reply) -> Tag
     requires { IfSome (part_tag due.now) (λ tag. tag ≡ plain_tag bytes.now) }
     ensures { result ≡ plain_tag bytes.now }
@@ -34,7 +34,7 @@ fn tag_of_part(bytes: &Bytes, due: &Reply) -> Tag
     }
 }
 
-/// The tag of the bytes of an object or a part, if the request sends one.
+/// Returns the tag of the bytes of the object or part that a request sends, if it sends one.
 fn sent_tag(request: &Request, due: &Reply) -> Option<Tag>
     requires { TellsTag request.now due.now }
     ensures { result ≡ option_map plain_tag (sent_bytes request.now) }
@@ -46,7 +46,7 @@ fn sent_tag(request: &Request, due: &Reply) -> Option<Tag>
     }
 }
 
-/// The digits of a tag, if there is one.
+/// Returns the digits of a tag, if there is one.
 fn digits(tag: &Option<Tag>) -> &str
     ensures { IfSome tag.now (λ t. result.now ≡ t.digits) }
 {
@@ -56,7 +56,7 @@ fn digits(tag: &Option<Tag>) -> &str
     }
 }
 
-/// Puts who sent what and when, and what became of it.
+/// Puts the number, the event, the actor, the operation and the outcome of a send.
 fn put_send<'a>(
     line: &mut Line<'a>,
     number: u64,
@@ -94,7 +94,7 @@ fn put_request<'a>(
     put_told_to(line, &entry.outcome)
 }
 
-/// Writes the line of a send by an actor of this name.
+/// Writes the line of a send by an actor with this name.
 fn write_by(
     alloc: Global,
     text: &mut String,
@@ -115,16 +115,16 @@ fn write_by(
     line.write(alloc, text)
 }
 
-/// The name of an actor.
+/// Returns the name of an actor.
 fn actor_name(alloc: Global, actor: Actor) -> Result<String, AllocError>
     ensures { IfOk result (λ name. string_bytes name ≡ actor_text actor) }
 {
     format!(in alloc; "{actor}")
 }
 
-/// Writes the line of a send behind a text: the send's number within the run, from 1 on, its entry in
-/// the journal, and the reply that it is due, which may have been lost. After an error the text is as
-/// before.
+/// Appends the line of a send to a text. `number` is the send's number within the run, from 1 on,
+/// `entry` its entry in the journal, and `due` the reply that S3 must give, which may have been
+/// lost. If an error comes, the text is unchanged.
 pub fn write_request(
     alloc: Global,
     text: &mut String,
@@ -132,9 +132,9 @@ pub fn write_request(
     entry: &Entry,
     due: &Reply,
 ) -> Result<(), AllocError>
-    // If the reply tells a tag, it is that of the bytes that were sent.
+    // A tag in the reply is that of the bytes that were sent.
     requires { TellsTag entry.now.request due.now }
-    // The text grows by the line of the send.
+    // The line of the send is appended to the text.
     ensures ok { OnOk result
         (string_bytes text.new ≡ string_bytes text.old ++ request_line number entry.now due.now) }
     ensures err { OnErr result (string_bytes text.new ≡ string_bytes text.old) }

@@ -1,4 +1,4 @@
-//! A line as it is sent to a writer of JSON, member by member.
+//! Sends a line to a writer of JSON, member by member.
 ghost use Rattle.std.specs.Prelude.{◌≡◌, ◌∷◌, ◌++◌, [], IfOk, OnErr, OnOk, string_bytes};
 ghost use Rattle.serde_json.specs.Data.{object, string};
 ghost use Rattle.serde_json.specs.Events.{SendsValue};
@@ -13,7 +13,7 @@ use s3_types::{Key, NamedPart, Tag};
 use serde::{Described, Serialize, Serializer};
 use std::alloc::{AllocError, Global};
 
-/// The text of a tag whose object has so many parts.
+/// Returns the text of a tag with its number of parts.
 fn counted_tag(alloc: Global, tag: &Tag) -> Result<String, AllocError>
     ensures { IfOk result (λ text. string_bytes text ≡ tag_text tag.now) }
 {
@@ -114,7 +114,7 @@ impl Serialize for Line<'_> {
     }
 }
 
-/// Adds a text and a line feed.
+/// Appends a text and a line feed.
 fn push_line(text: &mut String, line: String) -> Result<(), AllocError>
     ensures ok { OnOk result (string_bytes text.new ≡ string_bytes text.old ++ (string_bytes line ++ 10 ∷ [])) }
     ensures err { OnErr result (string_bytes text.new ≡ string_bytes text.old) }
@@ -125,8 +125,8 @@ fn push_line(text: &mut String, line: String) -> Result<(), AllocError>
 }
 
 impl Line<'_> {
-    /// Writes the line behind a text: the object of its members as JSON without blanks, and a line feed.
-    /// After an error the text is as before.
+    /// Appends the line to a text: the object of its members as JSON without blanks, and a line
+    /// feed. If an error comes, the text is unchanged.
     pub fn write(&self, alloc: Global, text: &mut String) -> Result<(), AllocError>
         ensures ok { OnOk result
             (string_bytes text.new ≡ string_bytes text.old ++ (compact_text (object (members_of self.now)) ++ 10 ∷ [])) }

@@ -1,4 +1,4 @@
-//! Lines beside texts that were written by hand.
+//! Compares lines with texts that were written by hand.
 ghost use Rattle.trace_lines.specs.Requests.{TellsTag};
 
 use crate::{Line, write_request};
@@ -47,7 +47,7 @@ fn write_refused(alloc: Global, text: &mut String) -> Result<(), NameFault> {
     Ok(())
 }
 
-/// A page of no entries, and the texts of its request.
+/// Writes the lines of a listing whose page is empty.
 fn write_listing(alloc: Global, text: &mut String) -> Result<(), NameFault> {
     let texts = both(
         Text::copied(alloc, "out/__magic/job-j1/"),
@@ -112,7 +112,7 @@ fn write_completion(alloc: Global, text: &mut String) -> Result<(), NameFault> {
     Ok(())
 }
 
-/// A key with a quotation mark, a control character and a letter beyond ASCII.
+/// Writes the line of a key with a quotation mark, a control character and a letter beyond ASCII.
 fn write_odd_key(alloc: Global, text: &mut String) -> Result<(), NameFault> {
     let (bucket, key) = place(alloc, "a\"b\u{1}\u{e9}")?;
     let mut keys = KeyList::new(alloc);
@@ -150,7 +150,7 @@ fn lines_of_sends(rt: HostRuntime) -> Result<(), NameFault> {
     Ok(())
 }
 
-/// A list of tags, and a member in the place of another.
+/// Writes a line with a list of tags, and with a member that replaces another.
 fn write_tags(alloc: Global, text: &mut String) -> Result<(), AllocError> {
     let tag = part_tag(b"hello");
     let tags = [tag, Tag::new(*tag.digits(), 2)];

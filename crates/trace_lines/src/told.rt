@@ -1,4 +1,4 @@
-//! What became of a send, member by member.
+//! Writes the members of a line that tell the outcome of a send.
 ghost use Rattle.std.specs.Prelude.{◌≡◌, ◌∷◌, OnOk, codes};
 ghost use Rattle.serde_json.specs.Data.{boolean, put};
 ghost use Rattle.trace_lines.specs.Lines.{put_all, whole};
@@ -10,7 +10,7 @@ use crate::words::error_code;
 use s3_types::{Outcome, Refusal, Reply};
 use std::alloc::AllocError;
 
-/// Whether a send reached the store, or the cluster.
+/// Returns whether a send reached the store, or the cluster.
 fn has_reached(outcome: &Outcome) -> bool
     ensures { result ≡ has_reached outcome.now }
 {
@@ -21,7 +21,7 @@ fn has_reached(outcome: &Outcome) -> bool
     }
 }
 
-/// The refusal in a reply, if it is one.
+/// Returns the refusal in a reply, if it is one.
 fn refusal_in(reply: &Reply) -> Option<Refusal>
     ensures { result ≡ refusal_in reply.now }
 {
@@ -31,7 +31,8 @@ fn refusal_in(reply: &Reply) -> Option<Refusal>
     }
 }
 
-/// Puts whether a send took effect, by the reply that it is due, and the error code if it was refused.
+/// Puts whether a send took effect, by the reply that S3 must give, and the error code if the send
+/// was refused.
 pub(crate) fn put_effect<'a>(
     line: &mut Line<'a>,
     outcome: &Outcome,
@@ -62,7 +63,7 @@ fn put_listed<'a>(line: &mut Line<'a>, listed: usize, more: bool) -> Result<(), 
     line.flag("more", more)
 }
 
-/// Puts what a reply tells.
+/// Puts the facts of a reply that the line repeats.
 fn put_told<'a>(line: &mut Line<'a>, reply: &Reply) -> Result<(), AllocError>
     ensures { OnOk result (members_of line.new ≡ put_all (told reply.now) (members_of line.old)) }
 {
@@ -74,7 +75,7 @@ fn put_told<'a>(line: &mut Line<'a>, reply: &Reply) -> Result<(), AllocError>
     }
 }
 
-/// Puts what the sender was told.
+/// Puts the facts that the sender received in a reply.
 pub(crate) fn put_told_to<'a>(line: &mut Line<'a>, outcome: &Outcome) -> Result<(), AllocError>
     ensures { OnOk result (members_of line.new ≡ put_all (told_to outcome.now) (members_of line.old)) }
 {

@@ -3,8 +3,8 @@ ghost use Rattle.trace_lines.specs.Words.{error_code, operation_name, outcome_wo
 
 use s3_types::{Outcome, Refusal, Request};
 
-/// The operation of a request, as the Amazon S3 API Reference names it. Requests to the cluster's file
-/// system have names that begin with `Cluster`. Takes no memory.
+/// Returns the operation of a request, as the Amazon S3 API Reference names it. Requests to the
+/// cluster's file system have names that begin with `Cluster`. Takes no memory.
 pub fn operation_name(request: &Request) -> &'static str
     ensures { result.now ≡ operation_name request.now }
 {
@@ -31,7 +31,7 @@ pub fn operation_name(request: &Request) -> &'static str
     }
 }
 
-/// The error code of a refusal, as the Amazon S3 API Reference has it; the cluster's own is
+/// Returns the error code of a refusal, as the Amazon S3 API Reference has it; the cluster's own is
 /// `NoSuchFile`. Takes no memory.
 pub fn error_code(refusal: Refusal) -> &'static str
     ensures { result.now ≡ error_code refusal }
@@ -52,8 +52,12 @@ pub fn error_code(refusal: Refusal) -> &'static str
     }
 }
 
-/// What became of a send: `answered`, `slow` where it was answered SlowDown, `lost-before` where it was
-/// lost on the way to S3, and `lost-after` where it took effect and its reply was lost. Takes no memory.
+/// Returns the word for the outcome of a send. Takes no memory.
+///
+/// - `answered`: the request was answered.
+/// - `slow`: the answer was SlowDown.
+/// - `lost-before`: the request was lost on the way to S3.
+/// - `lost-after`: the request took effect, but the reply was lost.
 pub fn outcome_word(outcome: &Outcome) -> &'static str
     ensures { result.now ≡ outcome_word outcome.now }
 {

@@ -1,4 +1,4 @@
--- What serde_json reads from a line, and what it refuses.
+-- The JSON trees that serde_json reads from a line, and the lines that it refuses.
 use Rattle.std.proofs.Common.{Bool, Err, List, None, Ok, Option, Some, ap, cond, false, refl, true, ℕ, ◌≡◌}
 use Rattle.std.specs.Str.{IsUtf8, is_utf8}
 use Rattle.std.proofs.lemmas.Str.{IsUtf8-from_is_utf8, is_utf8-from_IsUtf8}

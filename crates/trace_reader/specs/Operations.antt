@@ -6,8 +6,8 @@ use Rattle.trace_reader.specs.declared.operation.Operation.{Operation}
 use Rattle.trace_reader.specs.declared.operation.Operation.TheVariants as op
 use Rattle.trace_reader.specs.declared.stage.Stage.{Stage}
 
--- Requests that change no object's bytes, in the words of the Amazon S3 API Reference and of the cluster's file system; what a recording
--- has besides; and the lines of a trace that are about none.
+-- The names of the operations that change no object's bytes: requests, in the words of the Amazon S3 API Reference and of the cluster's
+-- file system; other requests that a recording may have; and the lines of a trace that are about no request.
 abbrev pub others : List (List ℕ)
 others =
     codes "Event" ∷ codes "End"
@@ -32,7 +32,7 @@ named =
     ∷ (codes "CompleteMultipartUpload", op.CompleteMultipartUpload)
     ∷ []
 
--- The operation of a name in this table; of others it is none.
+-- The operation with a name in this table, `Other` for a name in `others`, and else None.
 abbrev pub found_in : List (List ℕ × Operation) → List ℕ → Option Operation
 found_in [] name = cond (list_any (bytes_eq name) others) (Some op.Other) None
 found_in (o ∷ os) name = cond (bytes_eq name o.0) (Some o.1) (found_in os name)

@@ -1,4 +1,4 @@
--- Reading a line of a trace: the first fault in the order of the checks, or what the line says.
+-- Reading a line of a trace: the first fault in the order of the checks, or the line's contents.
 use Rattle.std.specs.Prelude.{ℕ, ◌&&◌, nat_lt, nat_le, List, [], ◌∷◌, length, Bool, true, false, Option, Some, None, Result, Ok, Err}
 use Rattle.std.specs.Prelude.{codes, option_and_then, cond}
 use Rattle.std.specs.List.{list_all}
@@ -58,7 +58,7 @@ below_bucket (Err fault) = None
 abbrev pub as_dest : Data → Option Path
 as_dest d = option_and_then (λ text. below_bucket (path_in text)) (as_str d)
 
--- Which opening files a word says that the job keeps.
+-- Which opening files the job keeps, by this word.
 abbrev pub keeps_of : List ℕ → Option Keeps
 keeps_of word =
     cond (bytes_eq word (codes "all")) (Some Everything)
@@ -90,7 +90,7 @@ as_file_path d = option_and_then (kept is_file_path) (as_str d)
 abbrev pub as_part : Data → Option (List ℕ)
 as_part d = option_and_then as_str (get (codes "etag") d)
 
--- The tags of the parts that a completion names, of which there is one at least.
+-- The tags of the parts that a completion names. There is at least one.
 abbrev pub as_parts : Data → Option (List (List ℕ))
 as_parts d = option_and_then (λ ds. option_and_then (kept (λ tags. nat_lt 0 (length tags))) (all_of as_part ds)) (as_array d)
 
@@ -100,7 +100,7 @@ as_parts d = option_and_then (λ ds. option_and_then (kept (λ tags. nat_lt 0 (l
 abbrev pub of_kind : {A : Type 0} → Field → Option A → Result A TraceFault
 of_kind f x = need x (WrongKind f)
 
--- A member that is there and of its kind.
+-- A member that exists and is of its kind.
 abbrev pub member : {A : Type 0} → (Data → Option A) → Field → Data → Result A TraceFault
 member kind f d = need (get (name_of f) d) (MissingField f) >>= λ x. of_kind f (kind x)
 
@@ -112,7 +112,7 @@ job_in d = do
   tasks ← member as_u32 field.Tasks d
   Ok (line.Job dest keeps tasks)
 
--- The line of an attempt of a job of so many tasks.
+-- The line of an attempt of a job with this number of tasks.
 unfoldable pub attempt_in : Option ℕ → Data → Result TraceLine TraceFault
 attempt_in tasks d = do
   task ← member (as_task tasks) field.Task d
@@ -134,7 +134,7 @@ object_in d = do
   etags ← member as_texts field.Etags d
   Ok (line.Object bucket key etags)
 
--- A request changes something if it took effect.
+-- The change that a request makes, or no change if it took no effect.
 abbrev pub if_effect : Bool → TraceLine → TraceLine
 if_effect true change = change
 if_effect false change = line.Still
@@ -182,7 +182,7 @@ complete_in d = do
   parts ← member as_parts field.Parts d
   Ok (if_effect effect (line.Put bucket key parts))
 
--- What a line of this operation says, in a job of so many tasks.
+-- The contents of a line of this operation, in a job with this number of tasks.
 abbrev pub said_by : Option ℕ → Operation → Data → Result TraceLine TraceFault
 said_by tasks op.Job d = job_in d
 said_by tasks op.Attempt d = attempt_in tasks d
@@ -196,7 +196,7 @@ said_by tasks op.DeleteObjects d = delete_all_in d
 said_by tasks op.CompleteMultipartUpload d = complete_in d
 said_by tasks op.Other d = Ok line.Still
 
--- The JSON tree that bytes spell, if serde_json reads one.
+-- The JSON tree of these bytes, if serde_json reads one.
 abbrev pub tree_of : List ℕ → Option Data
 tree_of bytes = cond (is_utf8 bytes) (json.read bytes) None
 
@@ -209,11 +209,11 @@ turn_in stage d = do
   turn ← check (may_come stage operation) OutOfOrder
   Ok operation
 
--- What a JSON tree says at this stage of its trace.
+-- The contents of a JSON tree at this stage of its trace.
 abbrev pub line_in : Stage → Data → Result TraceLine TraceFault
 line_in stage d = turn_in stage d >>= λ operation. said_by stage.tasks operation d
 
--- What a line says at this stage of its trace, without its line feed.
+-- The contents of a line, without its line feed, at this stage of its trace.
 unfoldable pub line_of : Stage → List ℕ → Result TraceLine TraceFault
 line_of stage bytes = do
   fits ← check (nat_le (length bytes) MOST_BYTES) TooLong

@@ -1,4 +1,4 @@
-//! The requests that change objects.
+//! Reads the lines of requests that change objects.
 ghost use Rattle.std.specs.Prelude.{Ok};
 ghost use Rattle.serde_json.specs.View.{view};
 ghost use Rattle.trace_reader.specs.declared.line.TraceLine.TheVariants as line;
@@ -13,7 +13,7 @@ use s3_types::{Text, TextList, both, let_go};
 use serde_json::Value;
 use std::alloc::Global;
 
-/// The object at this key has these tags now.
+/// Returns the line that puts an object with these tags at this key.
 fn put(alloc: Global, bucket: &str, key: &str, etags: TextList) -> Result<TraceLine, TraceFault>
     ensures { Gives result (Ok (line.Put bucket.now key.now etags)) }
 {
@@ -26,7 +26,7 @@ fn put(alloc: Global, bucket: &str, key: &str, etags: TextList) -> Result<TraceL
     }
 }
 
-/// The object at this key has the tags of the one at its source now.
+/// Returns the line that copies the object at its source to this key.
 fn copy(alloc: Global, bucket: &str, source: &str, key: &str) -> Result<TraceLine, TraceFault>
     ensures { Gives result (Ok (line.Copy bucket.now source.now key.now)) }
 {
@@ -44,7 +44,7 @@ fn copy(alloc: Global, bucket: &str, source: &str, key: &str) -> Result<TraceLin
     }
 }
 
-/// No objects are at these keys now.
+/// Returns the line that deletes the objects at these keys.
 fn delete(alloc: Global, bucket: &str, keys: TextList) -> Result<TraceLine, TraceFault>
     ensures { Gives result (Ok (line.Delete bucket.now keys)) }
 {
@@ -57,7 +57,7 @@ fn delete(alloc: Global, bucket: &str, keys: TextList) -> Result<TraceLine, Trac
     }
 }
 
-/// A request to put an object, or its first fault.
+/// Reads a request to put an object, or returns its first fault.
 #[tactic(auto, unfolding(crate::specs::Reading::put_in))]
 pub fn put_in(alloc: Global, value: &Value) -> Result<TraceLine, TraceFault>
     ensures { Gives result (put_in (view value.now)) }
@@ -72,7 +72,7 @@ pub fn put_in(alloc: Global, value: &Value) -> Result<TraceLine, TraceFault>
     put(alloc, bucket, key, only_text(alloc, etag)?)
 }
 
-/// A request to copy an object, or its first fault.
+/// Reads a request to copy an object, or returns its first fault.
 #[tactic(auto, unfolding(crate::specs::Reading::copy_in))]
 pub fn copy_in(alloc: Global, value: &Value) -> Result<TraceLine, TraceFault>
     ensures { Gives result (copy_in (view value.now)) }
@@ -87,7 +87,7 @@ pub fn copy_in(alloc: Global, value: &Value) -> Result<TraceLine, TraceFault>
     copy(alloc, bucket, source, key)
 }
 
-/// A request to delete an object, or its first fault.
+/// Reads a request to delete an object, or returns its first fault.
 #[tactic(auto, unfolding(crate::specs::Reading::delete_in))]
 pub fn delete_in(alloc: Global, value: &Value) -> Result<TraceLine, TraceFault>
     ensures { Gives result (delete_in (view value.now)) }
@@ -101,7 +101,7 @@ pub fn delete_in(alloc: Global, value: &Value) -> Result<TraceLine, TraceFault>
     delete(alloc, bucket, only_text(alloc, key)?)
 }
 
-/// A request to delete objects, or its first fault.
+/// Reads a request to delete objects, or returns its first fault.
 #[tactic(auto, unfolding(crate::specs::Reading::delete_all_in))]
 pub fn delete_all_in(alloc: Global, value: &Value) -> Result<TraceLine, TraceFault>
     ensures { Gives result (delete_all_in (view value.now)) }
@@ -116,7 +116,7 @@ pub fn delete_all_in(alloc: Global, value: &Value) -> Result<TraceLine, TraceFau
     delete(alloc, bucket, keys)
 }
 
-/// A request to complete an upload, or its first fault.
+/// Reads a request to complete an upload, or returns its first fault.
 #[tactic(auto, unfolding(crate::specs::Reading::complete_in))]
 pub fn complete_in(alloc: Global, value: &Value) -> Result<TraceLine, TraceFault>
     ensures { Gives result (complete_in (view value.now)) }

@@ -1,4 +1,4 @@
-//! The lines that say what a job is to do, and what existed before it.
+//! Reads the lines that say what a job will do, and what existed before it.
 ghost use Rattle.serde_json.specs.View.{view};
 ghost use Rattle.trace_reader.specs.Faults.{Gives};
 ghost use Rattle.trace_reader.specs.Reading.{job_in, attempt_in, file_in, object_in};
@@ -12,7 +12,7 @@ use s3_types::{Text, both, let_go};
 use serde_json::Value;
 use std::alloc::Global;
 
-/// The line of a job, or its first fault.
+/// Reads the line of a job, or returns its first fault.
 #[tactic(auto, unfolding(crate::specs::Reading::job_in))]
 pub fn job_in(alloc: Global, value: &Value) -> Result<TraceLine, TraceFault>
     ensures { Gives result (job_in (view value.now)) }
@@ -34,7 +34,7 @@ pub fn job_in(alloc: Global, value: &Value) -> Result<TraceLine, TraceFault>
     }
 }
 
-/// The line of an attempt of a job that has so many tasks, or its first fault.
+/// Reads the line of an attempt of a job with this number of tasks, or returns its first fault.
 #[tactic(auto, unfolding(crate::specs::Reading::attempt_in))]
 pub fn attempt_in(tasks: Option<u32>, value: &Value) -> Result<TraceLine, TraceFault>
     ensures { Gives result (attempt_in tasks (view value.now)) }
@@ -44,7 +44,7 @@ pub fn attempt_in(tasks: Option<u32>, value: &Value) -> Result<TraceLine, TraceF
     Ok(TraceLine::Attempt { task, attempt })
 }
 
-/// The line of a file, or its first fault.
+/// Reads the line of a file, or returns its first fault.
 #[tactic(auto, unfolding(crate::specs::Reading::file_in))]
 pub fn file_in(alloc: Global, value: &Value) -> Result<TraceLine, TraceFault>
     ensures { Gives result (file_in (view value.now)) }
@@ -60,7 +60,7 @@ pub fn file_in(alloc: Global, value: &Value) -> Result<TraceLine, TraceFault>
     }
 }
 
-/// The line of an opening object, or its first fault.
+/// Reads the line of an opening object, or returns its first fault.
 #[tactic(auto, unfolding(crate::specs::Reading::object_in))]
 pub fn object_in(alloc: Global, value: &Value) -> Result<TraceLine, TraceFault>
     ensures { Gives result (object_in (view value.now)) }

@@ -23,8 +23,8 @@ pub enum Field {
     Parts,
 }
 
-/// Why a line is none of a trace. Where several hold, the first of these is said; members are looked at in the order in which
-/// `TraceLine` lists them.
+/// Why a line does not belong to a trace. If several faults apply, the first of these is reported;
+/// members are checked in the order in which `TraceLine` lists them.
 #[derive(Clone, Copy, PartialEq, Eq, Debug)]
 pub enum TraceFault {
     /// The line has more than 8,388,608 bytes, without its line feed.
@@ -33,18 +33,20 @@ pub enum TraceFault {
     NotJson,
     /// The line has no member of this name.
     MissingField(Field),
-    /// The member of this name has another kind of value, or one that is out of its range.
+    /// The member of this name has another kind of value, or a value out of its range.
     WrongKind(Field),
-    /// `op` is no operation of the Amazon S3 API that a trace may have, and no other word of a trace.
+    /// `op` is neither an operation of the Amazon S3 API that a trace may have nor another word of
+    /// a trace.
     UnknownOp,
-    /// The line does not stand where it may: the job first, and once; its attempts, their files and the opening objects before the
-    /// first change and before the commit; a file behind an attempt.
+    /// The line may not come at this place. The job comes first, and once. Its attempts, their
+    /// files and the opening objects come before the first change and before the commit, and a file
+    /// comes after an attempt.
     OutOfOrder,
     /// A second commit, the same attempt again, the same path of an attempt again, or the same opening object again.
     Repeated,
     /// A file whose path an attempt of another task has.
     SamePath,
-    /// A copy took effect, and no object is at its source.
+    /// A copy took effect, but there is no object at its source.
     NoSource,
     /// Memory ran out.
     NoMemory,

@@ -11,7 +11,7 @@ use crate::fault::{Field, TraceFault};
 use serde_json::Value;
 
 impl Field {
-    /// The name of the member.
+    /// Returns the name of the member.
     pub fn name(self) -> &'static str
         ensures { result.now ≡ name_of self }
     {
@@ -35,7 +35,7 @@ impl Field {
     }
 }
 
-/// The value of a member. Else MissingField.
+/// Returns the value of a member, or the fault MissingField.
 pub fn present(value: &Value, field: Field) -> Result<&Value, TraceFault>
     ensures { GivesBy (λ v. view v.now) result (need (get (name_of field) (view value.now)) (MissingField field)) }
 {
@@ -45,7 +45,7 @@ pub fn present(value: &Value, field: Field) -> Result<&Value, TraceFault>
     }
 }
 
-/// A text, which is lent.
+/// Returns a text member, borrowed from the line.
 pub fn str_member(value: &Value, field: Field) -> Result<&str, TraceFault>
     ensures { GivesBy (λ t. t.now) result (member as_str field (view value.now)) }
 {
@@ -56,7 +56,7 @@ pub fn str_member(value: &Value, field: Field) -> Result<&str, TraceFault>
     }
 }
 
-/// `true` or `false`.
+/// Returns a member that is `true` or `false`.
 pub fn bool_member(value: &Value, field: Field) -> Result<bool, TraceFault>
     ensures { Gives result (member as_bool field (view value.now)) }
 {
@@ -67,7 +67,7 @@ pub fn bool_member(value: &Value, field: Field) -> Result<bool, TraceFault>
     }
 }
 
-/// An unsigned whole number below 2^32.
+/// Returns an unsigned whole number below 2^32, if the value is one.
 fn as_u32(value: &Value) -> Option<u32>
     ensures { result ≡ as_u32 (view value.now) }
 {
@@ -81,7 +81,7 @@ fn as_u32(value: &Value) -> Option<u32>
     }
 }
 
-/// An unsigned whole number below 2^32.
+/// Returns a member that is an unsigned whole number below 2^32.
 pub fn u32_member(value: &Value, field: Field) -> Result<u32, TraceFault>
     ensures { Gives result (member as_u32 field (view value.now)) }
 {

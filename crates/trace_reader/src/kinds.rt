@@ -14,7 +14,7 @@ use serde_json::Value;
 use soundness::Keeps;
 use std::alloc::Global;
 
-/// The destination that a text names, which has a key.
+/// Returns the destination that a text names. It must have a key.
 fn dest_of(alloc: Global, text: &str) -> Result<S3Path, TraceFault>
     ensures { Gives result (of_kind field.Dest (below_bucket (path_in text.now))) }
 {
@@ -30,7 +30,7 @@ fn dest_of(alloc: Global, text: &str) -> Result<S3Path, TraceFault>
     Ok(path)
 }
 
-/// The job's destination.
+/// Returns the job's destination.
 pub fn dest_member(alloc: Global, value: &Value) -> Result<S3Path, TraceFault>
     ensures { Gives result (member as_dest field.Dest (view value.now)) }
 {
@@ -49,7 +49,7 @@ fn keeps_of(word: &str) -> Option<Keeps>
     }
 }
 
-/// Which opening files the job keeps.
+/// Returns which opening files the job keeps.
 pub fn keeps_member(value: &Value) -> Result<Keeps, TraceFault>
     ensures { Gives result (member as_keeps field.Keeps (view value.now)) }
 {
@@ -60,7 +60,7 @@ pub fn keeps_member(value: &Value) -> Result<Keeps, TraceFault>
     }
 }
 
-/// A task of a job that has so many.
+/// Returns a task's number, which is below the job's number of tasks.
 pub fn task_member(tasks: Option<u32>, value: &Value) -> Result<u32, TraceFault>
     ensures { Gives result (member (as_task tasks) field.Task (view value.now)) }
 {
@@ -75,7 +75,7 @@ pub fn task_member(tasks: Option<u32>, value: &Value) -> Result<u32, TraceFault>
     }
 }
 
-/// A file's path below the destination, which is lent.
+/// Returns a file's path below the destination, borrowed from the line.
 pub fn path_member(value: &Value) -> Result<&str, TraceFault>
     ensures { GivesBy (λ path. path.now) result (member as_file_path field.Path (view value.now)) }
 {

@@ -1,12 +1,12 @@
-//! Reading the lines of a trace, each a JSON object in the words of the Amazon S3 API, as an audit needs them.
+//! Reads the lines of a trace, each a JSON object in the words of the Amazon S3 API, as an audit
+//! needs them.
 //!
 //! # What is proved
 //!
-//! `read_line`: It gives what the line says, or the line's first fault, as `line_of` has it (`Reading.antt`). It may give
-//! NoMemory in place of either.
-//!
-//! `Field::name`, `Stage::may_come`, `is_visible`: They are `name_of` (`Reading.antt`), `may_come` (`Operations.antt`), and `is_visible` of
-//! `soundness`.
+//! - `read_line` returns the contents of the line, or the line's first fault, as `line_of` defines
+//!   it (`Reading.antt`). It may return NoMemory instead of either.
+//! - `Field::name`, `Stage::may_come` and `is_visible` are `name_of` (`Reading.antt`), `may_come`
+//!   (`Operations.antt`), and `is_visible` of `soundness`.
 //!
 //! Left open: that NoMemory comes only if memory runs out.
 #![tactic(auto)]

@@ -2,7 +2,7 @@ use path_keys::S3Path;
 use s3_types::{Text, TextList};
 use soundness::Keeps;
 
-/// What a line of a trace says, as far as an audit needs it.
+/// The contents of a line of a trace, as far as an audit needs them.
 #[derive(Drop)]
 pub enum TraceLine {
     /// `Job`: the destination, which opening files the job keeps, and how many tasks it has.

@@ -3,7 +3,7 @@ ghost use Rattle.std.specs.List.{list_any};
 ghost use Rattle.std.specs.Str.{bytes_eq};
 ghost use Rattle.trace_reader.specs.Operations.{operation_of, others};
 
-/// What kind of line a line of a trace is.
+/// The kind of a line of a trace.
 #[derive(Clone, Copy, PartialEq, Eq, Debug)]
 pub enum Operation {
     Job,
@@ -16,7 +16,7 @@ pub enum Operation {
     DeleteObject,
     DeleteObjects,
     CompleteMultipartUpload,
-    /// One of which no more members are read, and which changes no object's bytes.
+    /// An operation of which no more members are read, and which changes no object's bytes.
     Other,
 }
 
@@ -51,7 +51,7 @@ fn is_other(name: &str) -> bool
     OTHERS.contains(&name)
 }
 
-/// The operation of this name, if there is one.
+/// Returns the operation with this name, if there is one.
 pub fn operation_of(name: &str) -> Option<Operation>
     ensures { result ≡ operation_of name.now }
 {

@@ -12,8 +12,8 @@ fn hides(b: u8) -> bool
     b == b'_' || b == b'.'
 }
 
-/// Whether readers see a file at this path below the destination: it is not empty, does not end in `/`, and has no element that begins
-/// with `_` or `.` (Hadoop's hidden files).
+/// Returns whether readers see a file at this path below the destination: it is not empty, does not
+/// end in `/`, and has no element that begins with `_` or `.` (Hadoop's hidden files).
 pub fn is_visible(path: &[u8]) -> bool
     ensures { result ≡ is_visible path.now }
 {
@@ -27,7 +27,7 @@ pub fn is_visible(path: &[u8]) -> bool
     !begins
 }
 
-/// Whether no element of a path is empty.
+/// Returns whether no element of a path is empty.
 fn are_some(path: &[u8]) -> bool
     ensures { result ≡ list_all is_some_text (parts_of 47 path.now) }
 {
@@ -44,7 +44,7 @@ fn are_some(path: &[u8]) -> bool
     }
 }
 
-/// Whether an attempt may write a file at this path below the destination.
+/// Returns whether an attempt may write a file at this path below the destination.
 pub fn is_file_path(path: &[u8]) -> bool
     ensures { result ≡ is_file_path path.now }
 {

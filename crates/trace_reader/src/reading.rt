@@ -19,7 +19,7 @@ use std::alloc::Global;
 /// The most bytes of a line, without its line feed.
 pub const MOST_BYTES: usize = 8_388_608;
 
-/// The JSON tree of a line. Else NotJson.
+/// Returns the JSON tree of a line, or the fault NotJson.
 fn tree(alloc: Global, line: &[u8]) -> Result<Value, TraceFault>
     ensures { GivesBy view result (need (tree_of line.now) NotJson) }
 {
@@ -35,7 +35,7 @@ fn tree(alloc: Global, line: &[u8]) -> Result<Value, TraceFault>
     }
 }
 
-/// What a line of this operation says in a job of so many tasks, or its first fault.
+/// Reads a line of this operation in a job with this number of tasks, or returns its first fault.
 fn said_by(
     alloc: Global,
     tasks: Option<u32>,
@@ -59,7 +59,7 @@ fn said_by(
     }
 }
 
-/// The operation of a line that may come at this stage.
+/// Returns the operation of a line that may come at this stage, or the line's fault.
 fn turn_in(stage: Stage, value: &Value) -> Result<Operation, TraceFault>
     ensures { Gives result (turn_in stage (view value.now)) }
 {
@@ -77,7 +77,7 @@ fn turn_in(stage: Stage, value: &Value) -> Result<Operation, TraceFault>
     }
 }
 
-/// What a tree says at this stage, or its first fault.
+/// Reads a tree at this stage, or returns its first fault.
 fn line_in(alloc: Global, stage: Stage, value: &Value) -> Result<TraceLine, TraceFault>
     ensures { Gives result (line_in stage (view value.now)) }
 {
@@ -85,11 +85,12 @@ fn line_in(alloc: Global, stage: Stage, value: &Value) -> Result<TraceLine, Trac
     said_by(alloc, stage.tasks, operation, value)
 }
 
-/// What a line of a trace says, given without its line feed, at the stage that the trace has come to. Else the first fault of
-/// the line, in the order in which `TraceFault` lists them, unless memory runs out.
+/// Reads a line of a trace, without its line feed, at this stage of the trace. If the line has a
+/// fault, returns the first one in the order in which `TraceFault` lists them, unless memory runs
+/// out.
 #[tactic(auto, unfolding(crate::specs::Reading::line_of))]
 pub fn read_line(alloc: Global, stage: Stage, line: &[u8]) -> Result<TraceLine, TraceFault>
-    // What the line says, or its first fault, unless memory runs out.
+    // The result is the line's contents, or its first fault, unless memory ran out.
     ensures { Gives result (line_of stage line.now) }
 {
     if line.len() > MOST_BYTES {

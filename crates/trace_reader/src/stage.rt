@@ -3,19 +3,20 @@ ghost use Rattle.trace_reader.specs.Operations.{may_come};
 
 use crate::operation::Operation;
 
-/// How far a trace has come, as far as that decides which lines may follow.
+/// How far a trace has come: the facts that decide which lines may follow.
 #[derive(Clone, Copy, PartialEq, Eq, Debug)]
 pub struct Stage {
     /// How many tasks the job has, once its line has come.
     pub tasks: Option<u32>,
-    /// An attempt's line has come.
+    /// Whether an attempt's line has come.
     pub attempted: bool,
-    /// A change or the commit has come, so that attempts, files and opening objects may not follow.
+    /// Whether a change or the commit has come, so that attempts, files and opening objects may not
+    /// follow.
     pub running: bool,
 }
 
 impl Stage {
-    /// Whether a line of this operation may come next.
+    /// Returns whether a line of this operation may come next.
     pub fn may_come(self, operation: Operation) -> bool
         ensures { result ≡ may_come self operation }
     {

@@ -1,4 +1,5 @@
-//! Lines of traces, written by hand: each fault with lines that show it, and lines of each kind.
+//! Reads lines of traces that were written by hand: each fault with lines that show it, and lines
+//! of each kind.
 use crate::{Field, Stage, TraceFault, TraceLine, read_line};
 use path_keys::S3Path;
 use s3_types::{Text, let_go};
@@ -334,7 +335,7 @@ fn faults(rt: HostRuntime) -> Result<(), AllocError> {
     Ok(())
 }
 
-/// Adds words and, with a comma behind each, the texts of a list.
+/// Adds words and the texts of a list, each with a comma after it.
 fn tell(text: &mut String, words: &[&str], list: &[Text]) -> Result<(), AllocError> {
     for word in words {
         text.push_str(*word)?;
@@ -395,7 +396,7 @@ fn tell_line(text: &mut String, line: &TraceLine) -> Result<(), AllocError> {
     }
 }
 
-/// Adds what is read of a line, or its fault.
+/// Adds the contents of a line, or its fault.
 fn tell_read(alloc: Global, text: &mut String, stage: Stage, line: &str) -> Result<(), AllocError> {
     match read_line(alloc, stage, line.as_bytes()) {
         Ok(said) => {

@@ -11,7 +11,7 @@ use s3_types::{Sequence, Text, TextList, let_go};
 use serde_json::Value;
 use std::alloc::{AllocError, Global};
 
-/// A list of one text.
+/// Returns a list of one text.
 pub fn only_text(alloc: Global, text: &str) -> Result<TextList, AllocError>
     ensures { IfOk result (λ texts. texts ≡ text.now ∷ []) }
 {
@@ -20,7 +20,7 @@ pub fn only_text(alloc: Global, text: &str) -> Result<TextList, AllocError>
     Ok(texts)
 }
 
-/// The texts of a list, if all its values are such.
+/// Returns the texts of a list, if all its values are texts.
 fn texts_in(alloc: Global, list: &[Value]) -> Result<Option<TextList>, AllocError>
     ensures { IfOk result (λ texts. texts ≡ all_of as_str (items_view list.now)) }
 {
@@ -34,7 +34,7 @@ fn texts_in(alloc: Global, list: &[Value]) -> Result<Option<TextList>, AllocErro
     Ok(Some(texts))
 }
 
-/// A list of texts, in any order.
+/// Returns a list of texts, in any order, if the value is one.
 fn texts_of(alloc: Global, value: &Value) -> Result<Option<TextList>, AllocError>
     ensures { IfOk result (λ texts. texts ≡ as_texts (view value.now)) }
 {
@@ -44,7 +44,7 @@ fn texts_of(alloc: Global, value: &Value) -> Result<Option<TextList>, AllocError
     }
 }
 
-/// A list of texts, in any order. Else MissingField or WrongKind.
+/// Returns a member that is a list of texts, in any order, or the fault MissingField or WrongKind.
 pub fn texts_member(alloc: Global, value: &Value, field: Field) -> Result<TextList, TraceFault>
     ensures { Gives result (member as_texts field (view value.now)) }
 {
@@ -55,7 +55,7 @@ pub fn texts_member(alloc: Global, value: &Value, field: Field) -> Result<TextLi
     }
 }
 
-/// The tag of a part that a completion names, which is lent.
+/// Returns the tag of a part that a completion names, borrowed from the line.
 fn part_tag(value: &Value) -> Option<&str>
     ensures { option_map (λ t. t.now) result ≡ as_part (view value.now) }
 {
@@ -65,7 +65,7 @@ fn part_tag(value: &Value) -> Option<&str>
     }
 }
 
-/// The tags of a list of parts, if all its values are such.
+/// Returns the tags of a list of parts, if all its values are parts.
 fn part_tags(alloc: Global, list: &[Value]) -> Result<Option<TextList>, AllocError>
     ensures { IfOk result (λ tags. tags ≡ all_of as_part (items_view list.now)) }
 {
@@ -79,7 +79,7 @@ fn part_tags(alloc: Global, list: &[Value]) -> Result<Option<TextList>, AllocErr
     Ok(Some(tags))
 }
 
-/// The tags of the parts that a completion names, of which there is one at least.
+/// Returns the tags of the parts that a completion names, if there is at least one.
 fn parts_of(alloc: Global, value: &Value) -> Result<Option<TextList>, AllocError>
     ensures { IfOk result (λ tags. tags ≡ as_parts (view value.now)) }
 {
@@ -96,7 +96,8 @@ fn parts_of(alloc: Global, value: &Value) -> Result<Option<TextList>, AllocError
     Ok(None)
 }
 
-/// The tags of the parts that a completion names, of which there is one at least. Else MissingField or WrongKind.
+/// Returns the tags of the parts that a completion names, or the fault MissingField or WrongKind.
+/// There must be at least one part.
 pub fn parts_member(alloc: Global, value: &Value, field: Field) -> Result<TextList, TraceFault>
     ensures { Gives result (member as_parts field (view value.now)) }
 {

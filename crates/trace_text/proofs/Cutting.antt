@@ -8,13 +8,13 @@ use Rattle.std.proofs.Math.Nat.{add-div_right, div-lt_iff_lt-mul}
 use Rattle.std.proofs.lemmas.Bool.{cases_lt}
 use Rattle.std.proofs.lemmas.Bool.Decides.{nat_tests}
 
--- so many parts are one more than those of what is behind the first
+-- There is one part more than in the rest after the first part.
 one_more : (n size : ℕ) → 1 ≤ size → size < n → quotient_up n size ≡ quotient_up (n - size) size + 1
 one_more n size some longer =
     let e : n + (size - 1) ≡ (n - size + (size - 1)) + size = omega arith in
     ap (λ m. m / size) e ∙ add-div_right (n - size + (size - 1)) some
 
--- what is behind the first part is not empty
+-- The rest after the first part is not empty.
 some_behind : (n size : ℕ) → 1 ≤ size → size < n → 1 ≤ quotient_up (n - size) size
 some_behind n size some longer =
     elim (cases_lt ((n - size + (size - 1)) / size) 1) [
@@ -37,7 +37,7 @@ more_parts size bytes some longer =
     ∙ ap (λ m. take size bytes ∷ blocks (greater 1 (quotient_up m size)) size (drop size bytes)) left
     ∙ ap (λ (l : List (List ℕ)). take size bytes ∷ l) (sym (parts_are size (drop size bytes)))
 
--- the tags of the parts so far, and of the next one
+-- The tags of the parts so far, and that of the next one.
 pub one_tag : (size : ℕ) (rest front back : List ℕ) (tags next all : List Spelled) → 1 ≤ size → size < length rest
     → front ≡ take size rest → back ≡ drop size rest → next ≡ tags ++ plain_tag front ∷ []
     → tags ++ map plain_tag (parts_of size rest) ≡ all → next ++ map plain_tag (parts_of size back) ≡ all
@@ -48,7 +48,7 @@ one_tag size rest front back tags next all some longer f b grows so_far =
     ∙ ap (λ (l : List (List ℕ)). tags ++ map plain_tag l) (sym (more_parts size rest some longer))
     ∙ so_far
 
--- the tags of all parts, of which the rest is the last
+-- The tags of all parts, if the rest is the last part.
 pub last_tag : (size : ℕ) (rest : List ℕ) (tags next all : List Spelled) → 1 ≤ size → length rest ≤ size
     → next ≡ tags ++ plain_tag rest ∷ [] → tags ++ map plain_tag (parts_of size rest) ≡ all → next ≡ all
 last_tag size rest tags next all some short grows so_far =

@@ -1,4 +1,4 @@
--- The reply that a send is due, as its line has it.
+-- The reply that S3 must give to a send, as its line has it.
 use Rattle.std.proofs.Common.{◌≡◌, Err, IfOk, Ok, Result, sym}
 use Rattle.s3_types.specs.Answer.{answer}
 use Rattle.s3_types.specs.Store.{Scene}
@@ -9,7 +9,7 @@ use Rattle.s3_types.specs.declared.request.Request.TheVariants.{PutObject, Uploa
 use Rattle.trace_lines.proofs.Tagged.{answer_tells}
 use Rattle.trace_lines.specs.Requests.{TellsTag}
 
--- a reply to a deletion tells no tag
+-- A reply to a deletion has no tag.
 pub none_told : (r : Request) → TellsTag r Deleted
 none_told (PutObject bucket key bytes header) = tt
 none_told (UploadPart bucket key upload n bytes) = tt

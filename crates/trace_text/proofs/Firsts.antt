@@ -15,11 +15,11 @@ none_behind zero = refl
 none_behind (suc i) = refl
 
 module _ (p : Event → Bool) where
-  -- the n-th event where it is the first, or else the first of these that are behind it
+  -- The number of this event if it is the first, else that of the first one after it.
   abbrev or_behind : ℕ → Bool → List Event → List EventEnd → Option ℕ
   or_behind n here evs xs = cond here (Some n) (event_from p (n + 1) evs xs)
 
-  -- from a place on, by the event there
+  -- The first event from a place on, by the event there.
   next_event : (n i : ℕ) (evs : List Event) (xs : List EventEnd) (d : Event) → i < length evs
       → event_from p n (drop i evs) (drop i xs)
       ≡ or_behind n (p (get_or evs i d) && not (refused_at xs i)) (drop (i + 1) evs) (drop (i + 1) xs)
@@ -39,7 +39,7 @@ module _ (p : Event → Bool) where
       next_event n i evs xs d (omega arith)
       ∙ ap (λ m. or_behind n (p (get_or evs i d) && not (refused_at xs i)) (drop m (ev ∷ evs)) (drop m (x ∷ xs))) (sym more)
 
-  -- from a place on, where it is known whether the event there is the first
+  -- The first event from a place on, if it is known whether the event there is the first.
   by_event : (here : Bool) (n i : ℕ) (evs : List Event) (xs : List EventEnd) (d : Event) → i < length evs
       → (p (get_or evs i d) && not (refused_at xs i)) ≡ here
       → event_from p n (drop i evs) (drop i xs) ≡ or_behind n here (drop (i + 1) evs) (drop (i + 1) xs)

@@ -28,14 +28,14 @@ drop_here [] n e is = absurd (none-some e is)
 drop_here (x ∷ xs) zero e is = ap (λ v. v ∷ xs) (same_Some x e is)
 drop_here (x ∷ xs) (suc n) e is = drop_here xs n e is
 
--- the scene behind it
+-- The scene after the send.
 scene_behind : (z : Scene) (es : List Entry) (n : ℕ) (e : Entry) → slice_get es n ≡ Some e
     → after_all z (take (suc n) es) ≡ effect (after_all z (take n es)) e.request e.outcome
 scene_behind z [] n e is = absurd (none-some e is)
 scene_behind z (x ∷ xs) zero e is = ap (λ (v : Entry). effect z v.request v.outcome) (same_Some x e is)
 scene_behind z (x ∷ xs) (suc n) e is = scene_behind (effect z x.request x.outcome) xs n e is
 
--- its answer is the one that was due
+-- Its answer is the one that S3 must give.
 honest_here : (z : Scene) (es : List Entry) (n : ℕ) (e : Entry) → slice_get es n ≡ Some e → AreHonest z es
     → IsHonestOutcome e.outcome (answer (after_all z (take n es)) e.request)
 honest_here z [] n e is h = absurd (none-some e is)
@@ -45,12 +45,12 @@ honest_here z (x ∷ xs) (suc n) e is h = honest_here (effect z x.request x.outc
 
 -- ---- the reply of its line
 
--- a reply that was told tells the tag of what was sent
+-- A tag in the reply that the sender received is that of the bytes that were sent.
 tells_so : (o : Outcome) (z : Scene) (r : Request) → IsHonestOutcome o (answer z r) → TellsTag r (reply_told o)
 tells_so (Answered a) z r h = answer_tells z r a (sym h)
 tells_so _ z r h = none_told r
 
--- the line has it as the one that was due
+-- The line is the same with the reply that the sender received as with the one that S3 must give.
 told_line : (n event : ℕ) (a : Actor) (r : Request) (o : Outcome) (z : Scene) → is_reply_lost o ≡ false → IsHonestOutcome o (answer z r)
     → request_line n (record { event = event; actor = a; request = r; outcome = o }) (reply_told o)
     ≡ request_line n (record { event = event; actor = a; request = r; outcome = o }) (answer z r)

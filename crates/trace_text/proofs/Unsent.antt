@@ -1,4 +1,4 @@
--- How many sends that have a fate are numbered above another.
+-- How many sends with a planned fate have numbers above another.
 use Rattle.basics.proofs.EntriesFrom.{AreAbove, entries_from, entry_from, from_on, no_entry_from}
 use Rattle.basics.proofs.Naturals.{below_so, less_is, not_below}
 use Rattle.basics.proofs.Tree.{map_sorted}
@@ -15,18 +15,18 @@ use Rattle.std.specs.Ordering.{nat_cmp}
 use Rattle.trace_text.specs.Trace.{unsent}
 use Rattle.std.specs.FinMap as fin
 
--- it is numbered above n
+-- The send has a number above n.
 abbrev above : ℕ → ℕ × Fate → Bool
 above n e = nat_lt n e.0
 
--- from a number on stands all that is above it
+-- All items above a number are among those from that number on.
 kept : (n k : ℕ) (es : List (ℕ × Fate)) → n ≤ k → AreAbove k es → from_on n es ≡ es
 kept n k [] le h = refl
 kept n k (e ∷ es) le h =
     let lt = less_is k e.0 h.0 in
     ap (λ b. cond b (from_on n es) (e ∷ es)) (not_below e.0 n (omega (arith, lt)))
 
--- those from the next number on are those that are numbered above
+-- The items from the next number on are those with numbers above.
 counted : (n : ℕ) (es : List (ℕ × Fate)) → IsStrictlySortedBy nat_cmp (keys_of es) → count_by (above n) es ≡ length (from_on (n + 1) es)
 counted n [] s = refl
 counted n (e ∷ es) s = by (cases_lt n e.0) (counted n es (sorted_tail nat_cmp e.0 (keys_of es) s))
@@ -47,17 +47,17 @@ counted n (e ∷ es) s = by (cases_lt n e.0) (counted n es (sorted_tail nat_cmp 
         let these = ap (λ b. length (cond b (from_on (n + 1) es) (e ∷ es))) (below_so e.0 (n + 1) (omega arith)) in
         omega (arith, one, behind, here, these)
 
--- all that are left before the first is counted
+-- All items are left before the first is counted.
 pub all_unsent : (m : FateMap) (sent : ℕ) → unsent m sent ≡ length (entries_from (sent + 1) m)
 all_unsent m sent = counted sent (fin.entries m) (map_sorted nat_cmp m)
 
--- one more is counted
+-- One more item is counted.
 pub one_unsent : (m : FateMap) (n k : ℕ) (fate : Fate) → IsFirstFrom m n (Some (k, fate))
     → length (entries_from n m) ≡ 1 + length (entries_from (k + 1) m)
 one_unsent m n k fate h =
     let e = ap length (entry_from m n k fate h.0 h.1 h.2) in
     omega (arith, e)
 
--- none is left
+-- No item is left.
 pub none_unsent : (m : FateMap) (n : ℕ) → IsFirstFrom m n None → length (entries_from n m) ≡ 0
 none_unsent m n h = ap length (no_entry_from m n h)

@@ -1,4 +1,4 @@
--- What is written one after another.
+-- Texts that are written one after another.
 use Rattle.basics.specs.Order.{text_eq}
 use Rattle.job_model.specs.declared.ends.EventEnd.{EventEnd}
 use Rattle.job_model.specs.declared.events.Event.{Event}
@@ -13,7 +13,7 @@ use Rattle.trace_text.specs.Sends.{Send}
 use Rattle.trace_text.specs.Trace.{event_lines}
 use Rattle.std.specs.FinMap as fin
 
--- the objects of the bucket of a path
+-- The objects of the bucket of a path.
 pub bucket_written : (dest : Path) (name prefix : List ℕ) (b : List ℕ × BucketContent) (left next : List (List ℕ × BucketContent))
     (text now all : List ℕ)
     → name ≡ dest.bucket → prefix ≡ below dest.key [] → left ≡ b ∷ next → true ≡ text_eq b.0 name
@@ -36,14 +36,14 @@ no_pairs : (events : List Event) → zip {K = Event} {X = EventEnd} events [] �
 no_pairs [] = refl
 no_pairs (e ∷ es) = refl
 
--- no event is left behind the last end
+-- No event is left after the last end.
 pub all_events : (n place : ℕ) (events : List Event) (ends : List EventEnd) (sends : List Send) (text all : List ℕ) → length ends ≤ place
     → text ++ event_lines n (zip (drop place events) (drop place ends)) sends ≡ all → text ≡ all
 all_events n place events ends sends text all over so_far =
     let no_end = ap (zip (drop place events)) (drop_all place ends over) ∙ no_pairs (drop place events) in
     sym (append-nil text) ∙ ap (λ (l : List (Event × EventEnd)). text ++ event_lines n l sends) (sym no_end) ∙ so_far
 
--- three texts behind another
+-- Three texts after another.
 pub three_written : (none first second all x y z : List ℕ) → first ≡ none ++ x → second ≡ first ++ y → all ≡ second ++ z
     → all ≡ none ++ (x ++ (y ++ z))
 three_written none first second all x y z one two three =

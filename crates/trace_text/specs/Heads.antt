@@ -1,4 +1,4 @@
--- The first lines of a trace: the job, the files of its attempts, and the objects that stood below the destination.
+-- The first lines of a trace: the job, the files of its attempts, and the objects that existed below the destination.
 use Rattle.std.specs.Prelude.{ℕ, List, [], ◌∷◌, ◌++◌, codes, cond, map}
 use Rattle.std.specs.List.{filter, flat_map}
 use Rattle.std.specs.FinMap as fin
@@ -22,7 +22,7 @@ use Rattle.soundness.specs.declared.keeps.Keeps.{Keeps}
 use Rattle.soundness.specs.declared.keeps.Keeps.TheVariants.{Everything, Partitions, Nothing}
 use Rattle.trace_lines.specs.Lines.{etags, line, whole}
 
--- Which opening files a job keeps, in a word.
+-- The word for which opening files a job keeps.
 abbrev pub keeps_word : Keeps → List ℕ
 keeps_word Everything = codes "all"
 keeps_word Partitions = codes "partitions"
@@ -48,7 +48,7 @@ attempt_line a = line ((codes "op", string (codes "Attempt")) ∷ (codes "task",
 abbrev pub file_words : (path : List ℕ) → List Spelled → List ℕ
 file_words path tags = line ((codes "op", string (codes "File")) ∷ (codes "path", string path) ∷ (codes "etags", etags tags) ∷ [])
 
--- The same line: its path below the destination, and the MD5 of each part that it is cut into.
+-- The line of a file of an attempt, by its path below the destination and the MD5 of each part that it is cut into.
 abbrev pub file_line : Script → (minimum : ℕ) → File → List ℕ
 file_line w minimum f = file_words f.0 (map plain_tag (file_parts w minimum f))
 
@@ -56,7 +56,7 @@ file_line w minimum f = file_words f.0 (map plain_tag (file_parts w minimum f))
 abbrev pub attempt_lines : Script → (minimum : ℕ) → Declared → List ℕ
 attempt_lines w minimum a = attempt_line a.0 ++ flat_map (file_line w minimum) (placed w.unique w.job a.1)
 
--- The line of an object, by its place and its tags.
+-- The line of an object, by its bucket, its key and its tags.
 abbrev pub object_words : (bucket key : List ℕ) → List Spelled → List ℕ
 object_words bucket key tags = line (
     (codes "op", string (codes "Object"))
@@ -65,11 +65,11 @@ object_words bucket key tags = line (
     ∷ (codes "etags", etags tags)
     ∷ [])
 
--- The same line: its place, and the MD5 of all its bytes.
+-- The line of an object, by its bucket, its key and the MD5 of all its bytes.
 abbrev pub object_line : List ℕ → List ℕ × Object → List ℕ
 object_line bucket o = object_words bucket o.0 (plain_tag o.1.bytes ∷ [])
 
--- The lines of a bucket's objects below a path, by their keys.
+-- The lines of a bucket's objects below a path, in the order of their keys; none for another bucket than the path's.
 abbrev pub bucket_lines : Path → List ℕ × BucketContent → List ℕ
 bucket_lines dest b =
     cond (text_eq b.0 dest.bucket)

@@ -11,18 +11,19 @@ use Rattle.job_spec.specs.Ends.{is_driver}
 use Rattle.trace_lines.specs.Lines.{line}
 use Rattle.trace_lines.specs.Requests.{request_line}
 
--- One send: its number, what was sent, the reply that it is due, and whether the job's commit begins with it.
+-- One send: its number, its entry in the journal, the reply that S3 must give, and whether the job's commit begins with it.
 pub record Send : Type 0 where
   pub number : ℕ
   pub entry : Entry
   pub due : Reply
   pub begins : Bool
 
--- The driver sends it in the event of the job's commit or in a later one.
+-- True for a send of the driver in the event of the job's commit or in a later one.
 abbrev pub is_of_commit : Option ℕ → Entry → Bool
 is_of_commit commit e = is_driver e.actor && is_begun commit e.event
 
--- Sends that are numbered from n on, over this store and cluster, by whether the commit has begun. The commit begins with its first one.
+-- Sends that are numbered from n on, over this store and cluster. `begun` says whether the commit has begun; it begins with its first
+-- send.
 abbrev pub sends_from : (commit : Option ℕ) → ℕ → (begun : Bool) → Scene → List Entry → List Send
 sends_from commit n begun z [] = []
 sends_from commit n begun z (e ∷ es) =
@@ -33,11 +34,11 @@ sends_from commit n begun z (e ∷ es) =
 abbrev pub commit_line : List ℕ
 commit_line = line ((codes "op", string (codes "Commit")) ∷ [])
 
--- The lines of a send: its own, and where the commit begins with it, that of the commit before it.
+-- The lines of a send: its own line, after that of the commit if the commit begins with it.
 abbrev pub send_lines : Send → List ℕ
 send_lines s = cond s.begins commit_line [] ++ request_line s.number s.entry s.due
 
--- It was sent in this event, or in one before it.
+-- True for a send of this event or of one before it.
 abbrev pub is_until : ℕ → Send → Bool
 is_until event s = nat_le s.entry.event event
 
@@ -46,7 +47,7 @@ abbrev pub until_event : ℕ → List Send → List Send
 until_event event [] = []
 until_event event (s ∷ ss) = cond (is_until event s) (s ∷ until_event event ss) []
 
--- The sends behind those.
+-- The sends after those.
 abbrev pub behind_event : ℕ → List Send → List Send
 behind_event event [] = []
 behind_event event (s ∷ ss) = cond (is_until event s) (behind_event event ss) (s ∷ ss)

@@ -4,7 +4,7 @@ ghost use Rattle.job_spec.specs.States.{begins_commit, event_from, is_refused};
 use job_model::{Event, EventEnd, Op};
 use s3_types::Actor;
 
-/// Whether an event begins the driver's commit.
+/// Returns whether an event begins the driver's commit.
 fn begins_commit(event: Event) -> bool
     ensures { result ≡ begins_commit event }
 {
@@ -21,7 +21,7 @@ fn begins_commit(event: Event) -> bool
     }
 }
 
-/// Whether an event was refused.
+/// Returns whether an event was refused.
 pub fn is_refused(end: &EventEnd) -> bool
     ensures { result ≡ is_refused end.now }
 {
@@ -31,7 +31,7 @@ pub fn is_refused(end: &EventEnd) -> bool
     }
 }
 
-/// Whether the event at this place has its end and was refused.
+/// Returns whether the event at this place has ended and was refused.
 fn is_refused_at(ends: &[EventEnd], place: usize) -> bool
     ensures { result ≡ unwrap_or (option_map is_refused (slice_get ends.now place)) false }
 {
@@ -41,7 +41,8 @@ fn is_refused_at(ends: &[EventEnd], place: usize) -> bool
     }
 }
 
-/// The number of the first event that begins the driver's commit and is not refused, if one does.
+/// Returns the number of the first event that begins the driver's commit and is not refused, if
+/// there is one.
 pub fn commit_event(events: &[Event], ends: &[EventEnd]) -> Option<u64>
     ensures { result ≡ event_from begins_commit 1 events.now ends.now }
 {

@@ -8,7 +8,7 @@ use crate::commits::is_refused;
 use job_model::EventEnd;
 use s3_types::Fates;
 
-/// How many events were refused.
+/// Returns how many events were refused.
 pub fn refused(ends: &[EventEnd]) -> u64
     ensures { result ≡ count_by is_refused ends.now }
 {
@@ -19,7 +19,7 @@ pub fn refused(ends: &[EventEnd]) -> u64
     count
 }
 
-/// How many sends that have a fate are numbered above `sent`.
+/// Returns how many sends with a planned fate have a number above `sent`.
 pub fn unsent(fates: &Fates, sent: u64) -> u64
     requires few { sent < 2 ^ 62 }
     requires fates { AreFates fates.now }

@@ -10,8 +10,8 @@ use s3_service::Service;
 use s3_types::{Journal, let_go};
 use std::alloc::{AllocError, Global};
 
-/// A run of a job that was kept nowhere: its script, the journal of its sends, the attempts that its commit chose, the ends of
-/// its events, the exit status (0, 1, 8 or 9), and its trace.
+/// A run of a job that is stored nowhere: its script, the journal of its sends, the attempts that
+/// its commit chose, the ends of its events, the exit status (0, 1, 8 or 9), and its trace.
 #[derive(Drop)]
 pub struct DryRun {
     pub script: Script,
@@ -22,7 +22,7 @@ pub struct DryRun {
     pub text: String,
 }
 
-/// Runs all events of a world's script that are left.
+/// Runs the events of a world's script that are left.
 fn run_all<W: Works>(world: &mut World<W>) -> Result<(), AllocError>
     requires { length world.old.ends ≤ length world.old.script.events }
     ensures script { world.new.script ≡ world.old.script }
@@ -35,7 +35,7 @@ fn run_all<W: Works>(world: &mut World<W>) -> Result<(), AllocError>
     Ok(())
 }
 
-/// What a run leaves but its store, with its status and its trace.
+/// Returns the results of a run without its store, with its status and its trace.
 fn shown(played: Played, status: u8, text: String) -> DryRun
     ensures { result ≡ record {
       script = played.script;
@@ -64,7 +64,8 @@ fn shown(played: Played, status: u8, text: String) -> DryRun
     }
 }
 
-/// The run of a world whose events all have their ends, with its trace over the store that it began with.
+/// Returns the run of a world whose events have all ended, with its trace over the store that it
+/// began with.
 fn traced<W: Works>(alloc: Global, world: World<W>, opening: Service) -> Result<DryRun, AllocError>
     requires over { length world.ends ≡ length world.script.events }
     requires opening { world.opening ≡ opening }
@@ -89,7 +90,8 @@ fn traced<W: Works>(alloc: Global, world: World<W>, opening: Service) -> Result<
     }
 }
 
-/// Runs all events of a world that are left, and gives the run with its trace over the store that it began with.
+/// Runs the events of a world that are left, and returns the run with its trace over the store that
+/// it began with.
 fn run_traced<W: Works>(
     alloc: Global,
     mut world: World<W>,
@@ -110,8 +112,8 @@ fn run_traced<W: Works>(
     }
 }
 
-/// Runs a job over a store to the end of its script, keeps nothing, and returns the run with its trace. Fails with
-/// `AllocError` only if memory runs out.
+/// Runs a job over a store to the end of its script, stores nothing, and returns the run with its
+/// trace. Fails with `AllocError` only if memory runs out.
 pub fn dry_run<W: Works>(
     alloc: Global,
     script: Script,
@@ -119,7 +121,8 @@ pub fn dry_run<W: Works>(
 ) -> Result<DryRun, AllocError>
     // The store's next upload id is at most 2^62.
     requires store { MayBegin service }
-    // It is a run of this script over this store, of which all is kept that is promised of a job, with its trace.
+    // The result is a run of this script over this store, with its trace, and the run keeps all
+    // that is promised of a job.
     ensures { IfOk result (IsDryRun script service) }
 {
     let Ok(opening) = service.copy() else {

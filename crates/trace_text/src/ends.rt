@@ -13,14 +13,14 @@ use job_report::write_end;
 use std::alloc::{AllocError, Global};
 use trace_lines::Line;
 
-/// An event as scripts write it.
+/// Returns an event as scripts write it.
 fn text_of_event(alloc: Global, event: Event) -> Result<String, AllocError>
     ensures { IfOk result (λ text. string_bytes text ≡ event_text event) }
 {
     format!(in alloc; "{event}")
 }
 
-/// How an event ended, as reports write it.
+/// Returns how an event ended, as reports write it.
 fn text_of_end(alloc: Global, end: &EventEnd) -> Result<String, AllocError>
     ensures { IfOk result (λ text. string_bytes text ≡ end_text end.now) }
 {
@@ -29,7 +29,7 @@ fn text_of_end(alloc: Global, end: &EventEnd) -> Result<String, AllocError>
     Ok(text)
 }
 
-/// Puts the members of the line of an event whose text and end are written so.
+/// Puts the members of the line of an event with this text and this end.
 fn put_event<'a>(
     line: &mut Line<'a>,
     number: usize,
@@ -45,7 +45,7 @@ fn put_event<'a>(
     line.text("end", end)
 }
 
-/// Writes the line of an event whose text and end are written so.
+/// Writes the line of an event with this text and this end.
 fn write_line(
     alloc: Global,
     text: &mut String,
@@ -60,7 +60,7 @@ fn write_line(
     line.write(alloc, text)
 }
 
-/// Writes the line of an event that is over.
+/// Writes the line of an event that has ended.
 pub fn write_event(
     alloc: Global,
     text: &mut String,

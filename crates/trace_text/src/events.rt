@@ -11,7 +11,7 @@ use job_model::{Event, EventEnd};
 use s3_types::Entry;
 use std::alloc::{AllocError, Global};
 
-/// Writes for each event the lines of its sends and behind them its own.
+/// Writes for each event the lines of its sends, and then its own line.
 pub fn write_events(
     alloc: Global,
     tape: &mut Tape,

@@ -19,7 +19,7 @@ use s3_types::{Bytes, Committer, Mode, Tag, Text, let_go};
 use std::alloc::{AllocError, Global};
 use trace_lines::Line;
 
-/// Which opening files a job keeps, in a word.
+/// Returns the word for which opening files a job keeps.
 fn keeps_word(committer: Committer, mode: Mode) -> &'static str
     ensures { result.now ≡ lines.keeps_word (keeps_by committer mode) }
 {
@@ -30,7 +30,7 @@ fn keeps_word(committer: Committer, mode: Mode) -> &'static str
     }
 }
 
-/// A path as scripts write it.
+/// Returns a path as scripts write it.
 fn path_text(alloc: Global, path: &S3Path) -> Result<String, AllocError>
     ensures { IfOk result (λ text. string_bytes text ≡ path_text path.now) }
 {
@@ -39,7 +39,7 @@ fn path_text(alloc: Global, path: &S3Path) -> Result<String, AllocError>
     format!(in alloc; "s3a://{bucket}/{key}")
 }
 
-/// Puts the members of the line of a job whose destination is written so.
+/// Puts the members of the line of a job whose destination has this text.
 fn put_job<'a>(line: &mut Line<'a>, script: &'a Script, dest: &'a str) -> Result<(), AllocError>
     requires empty { members_of line.old ≡ no_members }
     requires dest { dest.now ≡ path_text script.now.dest }
@@ -54,7 +54,7 @@ fn put_job<'a>(line: &mut Line<'a>, script: &'a Script, dest: &'a str) -> Result
     line.text("keeps", keeps_word(script.committer, script.mode))
 }
 
-/// Writes the line of a job whose destination is written so.
+/// Writes the line of a job whose destination has this text.
 fn write_job_at(
     alloc: Global,
     text: &mut String,
@@ -98,7 +98,8 @@ fn write_attempt(alloc: Global, text: &mut String, name: AttemptName) -> Result<
     line.write(alloc, text)
 }
 
-/// A file's path below the destination: unique to the job, or as the script writes it, which is shared.
+/// Returns a file's path below the destination: a path unique to the job, or the script's path,
+/// which is shared.
 fn placed_path(alloc: Global, script: &Script, path: &Text) -> Result<Text, AllocError>
     ensures { IfOk result (λ text. text ≡ path_of script.now.unique script.now.job path.now) }
 {
@@ -133,7 +134,7 @@ fn write_tagged(
     line.write(alloc, text)
 }
 
-/// Writes the line of a file that stands at this path below the destination.
+/// Writes the line of a file at this path below the destination.
 fn write_placed(
     alloc: Global,
     text: &mut String,

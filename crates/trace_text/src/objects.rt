@@ -15,7 +15,7 @@ use s3_types::{Bucket, Key, Object, Tag, Text, let_go, part_tag};
 use std::alloc::{AllocError, Global};
 use trace_lines::Line;
 
-/// Puts the members of the line of an object, by its place and its tags.
+/// Puts the members of the line of an object with this bucket, key and tags.
 fn put_object<'a>(
     line: &mut Line<'a>,
     bucket: &'a Bucket,
@@ -67,14 +67,14 @@ fn write_below(
     Ok(())
 }
 
-/// The prefix that the keys below a path begin with.
+/// Returns the prefix of the keys below a path.
 fn prefix_below(alloc: Global, path: &S3Path) -> Result<Text, AllocError>
     ensures { IfOk result (λ prefix. prefix ≡ below path.now.key []) }
 {
     Text::new(alloc, path.text_below(alloc, "")?)
 }
 
-/// Writes the lines of a store's objects below a path whose prefix this is.
+/// Writes the lines of a store's objects below a path with this prefix.
 fn write_all(
     alloc: Global,
     text: &mut String,
@@ -94,7 +94,7 @@ fn write_all(
     Ok(())
 }
 
-/// Writes the lines of a store's objects below a path, by their keys.
+/// Writes the lines of a store's objects below a path, in the order of their keys.
 pub fn write_objects(
     alloc: Global,
     text: &mut String,

@@ -5,7 +5,8 @@ ghost use Rattle.s3_types.specs.Tags.{plain_tag};
 use s3_types::{Tag, part_tag};
 use std::alloc::{AllocError, Global};
 
-/// Adds the MD5 tags of the parts of this size in bytes that a file is cut into; an empty file has one empty part.
+/// Adds the MD5 tags of the parts of `size` bytes that a file is cut into. An empty file has one
+/// empty part.
 fn add_tags(tags: &mut Vec<Tag>, bytes: &[u8], size: usize) -> Result<(), AllocError>
     requires { 1 ≤ size }
     ensures { OnOk result (tags.new.items ≡ tags.old.items ++ map plain_tag (parts_of size bytes.now)) }
@@ -20,7 +21,8 @@ fn add_tags(tags: &mut Vec<Tag>, bytes: &[u8], size: usize) -> Result<(), AllocE
     Ok(())
 }
 
-/// The MD5 tags of the parts of this size in bytes that a file is cut into; an empty file has one empty part.
+/// Returns the MD5 tags of the parts of `size` bytes that a file is cut into. An empty file has one
+/// empty part.
 pub fn part_tags(alloc: Global, bytes: &[u8], size: usize) -> Result<Vec<Tag>, AllocError>
     requires { 1 ≤ size }
     ensures { IfOk result (λ tags. tags.items ≡ map plain_tag (parts_of size bytes.now)) }

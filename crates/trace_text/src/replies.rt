@@ -8,7 +8,7 @@ use s3_types::{Entry, Outcome, Reply};
 use std::alloc::AllocError;
 use store_link::MemStore;
 
-/// Whether a send took effect, and its reply was lost.
+/// Returns whether a send took effect but its reply was lost.
 fn is_reply_lost(outcome: &Outcome) -> bool
     ensures { result ≡ is_reply_lost outcome.now }
 {
@@ -18,7 +18,8 @@ fn is_reply_lost(outcome: &Outcome) -> bool
     }
 }
 
-/// How many sends there are up to the last one whose reply was lost, or 0 if no reply was lost.
+/// Returns how many sends there are up to the last one whose reply was lost, or 0 if no reply was
+/// lost.
 pub fn up_to_lost(entries: &[Entry]) -> usize
     ensures { NoneLostBehind result entries.now }
 {
@@ -31,7 +32,7 @@ pub fn up_to_lost(entries: &[Entry]) -> usize
     lost
 }
 
-/// Whether a send reached the store.
+/// Returns whether a send reached the store.
 fn has_reached(outcome: &Outcome) -> bool
     ensures { result ≡ has_reached outcome.now }
 {
@@ -42,7 +43,8 @@ fn has_reached(outcome: &Outcome) -> bool
     }
 }
 
-/// The reply that a send is due, where it reached the store, which then has its effect. Of others the reply says nothing.
+/// Returns the reply that S3 must give to a send that reached the store, and applies the send's
+/// effect to the store. For a send that did not reach the store, the returned reply means nothing.
 pub fn reply_to(store: &mut MemStore, entry: &Entry) -> Result<Reply, AllocError>
     requires { store.old.requests < 2 ^ 62 }
     ensures reply { IfOk result (λ reply. has_reached entry.now.outcome ≡ true

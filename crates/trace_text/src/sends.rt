@@ -14,7 +14,7 @@ use std::alloc::{AllocError, Global};
 use store_link::MemStore;
 use trace_lines::{Line, write_request};
 
-/// Whether the driver sends it in the event of the job's commit or in a later one.
+/// Returns whether this is a send of the driver in the event of the job's commit or in a later one.
 fn is_of_commit(commit: Option<u64>, entry: &Entry) -> bool
     ensures { result ≡ is_of_commit commit entry.now }
 {
@@ -36,7 +36,7 @@ fn write_commit(alloc: Global, text: &mut String) -> Result<(), AllocError>
     line.write(alloc, text)
 }
 
-/// Writes the line of the n-th send by what a store answers, on which it is made.
+/// Makes the n-th send on a store, and writes its line with the store's answer.
 fn write_made(
     alloc: Global,
     store: &mut MemStore,
@@ -56,7 +56,8 @@ fn write_made(
     written
 }
 
-/// Writes the line of the n-th send by the reply that its sender was told, or by any where it was told none.
+/// Writes the line of the n-th send with the reply that its sender received. If the sender received
+/// none, the line is written as for the reply `Deleted`.
 fn write_told(
     alloc: Global,
     text: &mut String,
@@ -73,7 +74,8 @@ fn write_told(
     }
 }
 
-/// Writes the line of the n-th send: by what the store answers, where the send is to be made on it, or else by what its sender was told.
+/// Writes the line of the n-th send. If `made` holds, the send is made on the store, which gives
+/// the reply; else the reply is the one that its sender received.
 fn write_line(
     alloc: Global,
     store: &mut MemStore,
@@ -120,7 +122,7 @@ fn write_send(
     Ok(())
 }
 
-/// Writes the lines of the next sends, up to the last of an event.
+/// Writes the lines of the next sends, up to the last send of an event.
 pub fn write_until(
     alloc: Global,
     tape: &mut Tape,

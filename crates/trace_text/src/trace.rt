@@ -36,7 +36,7 @@ fn write_heads(
     write_objects(alloc, text, &script.dest, service)
 }
 
-/// A tape at the beginning of a run over a store, behind the first lines of the trace.
+/// Returns a tape at the beginning of a run over a store, after the first lines of the trace.
 fn begun(alloc: Global, text: String, opening: Service, entries: &[Entry]) -> Tape
     requires next { opening.next ≤ 2 ^ 62 }
     requires honest { IsHonest opening entries.now }
@@ -56,7 +56,7 @@ fn begun(alloc: Global, text: String, opening: Service, entries: &[Entry]) -> Ta
     }
 }
 
-/// The text of a tape.
+/// Returns the text of a tape.
 fn text_of(tape: Tape) -> String
     ensures { result ≡ tape.text }
 {
@@ -102,8 +102,9 @@ fn write_run(
     )
 }
 
-/// Writes the trace of a job's run whose events all have their ends, from the script, the store that the run began with,
-/// the journal of its sends, the ends of the events, and the exit status. Fails with `AllocError` only if memory runs out.
+/// Writes the trace of a job's run whose events have all ended. It takes the script, the store that
+/// the run began with, the journal of its sends, the ends of the events, and the exit status. Fails
+/// with `AllocError` only if memory runs out.
 #[tactic(auto, unfolding(crate::specs::Trace::trace_text))]
 pub fn trace_text(
     alloc: Global,
@@ -115,9 +116,9 @@ pub fn trace_text(
 ) -> Result<String, AllocError>
     // The next upload's id is at most 2^62.
     requires store { opening.next ≤ 2 ^ 62 }
-    // Each answer in the journal is the one that was due.
+    // Each answer in the journal is the one that S3 must give.
     requires honest { IsHonest opening journal.now.entries }
-    // The status is the one that the ends of the events lead to.
+    // The status is the one that follows from the ends of the events.
     requires status { status ≡ states.verdict script.now ends.now }
     // The text is the trace of this run.
     ensures { IfOk result (λ text. string_bytes text
@@ -138,8 +139,8 @@ pub fn trace_text(
     }
 }
 
-/// Writes the lines of requests alone, from the store that they were sent to and their journal. Fails with `AllocError` only
-/// if memory runs out.
+/// Writes the lines of requests alone, from the store that they were sent to and their journal.
+/// Fails with `AllocError` only if memory runs out.
 #[tactic(auto, unfolding(crate::specs::Trace::requests_text))]
 pub fn requests_text(
     alloc: Global,
@@ -148,7 +149,7 @@ pub fn requests_text(
 ) -> Result<String, AllocError>
     // The next upload's id is at most 2^62.
     requires store { opening.next ≤ 2 ^ 62 }
-    // Each answer in the journal is the one that was due.
+    // Each answer in the journal is the one that S3 must give.
     requires honest { IsHonest opening journal.now.entries }
     // The text is the lines of these requests.
     ensures { IfOk result (λ text. string_bytes text ≡ traces.requests_text opening journal.now.entries) }

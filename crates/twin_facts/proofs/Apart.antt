@@ -1,4 +1,4 @@
--- What names only one job's own is a stranger's to the other.
+-- A request that names only what is one job's own is a stranger's to the other job.
 use Rattle.basics.proofs.Cuts.{cut_once}
 use Rattle.basics.proofs.Members.{false_true}
 use Rattle.basics.specs.Members.{IsIn}
@@ -25,7 +25,7 @@ use Rattle.twin_facts.specs.Names.{Ids, IsStranger, NamesOwn, named_keys, named_
 
 -- ---- directories of two jobs
 
--- what is below two of them is below one
+-- A key that is below the directories of two jobs is below the directory of one job: their ids are the same.
 one_job : (front i o r t : List ℕ) → is_job_id i ≡ true → is_job_id o ≡ true → front ++ (i ++ 47 ∷ r) ≡ front ++ (o ++ 47 ∷ t) → i ≡ o
 one_job front i o r t a b e = (cut_once 47 i o r t (id_others i a) (id_others o b) (append_cancel_left front _ _ e)).front
 
@@ -70,7 +70,7 @@ twin_stranger w v j i twins drawn drew apart r own = record {
   paths = λ p x. not_true (λ h. twins.jobs (one_cluster w.job v.job p j.job i.job (own.paths p x) h));
 }
 
--- ---- what a request changes it names
+-- ---- a request names what it changes
 
 changes_named : (r : Request) (k : List ℕ) → IsIn k (changed_keys r) → IsIn k (named_keys r)
 changes_named r k h = grind arith

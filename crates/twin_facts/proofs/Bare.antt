@@ -1,4 +1,4 @@
--- A side whose bucket is not there: it makes none and puts no marker, and readers are shown nothing.
+-- A side whose bucket does not exist makes none and puts no marker, and readers see nothing.
 use Rattle.basics.proofs.Members.{none_some, some_is}
 use Rattle.job_facts.proofs.Sharing.{setup_plain}
 use Rattle.job_model.specs.JobScript.{Script}
@@ -28,11 +28,11 @@ use Rattle.std.specs.Option.{option_map}
 use Rattle.twin_facts.specs.Sides.{Sends, attempt_sends, driver_sends}
 use Rattle.std.specs.FinMap as fin
 
--- no bucket has this name
+-- No bucket has this name.
 abbrev pub IsBare : Content → List ℕ → Type 0
 IsBare c n = fin.get c.buckets n ≡ None
 
--- so nothing is shown there
+-- So readers see nothing there.
 pub bare_view : (d : Path) (c : Content) → IsBare c d.bucket → (p : List ℕ) → view d c p ≡ None
 bare_view d c none p =
     ap (λ o. cond (is_file_path p) (option_map (λ x. x.bytes) (object_in o (below d.key p))) None) none ∙ by (is_file_path p) None
@@ -45,7 +45,7 @@ module _ (w : Script) where
   abbrev bucket : List ℕ
   bucket = w.dest.bucket
 
-  -- a request to it leaves it so
+  -- A request of the side makes no bucket with this name.
   still : (c : Content) (r : Request) → IsBare c bucket → IsBare (apply_at (fin.get c.buckets bucket) c r) bucket
   still c r none = ap (λ o. fin.get (apply_at o c r).buckets bucket) none ∙ none
 
@@ -71,7 +71,7 @@ module _ (w : Script) where
   left s t r asked _ none = applied s t r asked none
 
 module _ (g : Setting) (k : Times) (opening : Content) (j : IsLegal g.script) (is : IsOpening g opening) where
-  -- what the side sends is of its set-up
+  -- The side sends only requests of its set-up.
   pub bare_sends : (es : List Entry) (x z : Stand) (e : Entry) → Sends g k x e z → Runs g k opening es x
       → IsBare x.seen.scene.content g.script.dest.bucket
       → IsBare (effect x.seen.scene e.request e.outcome).content g.script.dest.bucket × (is_marking g.script e.request ≡ false)

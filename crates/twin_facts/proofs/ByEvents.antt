@@ -1,4 +1,4 @@
--- What is seen and told of each side by events, and so what readers are shown at each moment.
+-- What the joint journal says of each side by events, and so what readers see at each moment.
 use Rattle.job_facts.specs.Told.{nothing_told, tell_all}
 use Rattle.job_protocol.specs.Operations.{Setting}
 use Rattle.job_protocol.specs.Seen.{Seen, Times}
@@ -33,7 +33,7 @@ module _ (g h : Setting) (m : MayBeTwins g.script h.script) (k l : Times) (openi
         },
       )
 
-  -- and so at each moment
+  -- The same at each moment.
   pub always : (es : List TwinEntry) (x y : Stand) → TwinRun g h k l opening es x y
       → (n : ℕ) → n ≤ length es → AtMoment g.script h.script k l opening es n
   always es x y run n few =

@@ -1,4 +1,4 @@
--- What one request changes of what stands where files are shown.
+-- What one request changes at the paths where files are shown.
 use Rattle.basics.proofs.Members.{same_or_other, some_is, true_or_false}
 use Rattle.basics.specs.Members.{IsIn}
 use Rattle.job_facts.proofs.Agreeing.{Agrees, decided_so, picks_apart, prefix_unkept}
@@ -50,7 +50,7 @@ use Rattle.store_frame.specs.Frame.{changed_keys}
 use Rattle.twin_facts.specs.Requests.{SetsUpBy}
 use Rattle.twin_facts.specs.Shown.{Changed, IsPickedSo, OfWanted}
 
--- what is below a prefix that is emptied
+-- A sweep of a replace mode has only keys below a prefix that the mode empties.
 abbrev pub Under : Script → Commit → Type 0
 Under w (Replacing sets p ps x n) = IsIn p (replaced w.committer w.mode w (picks_of sets)) × SweepsUnder p x
 Under w _ = Unit {0}
@@ -73,7 +73,7 @@ module _ (g : Setting) (j : IsLegal g.script) (s : Seen) (m : Told) (hold : Hold
   abbrev So : Request → Outcome → Type 0
   So r o = Changed w s.picks q now (after r o)
 
-  -- by what it changes where it takes effect
+  -- By what the request changes if it takes effect.
   by_effect : (r : Request) → Changed w s.picks q now (at_key w (apply s.scene r).content key) → (o : Outcome) → So r o
   by_effect r h o = effect_so (λ (t : Scene). Changed w s.picks q now (at_key w t.content key)) s.scene r o (inl refl) h
 
@@ -164,7 +164,7 @@ module _ (g : Setting) (j : IsLegal g.script) (s : Seen) (m : Told) (hold : Hold
       ])
   commit_shows_by (CommitOver end) h agree under r e o = absurd cc
 
--- ---- as a law
+-- ---- the laws
 
 agrees_so : (w : Script) (picks : Picks) (c : Commit) → IsPickedSo w picks c → Agrees w picks c
 agrees_so w picks (Replacing sets p ps x n) a = a.0

@@ -1,4 +1,4 @@
--- Two runs over one journal, each as its side reads it, are a run of both.
+-- Two runs over one journal, each as its side reads it, are one run of both.
 use Rattle.basics.proofs.Members.{false_true}
 use Rattle.job_facts.specs.Foreign.{IsForeign}
 use Rattle.job_facts.specs.Told.{driver_entry, entry, strange_entry}
@@ -42,10 +42,10 @@ not_none (x ∷ l) a e = cc
 longer : {X : Type 0} (l : List X) (x : X) (m : List X) → l ++ x ∷ m ≡ (l ++ (last_of x m).front) ++ (last_of x m).last ∷ []
 longer l x m = ap (λ t. l ++ t) (last_of x m).is ∙ sym (append_assoc l (last_of x m).front ((last_of x m).last ∷ []))
 
--- ---- a run, parted before what was sent last
+-- ---- a run, parted before its last entry
 
 module _ (g : Setting) (k : Times) (opening : Content) where
-  -- only operations begin in between
+  -- Between the two states, operations only begin.
   data Begins (z : Stand) : Stand → Type 0 where
     none_begins : Begins z z
     one_begins : (x : Stand) (b : Beginning) → Begins z x → MayBegin g x b → Begins z (begin g x b)
@@ -114,7 +114,7 @@ module _ (g : Setting) (k : Times) (opening : Content) where
             (λ (e : Entry). Begins (saw g k y e) (saw g k y (strange_entry m q p))) parts.1 none_begins;
       }
 
-  -- a front of what was sent is of a run
+  -- Each front of the entries is that of a run.
   front_runs : (es : List Entry) (x : Stand) → Runs g k opening es x → (fs gs : List Entry) → es ≡ fs ++ gs → (u : Stand)
       × Runs g k opening fs u
   front_runs es x run fs [] is = (x, subst (λ l. Runs g k opening l x) (is ∙ append-nil fs) run)
@@ -130,7 +130,7 @@ module _ (g : Setting) (k : Times) (opening : Content) where
       front_runs ls y run fs (last_of e gs).front (same_from_push ls (fs ++ (last_of e gs).front) (strange_entry n r o) (last_of e gs).last
       (is ∙ longer fs e gs)).0
 
--- ---- both
+-- ---- both sides
 
 module _ (g h : Setting) (k l : Times) (opening : Content) where
   with_first : {es : List TwinEntry} {z y : Stand} (x : Stand) → Begins g k opening z x → TwinRun g h k l opening es z y
@@ -179,7 +179,7 @@ module _ (g h : Setting) (k l : Times) (opening : Content) where
   pub joined : (es : List TwinEntry) → AreActors es → Joins es
   joined es own = joins (length es) es (omega arith) own
 
--- ---- what the first sends is foreign to the second
+-- ---- what the first side sends is foreign to the second
 
 module _ (g h : Setting) (m : MayBeTwins g.script h.script) (k l : Times) (opening : Content) (is : IsTwinOpening g h opening) where
   pub foreign_on : (es part : List TwinEntry) → AreActors (es ++ part) → AreOf First part → (x y : Stand)
@@ -217,7 +217,7 @@ module _ (g h : Setting) (m : MayBeTwins g.script h.script) (k l : Times) (openi
       honest_of s (sides.driver_sends _ op n r o d asked timely few honest) same = subst (λ t. IsHonestOutcome o (answer t r)) same honest
       honest_of s (sides.attempt_sends _ a op n r o set at asked honest) same = subst (λ t. IsHonestOutcome o (answer t r)) same honest
 
--- ---- in the other order
+-- ---- with the names of the sides swapped
 
 turned_eyes : (s : Side) (e : Entry) (n : ℕ) → (in_eyes First (record { side = other_side s; entry = e; theirs = n }) ≡ in_eyes Second
     (record { side = s; entry = e; theirs = n })) × (in_eyes Second (record { side = other_side s; entry = e; theirs = n }) ≡ in_eyes First

@@ -41,7 +41,7 @@ ref d = record { key = d.key; upload = d.upload }
 abbrev pub Keyed : Script → (Who → List Drawn) → Content → Type 0
 Keyed w drawn c = (a : Who) (d : Drawn) → IsIn d (drawn a) → HasItsKey w c (ref d)
 
--- any request leaves it so
+-- It keeps its key through any request.
 pub key_still : (w : Script) (s : Scene) → HasBucket s.content w.dest.bucket → (q : UploadRef) (r : Request) (o : Outcome)
     → HasItsKey w s.content q → HasItsKey w (effect s r o).content q
 key_still w s there q r o h = keys_stay w s there (Walking (q ∷ [])) r o (λ u i. elim i
@@ -66,7 +66,7 @@ module _ (w : Script) where
       → r ≡ CreateUpload n k → n ≡ w.dest.bucket
   operation_bucket g is minimum m a op h r e n k f = grind arith
 
--- ---- it is kept
+-- ---- each step keeps that
 
 module _ (g : Setting) (k : Times) (opening : Content) (j : IsLegal g.script) (is : IsOpening g opening) where
   abbrev w : Script
@@ -84,7 +84,7 @@ module _ (g : Setting) (k : Times) (opening : Content) (j : IsLegal g.script) (i
             t.here)),
       )
 
-  -- before its set-up is done an attempt knows none
+  -- Before its set-up is done, a side has no attempt that knows an upload.
   none_known : (x : Stand) → Early g opening x → (c : Content) → Keyed w x.told.drawn c
   none_known x e c a d i = absurd (subst (λ (m : Told). IsIn d (m.drawn a)) e.told i)
 

@@ -1,4 +1,4 @@
--- How far an abort or clean at a shared destination has come with what is to go, while no attempt of its side sends.
+-- What an abort or clean at a shared destination has still to remove, while no attempt of its side sends.
 use Rattle.basics.proofs.Members.{false_true, filter_in, in_back, in_filter, in_front, map_in, none_or_some, none_some, same_or_other}
 use Rattle.basics.proofs.Members.{some_is, text_exact, text_gone, text_left, text_true}
 use Rattle.basics.specs.Members.{IsIn}
@@ -51,28 +51,28 @@ use Rattle.job_model.specs.declared.ends.CleanEnd.TheVariants as ends
 use Rattle.list_walk.specs.Walks as walks
 use Rattle.job_protocol.specs.Sparing as sparing
 
--- an upload is gone
+-- The upload is gone.
 abbrev pub Dead : Script → Scene → ℕ → Type 0
 Dead w s id = (id < s.content.next) × (at_id w s.content id ≡ None)
 
--- nothing of the job's own changed
+-- Nothing of the job's own has changed since the first scene.
 pub record Same (w : Script) (first s : Scene) : Type 0 where
   pub keys : (k : List ℕ) → begins (magic_prefix w.dest.key w.job) k ≡ true → at_key w s.content k ≡ at_key w first.content k
   pub files : (p : List ℕ) → begins (cluster_prefix w.job) p ≡ true → fin.get s.files p ≡ fin.get first.files p
 
--- what stands in the job's directory stands at one of these places
+-- Each file in the job's directory is at one of these places.
 pub record Rest (w : Script) (s : Scene) (all : List (List ℕ)) : Type 0 where
   pub keys : is_magic w.committer ≡ true → OnlyThese w s.content all
   pub files : is_staging w.committer ≡ true → FilesIn w s all
 
--- an upload that was named then
+-- A file at this place named the upload in the first scene.
 abbrev pub Named : Script → Scene → List ℕ → UploadRef → Type 0
 Named w first p u = NamedAt w.committer w first p u
 
 abbrev pub AllDead : Script → Scene → Scene → Type 0
 AllDead w first s = (p : List ℕ) (u : UploadRef) → Named w first p u → Dead w s u.upload
 
--- how far it has come since this scene
+-- The state of the abort or clean fits what has changed since the first scene.
 abbrev pub Leaving : Script → Scene → Scene → Sparing → Type 0
 Leaving w first s (Walking keys) = Same w first s × Empties w s.content (Listing keys)
 Leaving w first s Naming = Same w first s
@@ -84,7 +84,7 @@ Leaving w first s (sparing.Deleting k ks) = (w.committer ≡ Magic) × OnlyThese
 Leaving w first s (Removing p ps) = (is_staging w.committer ≡ true) × FilesIn w s (p ∷ ps) × AllDead w first s
 Leaving w first s (SparingOver end) = end ≡ ends.Done → Rest w s [] × AllDead w first s
 
--- ---- what leaves the job's own alone leaves it so
+-- ---- a request that leaves the job's own alone keeps that
 
 pub record LeftAlone (w : Script) (s t : Scene) : Type 0 where
   pub keys : (k : List ℕ) → begins (magic_prefix w.dest.key w.job) k ≡ true → at_key w t.content k ≡ at_key w s.content k
@@ -116,7 +116,7 @@ module _ (w : Script) (first s t : Scene) (h : LeftAlone w s t) where
   leaving_alone (Removing p ps) x = (x.0, files_so (p ∷ ps) x.1, dead_so x.2)
   leaving_alone (SparingOver end) x = λ e. let y = x e in (rest_so [] y.0, dead_so y.1)
 
--- a request that names nothing of the job's own
+-- A request that names nothing of the job's own.
 pub alone_request : (w : Script) (s : Scene) → HasBucket s.content w.dest.bucket → (r : Request)
     → ((k : List ℕ) → begins (magic_prefix w.dest.key w.job) k ≡ true → at_key w (apply s r).content k ≡ at_key w s.content k)
     → ((p : List ℕ) → begins (cluster_prefix w.job) p ≡ true → fin.get (apply s r).files p ≡ fin.get s.files p) → (o : Outcome)
@@ -156,7 +156,7 @@ module _ (w : Script) (first s : Scene) where
       [ inl none ↦ absurd none | inr i ↦ inl i ])
   left_reading named (p ∷ ps) all same x cover = (same, x, cover)
 
-  -- what was named stands where the job keeps it, as long as nothing changed
+  -- What was named is where the job keeps it, as long as nothing has changed.
   named_key : (c : Committer) → w.committer ≡ c → (keys : List (List ℕ)) → is_magic c ≡ true → Same w first s → OnlyThese w s.content keys
       → (q : List ℕ) (u : UploadRef) → NamedAt c w first q u → IsIn q (filter is_record keys)
   named_key Magic e keys m same only q u n = filter_in is_record q keys (only q n.0 n.1 refl (same.keys q n.1 ∙ n.3)) n.2
@@ -170,7 +170,7 @@ module _ (w : Script) (first s : Scene) where
   magic_only : (c : Committer) → is_magic c ≡ true → is_staging c ≡ true → ⊥
   magic_only c h g = grind arith
 
-  -- what was listed is all, where the last page has come
+  -- After the last page, what was listed is all.
   only_all : (l : List (List ℕ)) → Emptied w s.content (walks.deleting l) → OnlyThese w s.content l
   only_all l h = grind arith
 
@@ -204,7 +204,7 @@ module _ (w : Script) (first s : Scene) where
         (record { keys = λ m. absurd (magic_only w.committer m staging); files = λ z. all })
         (λ q u n. inl (named_path w.committer refl ps staging same all q u n)))
 
-    -- a read names what stood there
+    -- A read names the uploads that the file there named.
     read_names : (c : Committer) (p : List ℕ) (u : UploadRef) → Same w first s → NamedAt c w first p u
         → IsIn u (names (answer s (record_request c w p)))
     read_names c p u h g = grind arith
@@ -266,7 +266,7 @@ module _ (w : Script) (first s : Scene) (there : HasBucket s.content w.dest.buck
   left_removing t staging [] h d = λ done. (record { keys = λ m. absurd (magic_only w first s w.committer m staging); files = λ z. h }, d)
   left_removing t staging (p ∷ ps) h d = (staging, h, d)
 
--- ---- all of it
+-- ---- all together
 
 module _ (w : Script) (first s : Scene) (there : HasBucket s.content w.dest.bucket) (drawn : Who → List Drawn)
     (keyed : Keyed w drawn s.content) where

@@ -1,5 +1,5 @@
--- Over a whole run what a side sent names nothing of the other's: an upload that it named was drawn by then, and what the other draws later
--- is new.
+-- Over a whole run, what a side sent names nothing of the other's: each upload that it named was drawn by then, and what the other one
+-- draws later is new.
 use Rattle.basics.proofs.Naturals.{above_so}
 use Rattle.job_model.specs.JobScript.{Script}
 use Rattle.job_protocol.specs.Operations.{Setting}
@@ -22,11 +22,11 @@ use Rattle.twin_facts.specs.TwinLaws.{MayBeTwins, other_side, turned_entry}
 
 -- ---- what was sent, by the uploads that were drawn
 
--- it names only uploads below this
+-- The request names only uploads below n.
 abbrev Low : ℕ → Request → Type 0
 Low n r = (id : ℕ) → named_upload r ≡ Some id → id < n
 
--- what this side sent names nothing of a job that drew these uploads, and only uploads below this
+-- No request of this side names what belongs to the job of script v, or an upload in `ids`, and each names only uploads below n.
 abbrev Fine : Side → Script → Ids → ℕ → List TwinEntry → Type 0
 Fine side v ids n = AllByRecursion (λ t. t.side ≡ side → IsStranger v ids t.entry.request × Low n t.entry.request)
 
@@ -38,7 +38,7 @@ one_more : (side : Side) (v : Script) (ids : Ids) (n : ℕ) (es : List TwinEntry
 one_more side v ids n [] t f h = (h, tt)
 one_more side v ids n (u ∷ es) t f h = (f.0, one_more side v ids n es t f.1 h)
 
--- more uploads were drawn since, none of them below the old ones
+-- More uploads were drawn since, and none of them is below the earlier ones.
 grown : (side : Side) (v : Script) (d e : Ids) (a b : ℕ) → a ≤ b → ((id : ℕ) → id < a → e id ≡ d id) → (es : List TwinEntry)
     → Fine side v d a es → Fine side v e b es
 grown side v d e a b l same [] f = tt
@@ -108,7 +108,7 @@ module _ (g h : Setting) (m : MayBeTwins g.script h.script) (k l : Times) (openi
   first_kept es x y (second_sends fs u v z e n run sends) = by_second fs u v e n (all_so g h m k l opening is fs u v run)
       (first_kept fs u v run)
 
--- ---- in the other order
+-- ---- with the names of the sides swapped
 
 side_turned : (s : Side) → is_side Second (other_side s) ≡ is_side First s
 side_turned s = grind arith

@@ -1,4 +1,4 @@
--- The requests of a job name only what is its own, or nobody's.
+-- The requests of a job name only what is the job's own or nobody's.
 use Rattle.basics.proofs.Members.{false_true, nat_false, nat_true, some_is}
 use Rattle.basics.specs.Members.{IsIn}
 use Rattle.job_facts.proofs.Aborting.{taken_in}
@@ -67,7 +67,7 @@ begins_open (b ∷ q) h = rw (other b (not-true (nat_eq b 95) h)) refl
     other : (b : ℕ) → nat_eq b 95 ≡ false → nat_eq 95 b ≡ false
     other b h = nat_false 95 b (λ e. false_true h (nat_true b 95 (sym e)))
 
--- of what stands behind a destination's slash
+-- A key after a destination's slash is in no magic directory unless its rest begins with `__magic/`.
 behind_dest : (w : Script) (q : List ℕ) → is_no_magic w (w.dest.key ++ 47 ∷ q) ≡ not (begins (codes "__magic/") q)
 behind_dest w q =
     ap (λ p. not (begins p (w.dest.key ++ 47 ∷ q))) (append_assoc w.dest.key (codes "/") (codes "__magic/"))
@@ -224,7 +224,7 @@ module _ {w : Script} (j : IsLegal w) (minimum : ℕ) (m : Told) where
   sparing_own f (SparingOver end) h r e = absurd cc
   sparing_own f _ h r e = subst Own (some_is e) (names_nothing _ refl refl refl)
 
--- ---- all of them
+-- ---- all together
 
 module _ (g : Setting) (j : IsLegal g.script) (s : Seen) (m : Told) (h : Hold g.script g.minimum s m) where
   operation_own : (a : Who) → IsAttempt g.script a → (op : Operation) → Fits g.script g.minimum a m op → (r : Request)

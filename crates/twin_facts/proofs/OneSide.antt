@@ -1,4 +1,4 @@
--- A side's entries make its run go on; where its destination is shared no abort or clean of it is one of a job alone.
+-- The entries of a side make its run go on. If its destination is shared, the side runs no abort or clean of a job alone.
 use Rattle.job_facts.specs.Told.{driver_entry, entry}
 use Rattle.job_model.specs.Attempts.{Who}
 use Rattle.job_model.specs.JobScript.{Script}
@@ -40,7 +40,7 @@ module _ (w : Script) (k : Times) (s : Seen) (n : ℕ) (r : Request) where
   pub attempt_scene : (a : Who) (o : Outcome) → (see w k s (entry a n r o)).scene ≡ effect s.scene r o
   attempt_scene a o = grind arith
 
-  -- where it reads no set, or behind the beginning of an abort or clean, nothing is picked
+  -- If the entry reads no set, or comes after the beginning of an abort or clean, it changes no pick.
   pub picks_still : ((t : ℕ) → (is_picking k s.begun n && is_reading w t r) ≡ false) → (o : Outcome)
       → (see w k s (driver_entry n r o)).picks ≡ s.picks
   picks_still none (Answered y) = λ i t. ap (λ b. cond b (s.last t) (s.picks t)) (none t) i
@@ -50,11 +50,11 @@ module _ (w : Script) (k : Times) (s : Seen) (n : ℕ) (r : Request) where
   pub unread_picks : ((t : ℕ) → is_reading w t r ≡ false) → (o : Outcome) → (see w k s (driver_entry n r o)).picks ≡ s.picks
   unread_picks none = picks_still (λ t. ap (λ b. is_picking k s.begun n && b) (none t) ∙ and-false (is_picking k s.begun n))
 
-  -- where it is no put of the marker, that was put as before
+  -- If the entry puts no marker, the marker was put exactly if it was put before.
   pub mark_still : is_marking w r ≡ false → (o : Outcome) → (see w k s (driver_entry n r o)).put_mark ≡ s.put_mark
   mark_still h o = grind arith
 
-  -- what was put stays so, and a put that takes effect puts it
+  -- A marker that was put stays put, and a put that takes effect puts it.
   pub mark_stays : s.put_mark ≡ true → (o : Outcome) → (see w k s (driver_entry n r o)).put_mark ≡ true
   mark_stays h o = grind arith
 
@@ -63,7 +63,7 @@ module _ (w : Script) (k : Times) (s : Seen) (n : ℕ) (r : Request) where
 
 -- ---- its driver
 
--- the abort or clean of a job alone
+-- The operation is no abort or clean of a job alone.
 abbrev IsNone : Option Operation → Type 0
 IsNone (Some (TheClean t)) = ⊥
 IsNone _ = Unit {0}

@@ -1,4 +1,4 @@
--- Of two sides at one destination the facts of both are kept by each step of either, and no upload is drawn by both.
+-- Each step of either side at one destination keeps the facts of both, and no upload is drawn by both.
 use Rattle.basics.proofs.Members.{false_true, none_some, true_or_false}
 use Rattle.basics.proofs.Naturals.{at_most_is, at_most_so, below_is, below_so}
 use Rattle.job_facts.proofs.Going.{effect_so}
@@ -58,14 +58,14 @@ apply_later s r = elim (fin.get s.content.buckets (bucket_of r)) as (λ o. s.con
   | Some b ↦ cond_both (draws r) (s.content.next + 1) s.content.next (λ n. s.content.next ≤ n) (λ e. omega arith) (λ e. omega arith)
 ]
 
--- the counter never falls
+-- The next upload id never falls.
 pub effect_later : (s : Scene) (r : Request) (o : Outcome) → s.content.next ≤ (effect s r o).content.next
 effect_later s r o = effect_so (λ (t : Scene). s.content.next ≤ t.content.next) s r o (omega arith) (apply_later s r)
 
 -- ---- a side's steps
 
 module _ (g : Setting) (j : IsLegal g.script) (shared : g.shared ≡ true) (k : Times) (opening : Content) (is : IsOpening g opening) where
-  -- what its driver asks names only its own
+  -- What its driver asks names only what is the job's own.
   asks_own : (es : List Entry) (x : Stand) → Runs g k opening es x → Late g opening x → (op : Operation) → x.driver ≡ Some op
       → At g opening (Some op) x.seen x.told → (r : Request) → asks g (who Driver) nothing_learnt op ≡ Some r
       → NamesOwn g.script x.told.drawn r
@@ -85,7 +85,7 @@ module _ (g : Setting) (j : IsLegal g.script) (shared : g.shared ≡ true) (k : 
   asks_own es x run l (TheSparing u) d y r asked = sends_own g j x.seen x.told l.hold _ r (by_clean u.operation r y asked)
   asks_own es x run l _ d y r asked = absurd y
 
-  -- and so does all that it sends
+  -- So does all that it sends.
   pub own_of : (es : List Entry) (x z : Stand) (e : Entry) → Sends g k x e z → Runs g k opening es x
       → NamesOwn g.script x.told.drawn e.request
   own_of es x _ _ (driver_sends _ op n r o d asked timely few honest) run = by (good g k opening j is es x run)
@@ -109,7 +109,7 @@ module _ (g : Setting) (j : IsLegal g.script) (shared : g.shared ≡ true) (k : 
   sends_scene x _ _ (driver_sends _ op n r o d asked timely few honest) = driver_scene g.script k x.seen n r o
   sends_scene x _ _ (attempt_sends _ a op n r o set at asked honest) = attempt_scene g.script k x.seen n r a o
 
-  -- what is known then was known, or was drawn just now
+  -- An upload that is known after a send was known before, or was just drawn.
   sends_known : (es : List Entry) (x z : Stand) (e : Entry) → Sends g k x e z → Runs g k opening es x → (id : ℕ) → IsKnown z.told.drawn id
       → IsKnown x.told.drawn id ⊎ ((x.seen.scene.content.next ≤ id) × (id < z.seen.scene.content.next))
   sends_known es x _ _ (driver_sends _ op n r o d asked timely few honest) run id y = inl y
@@ -124,11 +124,11 @@ module _ (g : Setting) (j : IsLegal g.script) (shared : g.shared ≡ true) (k : 
 
 -- ---- two sides
 
--- with what a sending drew
+-- The uploads drawn so far, with those that this send drew.
 abbrev pub more : Ids → Scene → Request → Outcome → Ids
 more d s r o id = d id || drawn_by s r o id
 
--- the runs of both, of these entries, over one store, of which these uploads are each's
+-- The runs of both sides with these entries, over one store, and the uploads that each has drawn.
 pub record Pair (g h : Setting) (k l : Times) (opening : Content) (fs gs : List Entry) (d e : Ids) (x y : Stand) : Type 0 where
   pub first : Runs g k opening fs x
   pub second : Runs h l opening gs y

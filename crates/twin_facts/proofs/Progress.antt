@@ -1,4 +1,4 @@
--- How far a job's commit has come that replaces nothing, in every run of the job among strangers.
+-- The progress of a job's commit that replaces nothing, in every run of the job among strangers.
 use Rattle.basics.proofs.Members.{false_true, none_or_some, none_some, same_or_not, some_is}
 use Rattle.job_facts.proofs.Owning.{operation_own}
 use Rattle.job_facts.proofs.Reading.{reads_other}
@@ -52,12 +52,12 @@ use Rattle.job_model.specs.declared.ends.Stage.TheVariants as stages
 
 -- ---- what holds of a commit as it goes on, whoever else sends
 
--- a task of which no set was read yet has no pick
+-- A task whose set was not read yet has no pick.
 abbrev pub Unread : Script → Picks → Commit → Type 0
 Unread w picks (Fetching sets n) = (t : ℕ) → length sets ≤ t → t < w.tasks → picks t ≡ None
 Unread w picks _ = Unit {0}
 
--- until its stage has come the marker was not put
+-- The marker was not put before the commit is at that stage.
 abbrev pub Unmarked : Bool → Commit → Type 0
 Unmarked put (Marking sets n) = Unit {0}
 Unmarked put (CommitOver ends.Committed) = Unit {0}
@@ -94,18 +94,18 @@ module _ (w : Script) where
     unread_start : ((t : ℕ) → picks t ≡ None) → (missing : Option ℕ) → U (commit_start w missing)
     unread_start h missing = grind arith
 
-    -- where no answer came, the picks are as they were
+    -- If no answer came, the picks are as they were.
     unread_missed : (c : Commit) (lost : Bool) → U c → U (commit_misses w c lost)
     unread_missed c lost h = grind arith
 
     unread_heard : (c : Commit) → is_fetching c ≡ false → (y : Reply) → U (commit_hears w c y)
     unread_heard c h y = grind arith
 
-  -- while it reads, not each task has a pick
+  -- While the commit reads, some task has no pick.
   pub undecided : (picks : Picks) (sets : Sets) → length sets < w.tasks → Unread w picks (Fetching sets 0) → is_decided w picks ≡ false
   undecided picks sets h g = grind arith
 
--- a mode that is not replace deletes nothing that it does not revert
+-- A mode other than replace sweeps nothing.
 pub nothing_under : (g : Setting) (opening : Content) (m : Told) (picks : Picks) (c : Commit) → InCommit g opening picks m c
     → is_replace g.script.mode ≡ false → Under g.script c
 nothing_under g opening m picks (Replacing sets p ps x n) i keep =
@@ -144,7 +144,7 @@ module _ (g : Setting) (opening : Content) (j : IsLegal g.script) (k : Times) (s
       × ((t : ℕ) → is_reading w t (sweep_asks w.dest.bucket p x) ≡ false)
   plain_sweep p x = grind arith
 
-  -- but in its stage it is no put of the marker, and but in the first no read of a set
+  -- Only the marker's stage puts the marker, and only the first stage reads a set.
   abbrev Kind : Commit → Request → Type 0
   Kind d y = (is_mark_stage w d ≡ false → is_marking w y ≡ false) × (is_fetching w d ≡ false → (t : ℕ) → is_reading w t y ≡ false)
 
@@ -194,7 +194,7 @@ module _ (g : Setting) (opening : Content) (j : IsLegal g.script) (k : Times) (s
     next_other t l ne = ap (λ b. cond (picking && b) (s.last t) (s.picks t)) (reads_other j t (length sets) l low ne) ∙ ap
         (λ b. cond b (s.last t) (s.picks t)) (and-false picking)
 
-    -- where no set stands nobody published
+    -- If there is no set, nobody has published.
     next_none : s.last (length sets) ≡ None → (t : ℕ) → length sets ≤ t → t < w.tasks → next t ≡ None
     next_none h t g e = grind (arith, same_or_not, cond_both, unread, next_other)
 
@@ -263,7 +263,7 @@ module _ (g : Setting) (opening : Content) (j : IsLegal g.script) (k : Times) (s
   unmarked_next _ v o = let z = ap (is_mark_stage w) (sym v) in false_unmarked (u o).put_mark
       (mark_same z o ∙ put_before c z asked i.unmarked) (commit_tells w c o)
 
-  -- ---- all of it
+  -- ---- all together
 
   pub committing_next : (o : Outcome) → IsHonestOutcome o (answer s.scene r)
       → Committing g opening (at_event n (tell_driver m r o)) (u o).picks (u o).put_mark (commit_tells w c o)
@@ -276,7 +276,7 @@ module _ (g : Setting) (opening : Content) (j : IsLegal g.script) (k : Times) (s
 
 -- ---- in every run
 
--- where the driver is at its commit
+-- If the driver is running its commit.
 abbrev Goes : Setting → Option Operation → Seen → Type 0
 Goes g (Some (TheCommit c)) s = Unread g.script s.picks c × Unmarked s.put_mark c
 Goes g _ s = Unit {0}

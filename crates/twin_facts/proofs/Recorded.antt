@@ -1,5 +1,5 @@
--- Of the magic committer: as long as its upload lives, the record of a file that an attempt has written stands; an abort or clean of the
--- job deletes none whose upload lives.
+-- With the magic committer, the record of a file that an attempt has written exists as long as the file's upload lives. An abort or clean
+-- of the job deletes no record whose upload lives.
 use Rattle.basics.proofs.Members.{false_true, filter_in, in_append, in_back, in_front, some_is}
 use Rattle.basics.specs.Members.{IsIn}
 use Rattle.job_facts.proofs.Aborting.{dropped_in, taken_in}
@@ -70,15 +70,15 @@ use Rattle.job_protocol.specs.Sparing as sparing
 
 -- ---- what becomes of a file's record
 
--- the attempt has taken something back, or the file's upload is gone
+-- The attempt has taken something back, or the file's upload is gone,
 abbrev pub Settled : Script → Scene → Told → Who → File → Type 0
 Settled w s m a f = (m.undone a ≡ true) ⊎ ((d : Drawn) × IsIn d (m.drawn a) × (d.key ≡ file_key w f) × Dead w s d.upload)
 
--- or its record stands
+-- or the file's record exists.
 abbrev pub IsRecorded : Script → Scene → Told → Who → File → Type 0
 IsRecorded w s m a f = Settled w s m a f ⊎ HasKey w s (record_key w a f)
 
--- so is each file but these
+-- That holds of each file but these.
 abbrev pub AreRecorded : Script → Scene → Told → Who → List File → Type 0
 AreRecorded w s m a left = (f : File) → IsIn f (files w a) → IsIn f left ⊎ IsRecorded w s m a f
 
@@ -88,18 +88,18 @@ WriteRecords w s m a (Marking f fs) = AreRecorded w s m a (f ∷ fs)
 WriteRecords w s m a (Recording f fs) = AreRecorded w s m a (f ∷ fs)
 WriteRecords w s m a (WriteOver end) = end ≡ ends.Done → AreRecorded w s m a []
 
--- by what the attempt is at
+-- By the operation of the attempt.
 abbrev pub Records : Script → Scene → Told → Who → Operation → Type 0
 Records w s m a (TheWrite t) = (m.publish_sent a ≡ false) × WriteRecords w s m a t.operation
 Records w s m a (TheTaskCommit t) = AreRecorded w s m a []
 Records w s m a (TheTaskAbort t) = m.publish_sent a ≡ true → AreRecorded w s m a []
 Records w s m a _ = Unit {0}
 
--- the file's upload is among these
+-- The file's upload is among these.
 abbrev pub IsNamed : Script → Told → List UploadRef → Who → File → Type 0
 IsNamed w m us a f = (d : Drawn) × IsIn d (m.drawn a) × (d.key ≡ file_key w f) × IsIn (ref d) us
 
--- what a sparing clean has to do with the records that it has listed
+-- What an abort or clean at a shared destination has to do with the records that it has listed.
 abbrev pub Covers : Script → Scene → Told → Sparing → Who → File → Type 0
 Covers w s m (Walking keys) a f = IsIn (record_key w a f) keys → IsRecorded w s m a f
 Covers w s m (Reading named p ps all) a f = IsIn (record_key w a f) all → (IsIn (record_key w a f) (p ∷ ps) × IsRecorded w s m a f)
@@ -108,7 +108,7 @@ Covers w s m (Aborting u us all) a f = IsIn (record_key w a f) all → IsNamed w
 Covers w s m (sparing.Deleting k ks) a f = IsIn (record_key w a f) (k ∷ ks) → Settled w s m a f
 Covers w s m _ a f = Unit {0}
 
--- ---- from one moment to a later one
+-- ---- from one state to a later one
 
 pub record Later (w : Script) (s t : Scene) (m n : Told) (a : Who) : Type 0 where
   pub undone : m.undone a ≡ true → n.undone a ≡ true
@@ -159,7 +159,7 @@ module _ {w : Script} {s t : Scene} {m n : Told} {a : Who} (l : Later w s t m n 
 -- ---- what a request leaves
 
 module _ {w : Script} (j : IsLegal w) (s : Scene) (there : HasBucket s.content w.dest.bucket) (r : Request) (o : Outcome) where
-  -- one that changes no key below the magic directory
+  -- A request that changes no key below the magic directory.
   pub free_keys : (n : Told) (a : Who) → (bucket_of r ≡ w.dest.bucket → (k : List ℕ) → IsIn k (changed_keys r)
       → begins (magic_prefix w.dest.key w.job) k ≡ false) → (f : File) → IsIn f (files w a) → HasKey w s (record_key w a f)
       → IsRecorded w (effect s r o) n a f
@@ -167,14 +167,14 @@ module _ {w : Script} (j : IsLegal w) (s : Scene) (there : HasBucket s.content w
       inr (effect_so (λ t. HasKey w t (record_key w a f)) s r o h (key_left w s there (record_key w a f) r
       (λ b x. false_true (free b (record_key w a f) x) (record_below j a f)) h))
 
-  -- of the driver, and of a stranger
+  -- A request of the driver, or of a stranger.
   pub driver_later : (m : Told) (k : ℕ) (a : Who) → Later w s (effect s r o) m (at_event k (tell_driver m r o)) a
   driver_later m k a = record { undone = λ e. e; dead = λ id d. stays_gone w s there id r o d; known = λ d i. (d, i, refl, refl) }
 
   pub strange_later : (m : Told) (a : Who) → Later w s (effect s r o) m m a
   strange_later m a = record { undone = λ e. e; dead = λ id d. stays_gone w s there id r o d; known = λ d i. (d, i, refl, refl) }
 
-  -- of an attempt
+  -- A request of an attempt.
   pub attempt_later : (m : Told) (b a : Who) → Later w s (effect s r o) m (tell_attempt w m b r o) a
   attempt_later m b a = record { undone = still; dead = λ id d. stays_gone w s there id r o d; known = λ d i. known_still w m b r o a d i }
     where
@@ -184,7 +184,7 @@ module _ {w : Script} (j : IsLegal w) (s : Scene) (there : HasBucket s.content w
         | inl is ↦ who_here m.undone b _ a is ∙ ap (λ z. z || undoes r) (ap m.undone (sym is) ∙ e)
       ]
 
--- a request of an abort takes something back, or changes no key
+-- A request of an abort takes something back, or changes no key.
 abort_takes : (w : Script) (b : Who) (t : TaskAbort) (r : Request) → task_abort_asks w b t ≡ Some r → (undoes r ≡ true)
     ⊎ (changed_keys r ≡ [])
 abort_takes w b t r h = grind arith
@@ -201,7 +201,7 @@ module _ (g : Setting) (j : IsLegal g.script) (s : Scene) (there : HasBucket s.c
   abbrev t : Scene
   t = effect s r o
 
-  -- records of any attempt stay, but where this one takes back its own
+  -- Records of any attempt stay, unless this one takes back its own.
   pub attempt_keys : (a : Who) → IsAttempt w a → (f : File) → IsIn f (files w a) → HasKey w s (record_key w a f) → IsRecorded w t n a f
   attempt_keys a c f i h = by op fits asked
     where
@@ -254,7 +254,7 @@ module _ (g : Setting) (j : IsLegal g.script) (s : Scene) (there : HasBucket s.c
   uploaded_records : (f : File) (fs : List File) (u : Uploaded) → AreRecorded w t n b (f ∷ fs) → WriteRecords w t n b (uploaded w f fs u)
   uploaded_records f fs u h = grind arith
 
-  -- the record that it puts stands, where that is answered
+  -- The record that it puts exists, if the put was answered.
   put_records : (x : Reply) → o ≡ Answered x → (f : File) (fs : List File) → write_asks w b (known m b) (Recording f fs) ≡ Some r
       → AreRecorded w t n b (f ∷ fs) → AreRecorded w t n b fs
   put_records x is f fs e h k i = elim (h k i) [
@@ -313,7 +313,7 @@ module _ {w : Script} {minimum : ℕ} (j : IsLegal w) (s : Scene) {last : ℕ �
     record_none : (c : Committer) (p : List ℕ) → changed_keys (record_request c w p) ≡ []
     record_none c p = grind arith
 
-    -- it deletes no record whose upload lives
+    -- It deletes no record whose upload lives.
     pub sparing_left : ((f : File) → IsIn f (files w a) → Covers w s m t.operation a f) → (f : File) → IsIn f (files w a)
         → HasKey w s (record_key w a f) → IsRecorded w now told a f
     sparing_left cover f i h = by t.operation asked (cover f i)
@@ -384,7 +384,7 @@ module _ {w : Script} {minimum : ℕ} (j : IsLegal w) (s : Scene) {last : ℕ �
           subst (λ y. After (walking w.committer (walked keys y))) (sym (e ∙ due))
           (after_walked (nat_lt 1000 (length xs)) (keys ++ keys_on (take 1000 xs)) all)
 
-      -- a record that stands names the upload
+      -- A record that exists names the upload.
       read_named : (p : List ℕ) → key ≡ p → (x : Reply) → x ≡ answer s (record_request w.committer w p) → HasKey w s key
           → IsNamed w told (names x) a f
       read_named p is x e h =

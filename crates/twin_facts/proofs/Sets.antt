@@ -1,4 +1,4 @@
--- In every run the records of files whose uploads live stand; so what a set names a record names too.
+-- In every run the records of files whose uploads live exist, so each upload that a set names is named by a record too.
 use Rattle.basics.proofs.Members.{false_true, none_or_some, none_some, some_is}
 use Rattle.basics.specs.Members.{IsIn}
 use Rattle.job_facts.proofs.Apart.{HasKey, record_below}
@@ -73,7 +73,7 @@ module _ (g : Setting) where
     pub covers : (u : Retried Sparing) → driver ≡ Some (TheSparing u) → (a : Who) → IsAttempt w a → (f : File) → IsIn f (files w a)
         → Covers w s m u.operation a f
 
-  -- of the magic committer
+  -- With the magic committer.
   abbrev pub Standing : Stand → Type 0
   Standing x = w.committer ≡ Magic → Stands x.seen.scene x.told x.attempts x.driver
 
@@ -86,7 +86,7 @@ module _ (g : Setting) where
     started : w.committer ≡ Magic → (s : Scene) (m : Told) (a : Who) → WriteRecords w s m a (write_start w a)
     started h s m a = grind arith
 
-    -- of an attempt that has sent its publishing request, all are recorded
+    -- All files of an attempt that has sent its publishing request are recorded.
     sent_records : (x : Stand) → Late g opening x → Stands x.seen.scene x.told x.attempts x.driver → (a : Who)
         → x.told.publish_sent a ≡ true → AreRecorded w x.seen.scene x.told a []
     sent_records x l h a sent =
@@ -135,7 +135,7 @@ module _ (g : Setting) where
 
     -- ---- what is sent
 
-    -- an entry of the driver that changes no key below the job's magic directory
+    -- An entry of the driver that changes no key below the job's magic directory.
     free_stands : (x : Stand) → Late g opening x → Stands x.seen.scene x.told x.attempts x.driver
         → (op : Operation) (n : ℕ) (r : Request) (o : Outcome)
         → (bucket_of r ≡ w.dest.bucket → (k : List ℕ) → IsIn k (changed_keys r) → begins (magic_prefix w.dest.key w.job) k ≡ false)
@@ -198,7 +198,7 @@ module _ (g : Setting) where
               (old.covers u e a c q i);
         }
 
-    -- while its set-up goes on there is nothing yet
+    -- While the set-up goes on, there is nothing yet.
     setup_stands : (x : Stand) → Early g opening x → (op : Operation) → x.driver ≡ Some op → (s : Scene) (n : ℕ) (r : Request) (o : Outcome)
         → let z = driver_saw g k x op n r o in Stands s z.told z.attempts z.driver
     setup_stands x h op g s n r o = grind arith
@@ -245,7 +245,7 @@ module _ (g : Setting) where
 
     -- ---- what a set names
 
-    -- a record names it too, or it is gone
+    -- A record names the upload too, or the upload is gone.
     pub set_named : (x : Stand) → Late g opening x → Standing x → x.seen.scene.content.next ≤ 2 ^ 64 → (c : Committer) → w.committer ≡ c
         → (u : UploadRef) → NamedBySet w x.seen.scene u → ((p : List ℕ) × NamedAt c w x.seen.scene p u) ⊎ Dead w x.seen.scene u.upload
     set_named x l h few Magic magic u (t, low, bytes, stands, named) =

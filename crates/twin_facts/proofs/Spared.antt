@@ -1,4 +1,4 @@
--- What an abort or clean at a shared destination leaves where it ends Done.
+-- What an abort or clean at a shared destination leaves if it ends Done.
 use Rattle.basics.proofs.Members.{false_true, some_is}
 use Rattle.job_facts.proofs.EndedGone.{stays_gone}
 use Rattle.job_facts.specs.Foreign.{IsForeign}
@@ -47,7 +47,7 @@ module _ (g : Setting) (j : IsLegal g.script) (shared : g.shared ≡ true) (k : 
     pub at : Retried Sparing
     pub driver : u.driver ≡ Some (TheSparing at)
     pub leaving : Leaving w first u.seen.scene at.operation
-    -- ids are drawn on, few until its last entry, and what is gone stays gone
+    -- Ids are only drawn, few until its last entry, and what is gone stays gone.
     pub later : first.content.next ≤ u.seen.scene.content.next
     pub few : (at.operation ≡ sparing_start w.committer) ⊎ (first.content.next ≤ 2 ^ 64)
     pub dead : (id : ℕ) → Dead w first id → Dead w u.seen.scene id
@@ -63,7 +63,7 @@ module _ (g : Setting) (j : IsLegal g.script) (shared : g.shared ≡ true) (k : 
   late_of : (first : Scene) (u : Stand) → Spared first u → Late g opening u
   late_of first u x = late_now g k opening j is x.entries u x.run (ap is_set x.driver)
 
-  -- an entry of the driver's own
+  -- An entry of the abort or clean itself.
   going : (first : Scene) (u : Stand) (x : Spared first u) (q : Retried Sparing) (r : Request) (o : Outcome)
       → u.driver ≡ Some (TheSparing q) → sparing_asks w q.operation ≡ Some r → IsHonestOutcome o (answer u.seen.scene r)
       → Leaving w first (effect u.seen.scene r o) (step w.retries (sparing_after w) q o).operation

@@ -1,4 +1,4 @@
--- What one entry of a side leaves: of its picks, of what stands where files are shown, and of the marker.
+-- What one entry of a side changes: in its picks, at the paths where files are shown, and in the marker.
 use Rattle.basics.proofs.Members.{false_true, none_some, some_is, text_true, true_or_false}
 use Rattle.basics.specs.Members.{IsIn}
 use Rattle.job_facts.proofs.Agreeing.{AgreeBelow, Agrees, decided_so}
@@ -57,7 +57,7 @@ use Rattle.twin_facts.proofs.Progress.{nothing_under, picks_same, put_before, un
 use Rattle.twin_facts.specs.Sides.{Sends, attempt_saw, attempt_sends, driver_saw, driver_sends}
 use Rattle.twin_facts.specs.TwinLaws.{counted, is_replace}
 
--- the object at a path of a destination
+-- The object at a path of a destination.
 abbrev pub obj : Path → Content → List ℕ → Option Object
 obj d c q = object_at c d.bucket (below d.key q)
 
@@ -67,23 +67,23 @@ mark_at d c = object_at c d.bucket (success_key d.key)
 abbrev pub count : Setting → Stand → List ℕ → Option (List ℕ)
 count g x q = counted g.script x.seen.picks q
 
--- where a wanted file stands while the commit goes on
+-- The object at the path of a wanted file, while the commit goes on.
 abbrev pub FileAt : Setting → Stand → List ℕ → List ℕ → Option Object → Option Object → Commit → Type 0
 FileAt g x q b first now c = FileStands g.script q b first x.commit now x.told.ended c
 
 pub record Leaves (g : Setting) (x z : Stand) (e : Entry) : Type 0 where
-  -- the picks stay as they are, or were not decided
+  -- The picks stay as they are, or were not decided.
   pub picks : (z.seen.picks ≡ x.seen.picks) ⊎ (is_decided g.script x.seen.picks ≡ false)
   pub unbegun : z.seen.begun ≡ false → (x.seen.begun ≡ false) × (z.seen.picks ≡ x.seen.picks)
   pub shows : (q : List ℕ) → is_file_path q ≡ true → let c = x.seen.scene in let d = effect c e.request e.outcome in
       (obj g.script.dest d.content q ≡ obj g.script.dest c.content q)
       ⊎ ((b : List ℕ) × (count g x q ≡ Some b)
       × ((obj g.script.dest d.content q ≡ Some (whole_of b)) ⊎ (obj g.script.dest d.content q ≡ None)))
-  -- once the marker was put
+  -- Once the marker was put.
   pub put_still : x.seen.put_mark ≡ true → (z.seen.put_mark ≡ true)
       × ((q : List ℕ) → is_file_path q ≡ true → obj g.script.dest (effect x.seen.scene e.request e.outcome).content q ≡ obj g.script.dest
       x.seen.scene.content q)
-  -- where it is put only now, all wanted files stand
+  -- If the marker is put only now, all wanted files exist.
   pub put_now : x.seen.put_mark ≡ false → z.seen.put_mark ≡ true → (sets : Sets) × (n : ℕ) × (x.driver ≡ Some (TheCommit (Marking sets n)))
       × (z.seen.picks ≡ x.seen.picks) × (is_decided g.script x.seen.picks ≡ true)
       × ((q : List ℕ) → is_file_path q ≡ true → obj g.script.dest (effect x.seen.scene e.request e.outcome).content q ≡ obj g.script.dest
@@ -94,7 +94,7 @@ pub record Leaves (g : Setting) (x z : Stand) (e : Entry) : Type 0 where
       → ((u : Commit) → x.driver ≡ Some (TheCommit u) → wanted_at g.script x.seen.picks q ≡ Some b
       → FileAt g x q b first (obj g.script.dest x.seen.scene.content q) u)
       → FileAt g z q b first (obj g.script.dest (effect x.seen.scene e.request e.outcome).content q) c
-  -- a put of the marker by its driver that takes effect
+  -- A put of the marker by the side's driver that takes effect.
   pub marks : is_driver e.actor ≡ true → is_marking g.script e.request ≡ true → is_effective e.outcome ≡ true
       → (z.seen.put_mark ≡ true) × ((o : Object) × (mark_at g.script.dest (effect x.seen.scene e.request e.outcome).content ≡ Some o)
       × (o.bytes ≡ mark_text g.script z.seen.picks))
@@ -116,7 +116,7 @@ module _ (g : Setting) (j : IsLegal g.script) (shared : g.shared ≡ true) (k : 
   abbrev w : Script
   w = g.script
 
-  -- an entry of the driver that shows all as it was, and picks nothing
+  -- An entry of the driver that changes no object at a path where files are shown, and no pick.
   still_leaves : (x z : Stand) (n : ℕ) (r : Request) (o : Outcome) → is_marking w r ≡ false
       → (see w k x.seen (driver_entry n r o)).picks ≡ x.seen.picks
       → ((q : List ℕ) → is_file_path q ≡ true → obj w.dest (effect x.seen.scene r o).content q ≡ obj w.dest x.seen.scene.content q)
@@ -170,7 +170,7 @@ module _ (g : Setting) (j : IsLegal g.script) (shared : g.shared ≡ true) (k : 
     abbrev before : List ℕ → Option Object
     before q = obj w.dest s.scene.content q
 
-    -- until all sets are read nothing is decided
+    -- Until all sets are read, nothing is decided.
     early : is_fetching w c ≡ true → is_decided w s.picks ≡ false
     early h = grind (arith, is_fetching, undecided, Unread)
 
@@ -188,7 +188,7 @@ module _ (g : Setting) (j : IsLegal g.script) (shared : g.shared ≡ true) (k : 
           ]
         ]
 
-    -- at its marker it changes no file, and puts the marker
+    -- In its last stage the commit changes no file, and puts the marker.
     module _ (sets : Sets) (m : ℕ) (v : Marking sets m ≡ c) where
       is_mark : r ≡ PutObject w.dest.bucket (success_key w.dest.key) (mark_text w (picks_of sets)) None
       is_mark = sym (some_is (ap (commit_asks w) v ∙ asked))
@@ -229,12 +229,12 @@ module _ (g : Setting) (j : IsLegal g.script) (shared : g.shared ≡ true) (k : 
           text : mark_text w (picks_of sets) ≡ mark_text w u.picks
           text = same_mark w s.picks (picks_of sets) (λ t a. sym (agree t a)) ∙ ap (mark_text w) (sym mark_picks)
 
-    -- the stage, where the marker was put
+    -- The stage in which the marker is put.
     stage : (d : Commit) → d ≡ c → (is_mark_stage w d ≡ false) ⊎ ((sets : Sets) × (m : ℕ) × (Marking sets m ≡ c))
     stage (Marking sets m) v = inr (sets, m, v)
     stage _ v = inl refl
 
-    -- a wanted file goes on as the commit does
+    -- The object at the path of a wanted file goes on as the commit does.
     module _ (q b : List ℕ) (first : Option Object) (path : is_file_path q ≡ true) (wants : wanted_at w u.picks q ≡ Some b)
         (undone : is_decided w s.picks ≡ false → before q ≡ first)
         (old : (v : Commit) → x.driver ≡ Some (TheCommit v) → wanted_at w s.picks q ≡ Some b → FileAt g x q b first (before q) v) where
@@ -285,7 +285,7 @@ module _ (g : Setting) (j : IsLegal g.script) (shared : g.shared ≡ true) (k : 
       ];
     }
 
-  -- ---- all of them
+  -- ---- all entries
 
   driver_leaves : (x : Stand) → x.told.cleans_at ≡ k.clean → Late g opening x → (op : Operation) → x.driver ≡ Some op
       → At g opening (Some op) x.seen x.told → (n : ℕ) (r : Request) (o : Outcome) → asks g (who Driver) nothing_learnt op ≡ Some r
@@ -311,7 +311,7 @@ module _ (g : Setting) (j : IsLegal g.script) (shared : g.shared ≡ true) (k : 
       no_commit e = absurd cc
   driver_leaves x cleans l _ d y n r o asked timely few honest i never = absurd y
 
-  -- its set-up
+  -- An entry of its set-up.
   setup_leaves : (x : Stand) → Early g opening x → (op : Operation) → x.driver ≡ Some op → (n : ℕ) (r : Request) (o : Outcome)
       → asks g (who Driver) nothing_learnt op ≡ Some r → Leaves g x (driver_saw g k x op n r o) (driver_entry n r o)
   setup_leaves x e op d n r o asked = elim e.setup [

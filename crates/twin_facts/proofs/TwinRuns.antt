@@ -52,7 +52,8 @@ any_in k (x ∷ l) (inr i) = ap (λ b. text_eq k x || b) (any_in k l i) ∙ or-t
 touched : (w : Script) (r : Request) → Touches w.dest r → touches_mark w r ≡ true
 touched w r t = rw (text_true (bucket_of r) w.dest.bucket t.0, any_in (success_key w.dest.key) (changed_keys r) t.1) refl
 
--- an entry puts it by the side's own driver, or leaves it
+-- If the flag is set after an entry, the side's own driver put the marker with it, or the flag was set before and the entry leaves the
+-- marker.
 marks_of : (w : Script) (side : Side) (m : Bool) (t : TwinEntry) → marks_by w side m t ≡ true
     → ((is_effective t.entry.outcome ≡ true) × (is_side side t.side ≡ true) × (is_driver t.entry.actor ≡ true)
     × (is_marking w t.entry.request ≡ true)) ⊎ ((m ≡ true) ×
@@ -83,7 +84,7 @@ other_marks : (w : Script) (side other : Side) → is_side side other ≡ false 
 other_marks w side other differ m e n h = elim (marks_of w side m (record { side = other; entry = e; theirs = n }) h)
     [ inl x ↦ absurd (false_true differ x.1) | inr x ↦ x ]
 
--- it is none where none was before and the entry puts none
+-- If the flag was not set before and the entry does not put the side's marker, it is not set after it.
 unmarked : (w : Script) (side : Side) (m : Bool) (t : TwinEntry)
     → (is_side side t.side && (is_driver t.entry.actor && is_marking w t.entry.request)) ≡ false → m ≡ false
     → marks_by w side m t ≡ false
@@ -93,7 +94,7 @@ unmarked w side m t puts was = by (is_effective t.entry.outcome && touches_mark 
     by true = puts
     by false = was
 
--- ---- what each side sees, and drew
+-- ---- what each side reads and drew
 
 pub eyes_more : (side : Side) (es : List TwinEntry) (t : TwinEntry) → eyes side (es ++ t ∷ []) ≡ eyes side es ++ in_eyes side t ∷ []
 eyes_more side es t = map-append (in_eyes side) es (t ∷ [])
@@ -117,16 +118,16 @@ drew_more side s (x ∷ es) t id =
     ap (λ c. b || c) (drew_more side u es t id) ∙ sym (or_assoc b (drew_from side u es id)
     (is_side side t.side && drawn_by (scene_of u es) t.entry.request t.entry.outcome id))
 
--- ---- what holds of both
+-- ---- what holds of both sides
 
--- of two sides that read these entries and drew these uploads, where the store stands so and these markers are theirs
+-- Both sides read these entries and drew these uploads, over this store; each flag says whether the marker is that side's.
 pub record Both (g h : Setting) (k l : Times) (opening : Content) (fs gs : List Entry) (d e : Ids) (s : Scene) (one two : Bool)
     (x y : Stand) : Type 0 where
   pub pair : Pair g h k l opening fs gs d e x y
   pub scene : s ≡ x.seen.scene
   pub views : HasBucket opening g.script.dest.bucket → Views g h g.script.dest opening x.seen.scene.content x y one two
 
--- the same seen from the second side
+-- The same, with the sides swapped.
 swap : {g h : Setting} {k l : Times} {opening : Content} {fs gs : List Entry} {d e : Ids} {s : Scene} {one two : Bool} {x y : Stand}
     → AreTwins g.script h.script
     → Both g h k l opening fs gs d e s one two x y → Both h g l k opening gs fs e d s two one y x
@@ -176,7 +177,7 @@ module _ (g h : Setting) (m : MayBeTwins g.script h.script) (k l : Times) (openi
 
   module _ {fs gs : List Entry} {d e : Ids} {s : Scene} {one two : Bool} {x y : Stand} (a : Both g h k l opening fs gs d e s one two x y)
     where
-      -- the first side begins an operation, and sends
+      -- The first side begins an operation, and sends.
       begin_so : (b : Beginning) → MayBegin g x b → Both g h k l opening fs gs d e s one two (begin g x b) y
       begin_so b may = record {
         pair = paired_begin b may a.pair;
@@ -249,7 +250,7 @@ module _ (g h : Setting) (m : MayBeTwins g.script h.script) (k l : Times) (openi
   abbrev now : List TwinEntry → Scene
   now es = scene_of (nothing_seen opening).scene es
 
-  -- what is drawn
+  -- The uploads that a side drew with one more entry.
   pub drew_own : (side : Side) → is_side side side ≡ true → (es : List TwinEntry) (s : Scene) → scene_of (nothing_seen opening).scene es ≡ s
       → (e : Entry) (n : ℕ) → more (drew side opening es) s e.request e.outcome ≡ drew side opening
       (es ++ record { side = side; entry = e; theirs = n } ∷ [])
@@ -265,7 +266,7 @@ module _ (g h : Setting) (m : MayBeTwins g.script h.script) (k l : Times) (openi
       (λ b. drew side opening es id || (b && drawn_by (scene_of (nothing_seen opening).scene es) e.request e.outcome id)) differ ∙
       or-false (drew side opening es id)) i
 
-  -- one more entry, as each side reads it
+  -- One more entry, as each side reads it.
   all_more : (es : List TwinEntry) (t : TwinEntry) (d e : Ids) {x y : Stand} → d ≡ drew First opening (es ++ t ∷ [])
       → e ≡ drew Second opening (es ++ t ∷ [])
       → Both g h k l opening (eyes First es ++ in_eyes First t ∷ []) (eyes Second es ++ in_eyes Second t ∷ []) d e
@@ -304,7 +305,7 @@ module _ (g h : Setting) (m : MayBeTwins g.script h.script) (k l : Times) (openi
       (swap m.twins (all_so fs u v run)) e n (marks_by h.script Second (two fs) t) (marks_by g.script First (one fs) t) sends
       (own_marks h.script Second (two fs) e n) (other_marks g.script First Second refl (one fs) e n)))
 
-  -- ---- what is shown: where their bucket stood, and where it did not
+  -- ---- what readers see: with a bucket, and without one
 
   shown : (es : List TwinEntry) (x y : Stand) → TwinRun g h k l opening es x y → HasBucket opening g.script.dest.bucket
       → AreShown g h opening es x y
@@ -318,7 +319,7 @@ module _ (g h : Setting) (m : MayBeTwins g.script h.script) (k l : Times) (openi
         second = λ t. let v = views_marked other m.second t in record { picked = v.0; apart = v.1; files = v.2; mark = v.3 };
       }
 
-  -- it is not made, and no marker is put
+  -- The bucket was not made, and no marker was put.
   record Bare (es : List TwinEntry) (x : Stand) : Type 0 where
     pub none : IsBare x.seen.scene.content g.script.dest.bucket
     pub unmarked_first : one es ≡ false
@@ -393,7 +394,7 @@ module _ (g h : Setting) (m : MayBeTwins g.script h.script) (k l : Times) (openi
 -- ---- moments
 
 module _ (g h : Setting) (k l : Times) (opening : Content) where
-  -- a run comes so far
+  -- A run comes to this state.
   abbrev Reached : List TwinEntry → Type 0
   Reached es = (u v : Stand) × TwinRun g h k l opening es u v
 
@@ -421,7 +422,7 @@ module _ (g h : Setting) (k l : Times) (opening : Content) where
       with_one fs (record { side = Second; entry = e; theirs = n }) m (observed g k u n e) z few (moments fs u v run m)
       (second_sends fs u v z e n run sends)
 
--- ---- which side is the first
+-- ---- the names of the sides
 
 module _ (g h : Setting) (k l : Times) (opening : Content) where
   pub turned : (es : List TwinEntry) (x y : Stand) → TwinRun g h k l opening es x y → TwinRun h g l k opening (map turned_entry es) y x

@@ -1,4 +1,4 @@
--- What readers of a destination of two jobs are shown is kept by each step of either.
+-- Each step of either job keeps what readers of their destination may rely on.
 use Rattle.basics.proofs.Members.{false_true, none_or_some, none_some, some_is, true_or_false}
 use Rattle.basics.specs.Members.{IsIn}
 use Rattle.job_facts.proofs.FilePaths.{file_path}
@@ -38,26 +38,26 @@ use Rattle.twin_facts.specs.TwinLaws.{Gives, counted}
 
 -- ---- paths
 
--- what stands at a path is what stood in the opening; or the path is wanted, and it is the whole wanted file or nothing
+-- The object at a path is that of the opening; or the path is wanted, and there is the whole wanted file or none.
 abbrev pub One : Path → Content → Content → (List ℕ → Option (List ℕ)) → (List ℕ → Option (List ℕ)) → List ℕ → Type 0
 One d opening c mine others q = (obj d c q ≡ obj d opening q)
     ⊎ ((b : List ℕ) × ((mine q ≡ Some b) ⊎ (others q ≡ Some b)) × ((obj d c q ≡ Some (whole_of b)) ⊎ (obj d c q ≡ None)))
 
--- while its commit goes on its wanted files that are not the other's too stand as it says
+-- While its commit goes on, its wanted files that the other side is not bound to write are as the commit says.
 abbrev pub FilesAt : Setting → Path → Content → Content → Stand → (List ℕ → Option (List ℕ)) → Type 0
 FilesAt g d opening c x others = (p : Commit) → x.driver ≡ Some (TheCommit p) → (q b : List ℕ) → is_file_path q ≡ true
     → wanted_at g.script x.seen.picks q ≡ Some b → others q ≡ None → FileAt g x q b (obj d opening q) (obj d c q) p
 
--- of one side, at a destination, beside what counts of the other's
+-- What holds of one side at a destination, by what the other side is bound to write.
 pub record SideViews (g : Setting) (d : Path) (opening c : Content) (x : Stand) (others : List ℕ → Option (List ℕ)) (marked : Bool) : Type 0
   where
-    -- before its commit begins it has no picks
+    -- Before its commit begins it has no picks.
     pub unpicked : x.seen.begun ≡ false → (t : ℕ) → x.seen.picks t ≡ None
-    -- once it has put the marker all its files stand that are not the other's too
+    -- Once it has put the marker, all its files exist that the other side is not bound to write.
     pub stood : x.seen.put_mark ≡ true → (is_decided g.script x.seen.picks ≡ true)
         × ((q b : List ℕ) → is_file_path q ≡ true → count g x q ≡ Some b → others q ≡ None → obj d c q ≡ Some (whole_of b))
     pub files : FilesAt g d opening c x others
-    -- where the marker is its own it says what was wanted
+    -- If the marker is its own, the marker says what was wanted.
     pub says : marked ≡ true → (x.seen.put_mark ≡ true)
         × ((o : Object) × (mark_at d c ≡ Some o) × (o.bytes ≡ mark_text g.script x.seen.picks))
 
@@ -70,13 +70,13 @@ pub views_swap : {g h : Setting} {d : Path} {opening c : Content} {x y : Stand} 
     → Views g h d opening c x y first second → Views h g d opening c y x second first
 views_swap e = grind arith
 
--- what counts is decided, and wanted
+-- The bytes that a side is bound to write are decided and wanted.
 counted_is : (w : Script) (p : Picks) (q b : List ℕ) → counted w p q ≡ Some b → (is_decided w p ≡ true) × (wanted_at w p q ≡ Some b)
 counted_is w p q b h = grind arith
 
 -- ---- one entry of the first side
 
--- the request changes what stands at the marker's key
+-- The request changes the object at the marker's key.
 abbrev pub Touches : Path → Request → Type 0
 Touches d r = (bucket_of r ≡ d.bucket) × IsIn (success_key d.key) (changed_keys r)
 
@@ -94,7 +94,7 @@ module _ (g h : Setting) (j : IsLegal g.script) (opening : Content) (x y z : Sta
   abbrev u : Scene
   u = effect s e.request e.outcome
 
-  -- what was decided stays so
+  -- What was decided stays decided.
   still_picks : is_decided w x.seen.picks ≡ true → z.seen.picks ≡ x.seen.picks
   still_picks dec = elim l.picks [ inl same ↦ same | inr un ↦ absurd (false_true un dec) ]
 
@@ -119,13 +119,13 @@ module _ (g h : Setting) (j : IsLegal g.script) (opening : Content) (x y z : Sta
     ]
   ]
 
-  -- what is not wanted by the first side it leaves
+  -- The first side leaves each path that it does not want as it is.
   left_alone : (q : List ℕ) → is_file_path q ≡ true → count g z q ≡ None → obj d u.content q ≡ obj d s.content q
   left_alone q path none = elim (l.shows q path) [ inl same ↦ same | inr n ↦ absurd (none_some (not_counted q none) n.1) ]
 
   -- ---- the marker
 
-  -- what does not take effect, or does not touch it, leaves it
+  -- A request that does not take effect, or does not touch the marker, leaves it.
   mark_left : ((is_effective e.outcome ≡ true) → Touches d e.request → ⊥) → mark_at d u.content ≡ mark_at d s.content
   mark_left = grind (arith, mark_at, stranger_same)
 
@@ -166,7 +166,7 @@ module _ (g h : Setting) (j : IsLegal g.script) (opening : Content) (x y z : Sta
     ];
   }
 
-  -- ---- and the other's, which sent nothing
+  -- ---- the other side, which sent nothing
 
   other_now : (marked now : Bool) → (now ≡ true → (marked ≡ true) × ((is_effective e.outcome ≡ true) → Touches d e.request → ⊥))
       → (k : Times) (n : ℕ) → SideViews h d opening s.content y (count g x) marked
@@ -190,7 +190,7 @@ begins_views g h k start j is es d opening c x y first second b may run v = reco
   others = v.others;
 }
   where
-    -- a commit begins without picks
+    -- A commit begins without picks.
     unpicked : is_just_set x.driver ≡ true → (t : ℕ) → x.seen.picks t ≡ None
     unpicked just = (just_idle g k start j is x.driver x.seen x.told (late_now g k start j is es x run (just_set x.driver just)).driver
         just).unpicked
@@ -220,7 +220,7 @@ entry_views g h j opening x y z e l there k n first second now then said says v 
   others = other_now g h j opening x y z e l there second then says k n v.others;
 }
 
--- ---- what readers are shown
+-- ---- what readers see
 
 module _ {g h : Setting} {d : Path} {opening c : Content} {x y : Stand} {first second : Bool} (v : Views g h d opening c x y first second)
   where

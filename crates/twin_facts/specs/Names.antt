@@ -14,7 +14,7 @@ use Rattle.s3_types.specs.declared.request.Request.TheVariants.{CompleteUpload, 
 use Rattle.s3_types.specs.declared.request.Request.TheVariants.{GetObject, HeadObject, ListParts, PutObject, UploadPart}
 use Rattle.std.specs.Prelude.{Bool, List, None, Option, Some, false, true, ℕ, [], ◌∷◌, ◌≡◌, ◌⊎◌}
 
--- the keys that a request names; the prefix and the `after` of a listing name nothing
+-- The keys that a request names. The prefix of a listing and its start name nothing.
 abbrev pub named_keys : Request → List (List ℕ)
 named_keys (PutObject bucket key bytes header) = key ∷ []
 named_keys (GetObject bucket key) = key ∷ []
@@ -29,7 +29,7 @@ named_keys (AbortUpload bucket key id) = key ∷ []
 named_keys (ListParts bucket key id) = key ∷ []
 named_keys _ = []
 
--- the upload that it names
+-- The upload that a request names.
 abbrev pub named_upload : Request → Option ℕ
 named_upload (UploadPart bucket key id number bytes) = Some id
 named_upload (CompleteUpload bucket key id parts) = Some id
@@ -37,7 +37,7 @@ named_upload (AbortUpload bucket key id) = Some id
 named_upload (ListParts bucket key id) = Some id
 named_upload _ = None
 
--- the cluster's paths that it names
+-- The paths in the cluster that a request names.
 abbrev pub named_paths : Request → List (List ℕ)
 named_paths (ClusterPut path bytes) = path ∷ []
 named_paths (ClusterRename source target) = source ∷ target ∷ []
@@ -47,11 +47,12 @@ named_paths _ = []
 
 -- ---- what a job's requests may name
 
--- a key that is no job's magic directory's, or is below this job's
+-- The key is in no job's magic directory, or below the magic directory of this job.
 abbrev pub IsOwnKey : Script → List ℕ → Type 0
 IsOwnKey w k = (is_no_magic w k ≡ true) ⊎ (begins (magic_prefix w.dest.key w.job) k ≡ true)
 
--- each key is the job's own or nobody's, each upload is one that an attempt of the job knows, and each path of the cluster is the job's
+-- The request names only keys that are the job's own or nobody's, uploads that an attempt of the job knows, and the job's own paths in the
+-- cluster.
 pub record NamesOwn (w : Script) (drawn : Who → List Drawn) (r : Request) : Type 0 where
   pub keys : (k : List ℕ) → IsIn k (named_keys r) → IsOwnKey w k
   pub uploads : (id : ℕ) → named_upload r ≡ Some id → IsKnown drawn id
@@ -59,11 +60,12 @@ pub record NamesOwn (w : Script) (drawn : Who → List Drawn) (r : Request) : Ty
 
 -- ---- strangers
 
--- these uploads were drawn
+-- A set of upload ids.
 abbrev pub Ids : Type 0
 Ids = ℕ → Bool
 
--- it names no key below the job's magic directory, none of these uploads, and no path below the job's directory in the cluster
+-- In the job's bucket the request names no key below the job's magic directory and none of these uploads; and it names no path below the
+-- job's directory in the cluster.
 pub record IsStranger (w : Script) (drew : Ids) (r : Request) : Type 0 where
   pub keys : bucket_of r ≡ w.dest.bucket → (k : List ℕ) → IsIn k (named_keys r) → begins (magic_prefix w.dest.key w.job) k ≡ false
   pub uploads : bucket_of r ≡ w.dest.bucket → (id : ℕ) → named_upload r ≡ Some id → drew id ≡ false

@@ -17,7 +17,7 @@ use Rattle.s3_types.specs.declared.request.Actor.TheVariants.{Driver}
 use Rattle.s3_types.specs.declared.request.Request.{Request}
 use Rattle.std.specs.Prelude.{Some, ◌≡◌}
 
--- a request of an actor of the job while its facts hold
+-- A request that an actor of the job may send while the job's facts hold.
 pub data IsSentBy (g : Setting) (s : Seen) (m : Told) : Actor → Request → Type 0 where
   by_attempt : (a : Who) (op : Operation) (r : Request) → IsAttempt g.script a → Fits g.script g.minimum a m op
       → asks g a (known m a) op ≡ Some r → IsSentBy g s m (actor_of a) r
@@ -25,6 +25,6 @@ pub data IsSentBy (g : Setting) (s : Seen) (m : Told) : Actor → Request → Ty
   by_check : (c : Check) (r : Request) → check_asks g.script c ≡ Some r → IsSentBy g s m Driver r
   by_clean : (c : Sparing) (r : Request) → FitsSparing g.script m.drawn c → sparing_asks g.script c ≡ Some r → IsSentBy g s m Driver r
 
--- a request of its set-up, before
+-- A request that the driver's set-up may send, before the facts hold.
 abbrev pub SetsUpBy : Setting → Seen → Request → Type 0
 SetsUpBy g s r = (t : Setup) × SetsUp g.script s.scene.content t × (setup_asks g.script t ≡ Some r)

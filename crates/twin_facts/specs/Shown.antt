@@ -1,4 +1,4 @@
--- What one request of a job's driver changes of what stands where files are shown.
+-- What one request of a job's driver changes at the paths where files are shown.
 use Rattle.basics.specs.Members.{IsIn}
 use Rattle.job_facts.specs.Driver.{SweepsUnder}
 use Rattle.job_facts.specs.Facts.{Hold, IsAttempt}
@@ -30,24 +30,24 @@ use Rattle.std.specs.Prelude.{List, None, Option, Some, false, length, true, ℕ
 use Rattle.store_frame.specs.Frame.{changed_keys}
 use Rattle.twin_facts.specs.Requests.{SetsUpBy}
 
--- It stays as it is. Or the job's picks are decided, and it is the whole wanted file or nothing where one is wanted, or nothing where the
--- mode does not keep what was there.
+-- How the object at a path may change. It stays; or the job's picks are decided, and it becomes the whole wanted file, or is deleted if a
+-- file is wanted there or the mode does not keep the old one.
 abbrev pub Changed : Script → Picks → List ℕ → Option Object → Option Object → Type 0
 Changed w picks q old now = (now ≡ old) ⊎ ((is_decided w picks ≡ true)
     × (((b : List ℕ) × (wanted_at w picks q ≡ Some b) × ((now ≡ Some (whole_of b)) ⊎ (now ≡ None)))
     ⊎ ((now ≡ None) × (keeps_of w picks q ≡ false))))
 
--- the keys that a request changes are those of wanted files
+-- The request changes only keys of wanted files.
 abbrev pub OfWanted : Script → Picks → Request → Type 0
 OfWanted w picks r = (k : List ℕ) → IsIn k (changed_keys r) → (q : List ℕ) × (b : List ℕ) × (k ≡ below w.dest.key q)
     × (wanted_at w picks q ≡ Some b)
 
--- the picks of the first n tasks are those of the sets
+-- The picks of the first n tasks are those of the sets.
 abbrev pub PickedBy : Picks → Sets → ℕ → Type 0
 PickedBy picks sets n = (t : ℕ) → t < n → picks t ≡ picks_of sets t
 
--- the picks are those of the sets that the driver holds; what a replace mode lists is below a prefix that it empties; and a revert deletes
--- only wanted files
+-- The picks are those of the sets that the driver has read. A replace mode lists only below a prefix that it empties, and a revert deletes
+-- only wanted files.
 abbrev pub IsPickedSo : Script → Picks → Commit → Type 0
 IsPickedSo w picks (Fetching sets n) = PickedBy picks sets (length sets)
 IsPickedSo w picks (Replacing sets p ps s n) = PickedBy picks sets w.tasks × IsIn p (replaced w.committer w.mode w (picks_of sets))
@@ -57,19 +57,20 @@ IsPickedSo w picks (Marking sets n) = PickedBy picks sets w.tasks
 IsPickedSo w picks (Reverting r rs n) = (is_decided w picks ≡ true) × ((y : Request) → IsIn y (r ∷ rs) → OfWanted w picks y)
 IsPickedSo w picks (CommitOver end) = is_untouched end ≡ false → is_decided w picks ≡ true
 
--- The view law of one request of a job's commit, for every committer and mode, whatever becomes of it: at each path where files are shown.
+-- One request of a job's commit, for every committer and mode and with any outcome, changes the object at a path where files are shown only
+-- so.
 abbrev pub CommitShows : Type 0
 CommitShows = (g : Setting) → IsLegal g.script → (s : Seen) (m : Told) (c : Commit) → Commits g.script g.minimum s m c
     → IsPickedSo g.script s.picks c → (r : Request) → commit_asks g.script c ≡ Some r → (o : Outcome) (q : List ℕ) → is_file_path q ≡ true
     → Changed g.script s.picks q (at_key g.script s.scene.content (below g.script.dest.key q))
     (at_key g.script (effect s.scene r o).content (below g.script.dest.key q))
 
--- what stands at each path where files are shown stays
+-- The request with this outcome changes nothing at a path where files are shown.
 abbrev pub Stays : Script → Scene → Request → Outcome → Type 0
 Stays w s r o = (q : List ℕ) → is_file_path q ≡ true
     → at_key w (effect s r o).content (below w.dest.key q) ≡ at_key w s.content (below w.dest.key q)
 
--- No other request of the job changes it.
+-- No other request of the job changes anything at a path where files are shown.
 pub record OthersShow : Type 0 where
   pub setup : (g : Setting) → IsLegal g.script → (s : Seen) (r : Request) → SetsUpBy g s r → (o : Outcome) → Stays g.script s.scene r o
   pub attempts : (g : Setting) → IsLegal g.script → (s : Seen) (m : Told) → Hold g.script g.minimum s m → (a : Who) → IsAttempt g.script a

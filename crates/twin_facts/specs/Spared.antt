@@ -29,30 +29,31 @@ use Rattle.std.specs.FinMap as fin
 use Rattle.pending_json.specs.Reading as reading
 use Rattle.job_model.specs.declared.ends.CleanEnd.TheVariants as ends
 
--- what stands at a place below the job's directory names the upload: a record of the magic committer, a set or temporary file of the others
+-- A file at a place in the job's directory names the upload: a record of the magic committer, or a set or temporary file of a staging
+-- committer.
 abbrev pub NamedAt : Committer → Script → Scene → List ℕ → UploadRef → Type 0
 NamedAt Magic w s k u = (x : Object) × (begins (magic_prefix w.dest.key w.job) k ≡ true) × (is_record k ≡ true)
     × (at_key w s.content k ≡ Some x) × IsIn u (record_names (reading.pending_of x.bytes))
 NamedAt _ w s p u = (bytes : List ℕ) × (begins (cluster_prefix w.job) p ≡ true) × (fin.get s.files p ≡ Some bytes)
     × IsIn u (set_names (reading.set_of bytes))
 
--- the set that stands for a task, where the committer keeps it, names the upload
+-- The set of a task, at its own place, names the upload.
 abbrev pub NamedBySet : Script → Scene → UploadRef → Type 0
 NamedBySet w s u = (t : ℕ) × (t < w.tasks) × (bytes : List ℕ) × (sets_at w s t ≡ Some bytes) × IsIn u (set_names (reading.set_of bytes))
 
--- no upload lives that was named then, and nothing stands in the job's directory
+-- No upload lives that was named in the first scene, and nothing exists in the job's directory.
 pub record SparingLeaves (w : Script) (first s : Scene) : Type 0 where
   pub uploads : (p : List ℕ) (u : UploadRef) → NamedAt w.committer w first p u → at_id w s.content u.upload ≡ None
   pub sets : (u : UploadRef) → NamedBySet w first u → at_id w s.content u.upload ≡ None
   pub keys : is_magic w.committer ≡ true → NoMagicKey w s.content
   pub files : is_staging w.committer ≡ true → NoClusterFile w s
 
--- so it is in every run of one job whose destination others share, among strangers
+-- The property holds of every run of one job that shares its destination, among strangers.
 abbrev pub InEachShared : ((g : Setting) (k : Times) (opening : Content) (es : List Entry) (x : Stand) → Type 0) → Type 0
 InEachShared P = (g : Setting) → IsLegal g.script → g.shared ≡ true → (k : Times) (opening : Content) → IsOpening g opening
     → (es : List Entry) (x : Stand) → Runs g k opening es x → P g k opening es x
 
--- A run goes on, in which of the job only the driver sends, and begins nothing else.
+-- The run goes on, and of the job only the driver sends, for the abort or clean that it is running.
 pub data SparesOn (g : Setting) (k : Times) (x : Stand) : Stand → Type 0 where
   spares_begin : SparesOn g k x x
   it_begins : (u : Stand) (b : Beginning) → SparesOn g k x u → MayBegin g u b → begun_driver g u b ≡ u.driver → SparesOn g k x (begin g u b)
@@ -61,7 +62,7 @@ pub data SparesOn (g : Setting) (k : Times) (x : Stand) : Stand → Type 0 where
   other_sends : (u : Stand) (n : ℕ) (r : Request) (o : Outcome) → SparesOn g k x u → IsForeign g.script u.told.drawn r
       → SparesOn g k x (saw g k u (strange_entry n r o))
 
--- an abort or clean that ends Done, with no entry of an attempt of its job since it began, whatever others send
+-- If an abort or clean ends Done and no attempt of its job has sent since it began, it leaves this, whatever others send.
 abbrev pub SparingsLeave : Type 0
 SparingsLeave = InEachShared (λ g k opening es x. is_set x.driver ≡ true
     → (u : Stand) → SparesOn g k (begin g x BeginClean) u → (t : Retried Sparing) → u.driver ≡ Some (TheSparing t)

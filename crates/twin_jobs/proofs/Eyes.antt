@@ -1,4 +1,4 @@
--- The journal of both, as each side reads it.
+-- The joint journal, as each side reads it.
 use Rattle.job_facts.specs.Foreign.{IsForeign}
 use Rattle.job_model.specs.Attempts.{Who}
 use Rattle.job_model.specs.JobScript.{Script}
@@ -21,7 +21,7 @@ use Rattle.job_side.specs.Beside as beside
 use Rattle.twin_facts.specs.Sides as two
 use Rattle.twin_facts.specs.Joined as joined
 
--- the sending changes the scene alike in whose eyes it may be
+-- The scene after the entries is the same, whichever side reads them.
 pub after_eyes : (mine : ℕ → Bool) (s : Scene) (es : List Entry) → after_all s (in_eyes mine es) ≡ after_all s es
 after_eyes mine s [] = refl
 after_eyes mine s (e ∷ es) = after_eyes mine (effect s e.request e.outcome) es
@@ -31,7 +31,7 @@ own_on n [] [] h g = tt
 own_on n [] (f ∷ fs) h g = (g.0.1, own_on n [] fs tt g.1)
 own_on n (e ∷ es) fs h g = (h.0, own_on n es fs h.1 g)
 
--- each is of a side by its event
+-- Each entry is of one side by its event.
 abbrev pub AreApart : (ℕ → Bool) → (ℕ → Bool) → List Entry → Type 0
 AreApart mine theirs = AllByRecursion (λ e. theirs e.event ≡ not (mine e.event))
 
@@ -81,7 +81,7 @@ module _ (mine theirs : ℕ → Bool) where
     by_first n own es h.1,
   )
 
-  -- what is foreign to the second is so in the run's own numbers
+  -- What is foreign to the second side is foreign to it under the run's own event numbers too.
   pub foreign_by : (w : Script) (drawn : Who → List Drawn) (n : ℕ) (s : Scene) (es : List Entry) → AreOf n es
       → joined.AreForeign w drawn s (both_of mine theirs es) → beside.AreForeign w drawn n s es
   foreign_by w drawn n s [] h f = tt

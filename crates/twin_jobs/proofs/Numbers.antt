@@ -1,4 +1,4 @@
--- The numbers of the events of each side, and how many there are.
+-- The numbers of the events of each side, and how many events each side has.
 use Rattle.basics.proofs.Members.{nat_false, nat_true, none_some, some_is}
 use Rattle.job_side.proofs.Firsts.{take_more}
 use Rattle.job_side.proofs.Places.{there}
@@ -16,13 +16,13 @@ use Rattle.twin_script.specs.declared.turns.Side.{Side}
 use Rattle.twin_script.specs.declared.turns.Side.TheVariants.{First, Second}
 use Rattle.twin_script.specs.declared.turns.TwinTurn.{TwinTurn}
 
--- ---- whose an event is
+-- ---- the side of an event
 
--- the numbers of others, from one of them on
+-- The numbers that are not a side's, from one event on.
 abbrev from : Bool → ℕ → List ℕ → List ℕ
 from b m ns = cond b ns (m ∷ ns)
 
--- a number below is none of them
+-- A lower number is none of them.
 none_below : (side : Side) (m n : ℕ) (sides : List Side) → n < m → list_any (λ k. nat_eq k n) (others_in side m sides) ≡ false
 none_below side m n [] below = refl
 none_below side m n (s ∷ sides) below =
@@ -32,7 +32,7 @@ none_below side m n (s ∷ sides) below =
       | false ↦ rw (nat_false m n (λ e. omega (arith, e, below))) rest
     ]
 
--- the event at a place is another's, or is not
+-- The event at a place is one of them exactly if it is not the side's.
 is_among : (side s : Side) (m i : ℕ) (sides : List Side) → slice_get sides i ≡ Some s
     → list_any (λ k. nat_eq k (m + i)) (others_in side m sides) ≡ not (is_same side s)
 is_among side s m i [] e = absurd (none_some refl e)
@@ -47,7 +47,7 @@ is_among side s m (suc i) (x ∷ sides) e =
     elim (is_same side x) as (λ b. list_any (λ k. nat_eq k (m + suc i)) (from b m (others_in side (m + 1) sides)) ≡ not (is_same side s))
     [ true ↦ rest | false ↦ rw (nat_false m (m + suc i) (λ q. omega (arith, q))) rest ]
 
--- the event is the side's where the order says so
+-- The event is the side's exactly if the order says so.
 pub mine_at : (side s : Side) (i : ℕ) (sides : List Side) → slice_get sides i ≡ Some s → mine sides side (i + 1) ≡ is_same side s
 mine_at side s i sides e =
     let over : 1 + i ≡ i + 1 = omega arith in
@@ -64,7 +64,7 @@ pub same_self : (side : Side) → is_same side side ≡ true
 same_self First = refl
 same_self Second = refl
 
--- an event is one side's or the other's
+-- Each event is one side's or the other's.
 pub opposite : (side : Side) (n : ℕ) (sides : List Side) → 1 ≤ n → n ≤ length sides → mine sides (other_of side) n ≡ not (mine sides side n)
 opposite side zero sides some few = absurd (omega (arith, some))
 opposite side (suc i) sides some few =
@@ -73,9 +73,9 @@ opposite side (suc i) sides some few =
     subst (λ n. mine sides (other_of side) n ≡ not (mine sides side n)) over
     (mine_at (other_of side) h.0 i sides h.1 ∙ same_other side h.0 ∙ ap not (sym (mine_at side h.0 i sides h.1)))
 
--- ---- how many
+-- ---- how many events
 
--- one more, where it is so
+-- One more event, if the flag says so.
 abbrev more : Bool → ℕ → ℕ
 more b n = cond b (n + 1) n
 
@@ -89,7 +89,7 @@ events_more side s (x ∷ sides) = ap (more (is_same side x)) (events_more side 
     by false true = refl
     by _ false = refl
 
--- those up to a number are those of the front
+-- The number of a side's events up to n is that of the first n events of the order.
 pub number_front : (side : Side) (n : ℕ) (sides : List Side) → n ≤ length sides
     → number_in (mine sides side) n ≡ events_of side (take n sides)
 number_front side zero sides few = refl
@@ -110,7 +110,7 @@ front_few side (suc n) (s ∷ sides) =
     elim (is_same side s) as (λ b. more b (events_of side (take n sides)) ≤ more b (events_of side sides))
     [ true ↦ omega (arith, h) | false ↦ h ]
 
--- where the side's turn is next there are more of its events than were played
+-- If the next event is the side's, the side has more events than were played.
 pub more_left : (side : Side) (n : ℕ) (sides : List Side) → slice_get sides n ≡ Some side
     → number_in (mine sides side) n < events_of side sides
 more_left side n sides e =
@@ -120,7 +120,7 @@ more_left side n sides e =
     (same_self side) in
     omega (arith, next, front_few side (suc n) sides, number_front side n sides (omega (arith, inside)))
 
--- each of the first events is one side's or the other's
+-- The first n events are those of the one side and of the other together.
 pub all_numbers : (n : ℕ) (sides : List Side) → n ≤ length sides → number_in (mine sides First) n + number_in (mine sides Second) n ≡ n
 all_numbers zero sides few = refl
 all_numbers (suc n) sides few = by (mine sides First (suc n)) (mine sides Second (suc n)) (opposite First (suc n) sides (omega arith) few)
@@ -148,7 +148,7 @@ events_replicate side s (suc n) =
     ap (more (is_same side s)) (events_replicate side s n) ∙ elim (is_same side s) as (λ b. more b (cond b n 0) ≡ cond b (suc n) 0)
     [ true ↦ omega arith | false ↦ refl ]
 
--- how many events a turn asks of a side
+-- How many events of a side one line of the order asks for.
 abbrev pub count_of : Side → TwinTurn → ℕ
 count_of First = first_count
 count_of Second = second_count

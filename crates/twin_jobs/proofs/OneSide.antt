@@ -1,4 +1,4 @@
--- What a side that rests says of its job's run, and what another's event leaves of it.
+-- What a side between its events says of its job's run, and what an event of the other side leaves of it.
 use Rattle.job_model.specs.Attempts.{Who, actor_of}
 use Rattle.job_model.specs.JobScript.{Script}
 use Rattle.job_model.specs.Known.{Drawn, Known}
@@ -45,9 +45,9 @@ use Rattle.twin_facts.specs.Sides as two
 use Rattle.twin_facts.specs.Joined as joined
 use Rattle.twin_facts.proofs.Joining as joining
 
--- ---- what all share
+-- ---- what both share
 
--- a job and another are so in the other order
+-- Two scripts that may share a destination may do so in the other order.
 pub twins_turned : (w v : Script) → MayBeTwins w v → MayBeTwins v w
 twins_turned w v m = record {
   first = m.second;
@@ -58,7 +58,7 @@ twins_turned w v m = record {
   keeps_second = m.keeps_first;
 }
 
--- entries of events that were played are of one side or the other
+-- Each entry of an event that was played is of one side.
 pub apart : (name : Side) (sides : List Side) (n : ℕ) (es : List Entry) → n ≤ length sides → AllByRecursion (IsAmong n) es
     → AreApart (mine sides name) (mine sides (other_of name)) es
 apart name sides n [] few h = tt
@@ -70,7 +70,7 @@ among_more n [] [] h g = tt
 among_more n [] (f ∷ fs) h g = ((omega (arith, g.0.0), omega (arith, g.0.0)), among_more n [] fs tt g.1)
 among_more n (e ∷ es) fs h g = ((h.0.0, omega (arith, h.0.1)), among_more n es fs h.1 g)
 
--- what is shared, once an event was played
+-- What both sides share still holds after an event was played.
 pub shared_more : (sides : List Side) (name : Side) (s t : Shared) (part : List Entry) → RestsShared sides s
     → slice_get sides s.events ≡ Some name → t.events ≡ s.events + 1 → t.journal.entries ≡ s.journal.entries ++ part
     → AreOf (s.events + 1) part → RestsShared sides t
@@ -84,7 +84,7 @@ shared_more sides name s t part r turn events more are = record {
 
 module _ {W : Type 0} (wants : W → Option Request) (is_of : Setting → Actor → W → Type 0) (running : Known → W → Running)
     (picks_of : W → Option (List Pick)) where
-  -- the store is as the whole journal leaves it
+  -- The store is as the whole journal leaves it.
   pub plain_scene : (b : Body W) → Quiet wants is_of running picks_of b
       → b.shared.store.scene ≡ after_all (store.opening b.shared.opening) b.shared.journal.entries
   plain_scene b q =
@@ -93,7 +93,7 @@ module _ {W : Type 0} (wants : W → Option Request) (is_of : Setting → Actor 
 
   -- ---- a side as a run of its job
 
-  -- the run of a side's job, as it reads the journal
+  -- The run of a side's job, as the side reads the journal.
   pub record SideRun (sides : List Side) (name : Side) (s : body.Side W) (shared : Shared) : Type 0 where
     pub stand : Stand
     pub runs : Runs (setting s.script shared.opening) (times s.script s.ends.items) shared.opening
@@ -101,7 +101,7 @@ module _ {W : Type 0} (wants : W → Option Request) (is_of : Setting → Actor 
     pub scene : shared.store.scene ≡ stand.seen.scene
     pub drawn : ◌≡◌ {A = Who → List Drawn} (λ a. (knows_of (over s shared) (actor_of a)).drawn) stand.told.drawn
 
-  -- in the words of a run
+  -- A property of the play, said of the body.
   pub in_words : (P : Setting → List Entry → List EventEnd → Type 0) (sides : List Side) (name : Side) (s : body.Side W) (shared : Shared)
       (r : RestsOne wants is_of running picks_of sides name s shared)
       → P (setting_of (over s shared)) r.quiet.holds.play.journal r.quiet.holds.play.ends
@@ -132,7 +132,7 @@ module _ {W : Type 0} (wants : W → Option Request) (is_of : Setting → Actor 
         drawn = λ i a. ((ap (λ es. knows s.script (who (actor_of a)) (by_actor (actor_of a) es)) q.holds.journal ∙ run.knows a) i).drawn;
       }
 
-  -- ---- both as a run of two
+  -- ---- both sides as one run of two jobs
 
   opens_both : (w v : Script) (c : Content) → IsOpening (setting w c) c → IsTwinOpening (setting w c) (setting v c) c
   opens_both w v c o = record { shared_first = refl; shared_second = refl; first = refl; second = refl; fresh = o.fresh }
@@ -169,9 +169,9 @@ module _ {W : Type 0} (wants : W → Option Request) (is_of : Setting → Actor 
         (subst (λ l. Runs h (times t.script t.ends.items) shared.opening l b.stand)
         (sym (second_eyes own theirs es (apart name sides shared.events es r.few r.among))) b.runs)
 
-    -- ---- another's event
+    -- ---- an event of the other side
 
-    -- what one side sent in its event is foreign to the other
+    -- What one side sent in its event is foreign to the other side.
     pub foreign_to : (s s1 t : body.Side W) (old new : Shared) (part : List Entry) → MayBeTwins s1.script t.script → RestsShared sides new
         → RestsShared sides old → new.opening ≡ old.opening → new.journal.entries ≡ old.journal.entries ++ part
         → AreOf (old.events + 1) part → mine sides name (old.events + 1) ≡ true
@@ -199,7 +199,7 @@ module _ {W : Type 0} (wants : W → Option Request) (is_of : Setting → Actor 
         (subst (λ (c : Scene). AreForeign t.script b.stand.told.drawn (old.events + 1) c part) (sym b.scene)
         (foreign_by own theirs t.script b.stand.told.drawn (old.events + 1) b.stand.seen.scene part are f))
 
-    -- so what the other keeps between its events stays
+    -- So what the other side keeps between its events stays.
     pub stays_beside : (s s1 t : body.Side W) (old new : Shared) (part : List Entry) → MayBeTwins s1.script t.script → RestsShared sides new
         → RestsShared sides old → new.opening ≡ old.opening → new.events ≡ old.events + 1
         → new.journal.entries ≡ old.journal.entries ++ part → AreOf (old.events + 1) part → slice_get sides old.events ≡ Some name

@@ -34,9 +34,9 @@ module _ {W : Type 0} (wants : W → Option Request) (is_of : Setting → Actor 
   abbrev Both : List Side → body.Side W → body.Side W → Shared → Type 0
   Both = RestsBoth wants is_of running picks_of
 
-  -- ---- two sides, of which one is in hand
+  -- ---- the moving side and the other one
 
-  -- the one in hand rests, and the other
+  -- Both sides rest: the moving one and the other one.
   record Split (sides : List Side) (m : Side) (s t : body.Side W) (shared : Shared) : Type 0 where
     here : One sides m s shared
     there : One sides (other_of m) t shared
@@ -60,14 +60,14 @@ module _ {W : Type 0} (wants : W → Option Request) (is_of : Setting → Actor 
 
   module _ (sides : List Side) (m : Side) (s t : body.Side W) (old : Shared) (r : Split sides m s t old)
       (turn : slice_get sides old.events ≡ Some m) where
-    -- the event is the side's own, and can be counted
+    -- The event is the side's own, and its number fits.
     its_turn : IsTurn (over s old)
     its_turn = record {
       mine = ap (λ os. is_mine os (old.events + 1)) r.here.others ∙ mine_at m m old.events sides turn ∙ same_self m;
       few = omega (arith, slice_get_within sides old.events m turn, r.common.short);
     }
 
-    -- its script has one more
+    -- The side's script has one more event.
     has_event : IsSome (slice_get s.script.events (length s.ends.items))
     has_event =
         let played : number_in (mine sides m) old.events ≡ length s.ends.items = ap (λ os. number_in (is_mine os) old.events)
@@ -75,7 +75,7 @@ module _ {W : Type 0} (wants : W → Option Request) (is_of : Setting → Actor 
         ap is_some (there s.script.events (length s.ends.items) (omega (arith, more_left m old.events sides turn, r.here.enough, played))).1
 
     module _ (s1 : body.Side W) (new : Shared) (q : Quiet wants is_of running picks_of (over s1 new)) where
-      -- once it was played
+      -- After the event was played.
       has_played : Grown (over s old) (over s1 new) → Split sides m s1 t new
       has_played g =
           let here : One sides m s1 new =
@@ -100,7 +100,7 @@ module _ {W : Type 0} (wants : W → Option Request) (is_of : Setting → Actor 
             fates = λ n. g.stays.fates n ∙ r.fates n ∙ ap (λ (w : Script). fate_at w.fates n) (sym (same_first m s s1 t g.stays.script));
           }
 
-      -- once it was not
+      -- If memory ran out before the event.
       is_before : IsAsBefore (over s old) (over s1 new) → Split sides m s1 t new
       is_before h = record {
         here = record {
@@ -119,7 +119,7 @@ module _ {W : Type 0} (wants : W → Option Request) (is_of : Setting → Actor 
 
   -- ---- a pair
 
-  -- the pair with another side in hand
+  -- The pair with another side as the moving one.
   rests_turned : (side : Side) (p q : Pair W) → IsTurnedTo side p q → Rests wants is_of running picks_of p
       → Rests wants is_of running picks_of q
   rests_turned side p q t r = rw (t.sides, t.first, t.second, t.shared) r
@@ -143,7 +143,7 @@ module _ {W : Type 0} (wants : W → Option Request) (is_of : Setting → Actor 
   this_in First p q t = t.first
   this_in Second p q t = t.second
 
-  -- the pair p turned to is q, and its body became c
+  -- The pair p, turned to this side, is q, and then its body became c.
   module _ (side : Side) (p q : Pair W) (t : IsTurnedTo side p q) (c : Body W) where
     abbrev then : Pair W
     then = record { body = c; other = q.other; moving = q.moving; sides = q.sides }
@@ -195,7 +195,7 @@ module _ {W : Type 0} (wants : W → Option Request) (is_of : Setting → Actor 
     pub pair_quiet : Quiet wants is_of running picks_of q.body
     pair_quiet = rests_now.here.quiet
 
-    -- what playing leaves
+    -- What playing leaves.
     pub pair_plays : {T E : Type 0} (result : Result T E) (c : Body W) → Quiet wants is_of running picks_of c → OnOk result (Grown q.body c)
         → OnErr result (IsAsBefore q.body c)
         → (let then : Pair W = record { body = c; other = q.other; moving = q.moving; sides = q.sides } in record {

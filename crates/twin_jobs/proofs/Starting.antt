@@ -30,7 +30,7 @@ use Rattle.twin_facts.specs.TwinLaws as laws
 
 -- ---- an order
 
--- it asks for no more events than the scripts have
+-- The order asks for no more events than the scripts have.
 pub few_asked : (t : Twins) → AreTwins t → IsLegal t.first → IsLegal t.second → length (sides_in t.order) + 1 < 2 ^ 32
 few_asked t a first second =
     omega (
@@ -79,7 +79,7 @@ module _ {W : Type 0} (wants : W → Option Request) (is_of : Setting → Actor 
       f.first.hands ∙ f.first.picks in
       λ i. record { script = f.script i; picks = none i; ends = f.first.ends i }
 
-  -- a pair of which nothing has happened
+  -- A pair of which nothing has happened.
   module _ (t : Twins) (a : AreTwins t) (c : Content) (low : c.next ≤ 2 ^ 62) (below : AreBelow c.buckets c.next) (shared : Shared)
       (h : IsFirstShared t.first shared) (opening : shared.opening ≡ c) (sides : List Side) (are : sides ≡ sides_in t.order) (p : Pair W)
       (paired : IsPaired t.first t.second shared sides p) where

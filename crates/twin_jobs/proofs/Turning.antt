@@ -1,4 +1,4 @@
--- What callers see of a pair, and of its turns.
+-- What callers see of a pair and of its turns.
 use Rattle.basics.proofs.Members.{none_some}
 use Rattle.job_model.specs.Known.{Known}
 use Rattle.job_model.specs.declared.ends.Pick.{Pick}
@@ -28,7 +28,7 @@ use Rattle.twin_script.specs.declared.turns.Side.{Side}
 use Rattle.twin_script.specs.declared.turns.Side.TheVariants.{First, Second}
 use Rattle.job_side.specs.declared.body.Side as body
 
--- entries of an event, by its number
+-- The entries of an event all have its number.
 numbered : (n m : ℕ) (es : List Entry) → n ≡ m → AreOf n es → AllByRecursion (λ e. e.event ≡ m) es
 numbered n m [] same h = tt
 numbered n m (e ∷ es) same h = (h.0.0 ∙ same, numbered n m es same h.1)
@@ -37,7 +37,7 @@ none_past : {X : Type 0} (xs : List X) (n : ℕ) → slice_get xs n ≡ None →
 none_past xs n e = elim (cases_lt n (length xs)) [ inl lt ↦ absurd (none_some e (there xs n lt).1) | inr le ↦ le ]
 
 module _ {W : Type 0} (picks_of : W → Option (List Pick)) where
-  -- what callers see of a pair
+  -- What callers see of a pair.
   abbrev pub seen : Pair W → Bool → Run
   seen p stuck = run_of picks_of p.sides.items (side_in First p) (side_in Second p) p.body.shared stuck
 
@@ -45,7 +45,7 @@ module _ {W : Type 0} (picks_of : W → Option (List Pick)) where
   job_side p stuck First = refl
   job_side p stuck Second = refl
 
-  -- ---- for want of memory nothing is another
+  -- ---- an event before which memory ran out changes nothing
 
   job_before : (s t : body.Side W) (old new : Shared) → IsAsBefore (over s old) (over t new) → job_in picks_of t ≡ job_in picks_of s
   job_before s t old new h = λ i. record {
@@ -119,12 +119,12 @@ module _ {W : Type 0} (picks_of : W → Option (List Pick)) where
             h.grown.stays,
           )
 
-    -- ---- what is in hand
+    -- ---- the hands
 
     hands_of : {b : Body W} → Quiet wants is_of running picks_of b → 0 < length b.side.hands.items
     hands_of {b = b} q = omega (arith, q.holds.places)
 
-    -- ---- all of it
+    -- ---- all together
 
     pub pair_keeps : HasPicks running picks_of → RunsAreKeptShared → (p : Pair W) (stuck : Bool) → Rests wants is_of running picks_of p
         → Keeps (seen p stuck)
@@ -141,17 +141,17 @@ module _ {W : Type 0} (picks_of : W → Option (List Pick)) where
     held_hands sides First b o r = (hands_of r.first.quiet, hands_of r.second.quiet)
     held_hands sides Second b o r = (hands_of r.second.quiet, hands_of r.first.quiet)
 
-    -- who is in hand and who is not have hands
+    -- Both sides have hands.
     pub pair_hands : (p : Pair W) → Rests wants is_of running picks_of p → (0 < length p.body.side.hands.items)
         × (0 < length p.other.hands.items)
     pair_hands p r = held_hands p.sides.items p.moving p.body p.other r
 
-    -- the order is used up where no event is next
+    -- If no event is next, the order has no more events.
     pub used_up : (p : Pair W) (stuck : Bool) → Rests wants is_of running picks_of p
         → slice_get (seen p stuck).sides (played (seen p stuck)) ≡ None → played (seen p stuck) ≡ length (seen p stuck).sides
     used_up p stuck r none = omega (arith, none_past p.sides.items (played (seen p stuck)) none, r.common.few, events_are p stuck r)
 
-    -- ---- a side, as callers see it
+    -- ---- one side, as callers see it
 
     side_quiet : (p : Pair W) (side : Side) → Rests wants is_of running picks_of p
         → Quiet wants is_of running picks_of (over (side_in side p) p.body.shared)

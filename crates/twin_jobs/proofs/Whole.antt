@@ -93,7 +93,7 @@ module _ {W : Type 0} (wants : W → Option Request) (is_of : Setting → Actor 
       → number_in (mine sides name) shared.events ≡ length s.ends.items
   played_so sides name s shared r = ap (λ os. number_in (is_mine os) shared.events) (sym r.others) ∙ r.quiet.holds.counts
 
-  -- as many events were played as have their ends
+  -- As many events were played as have their ends.
   pub played_is : (sides : List Side) (s t : body.Side W) (shared : Shared) → RestsBoth wants is_of running picks_of sides s t shared
       → shared.events ≡ length s.ends.items + length t.ends.items
   played_is sides s t shared r = omega (
@@ -109,13 +109,13 @@ module _ {W : Type 0} (wants : W → Option Request) (is_of : Setting → Actor 
   state_is s shared q read result h = h (past s.script s.ends.items) (stands_of is_of running picks_of all_sound (over s shared) q.holds
       q.idle)
 
-  -- the store is the last moment's
+  -- The store is that of the last moment.
   pub scene_is : (b : Body W) → Quiet wants is_of running picks_of b
       → b.shared.store.scene ≡ moment b.shared.opening b.shared.journal.entries (length b.shared.journal.entries)
   scene_is b q = plain_scene wants is_of running picks_of b q ∙ ap (after_all (store.opening b.shared.opening))
       (sym (take_whole b.shared.journal.entries))
 
-  -- ---- both
+  -- ---- both sides
 
   module _ (has : HasPicks running picks_of) (shared_law : RunsAreKeptShared) (sides : List Side) (s t : body.Side W) (shared : Shared)
       (r : RestsBoth wants is_of running picks_of sides s t shared) where

@@ -1,26 +1,26 @@
--- Whose the events of a run of two jobs are.
+-- The side of each event in a run of two jobs.
 use Rattle.std.specs.Prelude.{ℕ, ◌+◌, Bool, true, false, cond, List, [], ◌∷◌}
 use Rattle.twin_script.specs.declared.turns.Side.{Side}
 use Rattle.twin_script.specs.declared.turns.Side.TheVariants.{First, Second}
 
--- two sides are the same
+-- The two sides are the same.
 abbrev pub is_same : Side → Side → Bool
 is_same First First = true
 is_same Second Second = true
 is_same First Second = false
 is_same Second First = false
 
--- the other one of the two
+-- The other one of the two sides.
 abbrev pub other_of : Side → Side
 other_of First = Second
 other_of Second = First
 
--- how many of the events are the side's
+-- The number of events that are this side's.
 abbrev pub events_of : Side → List Side → ℕ
 events_of side [] = 0
 events_of side (s ∷ sides) = cond (is_same side s) (events_of side sides + 1) (events_of side sides)
 
--- the numbers, from n on, of the events that are not the side's
+-- The numbers, from n on, of the events that are not this side's.
 abbrev pub others_in : Side → ℕ → List Side → List ℕ
 others_in side n [] = []
 others_in side n (s ∷ sides) = cond (is_same side s) (others_in side (n + 1) sides) (n ∷ others_in side (n + 1) sides)

@@ -1,4 +1,4 @@
--- Two sides over what they share, of which one is in hand.
+-- Two sides with what they share.
 use Rattle.job_model.specs.JobScript.{Script}
 use Rattle.job_model.specs.Known.{Known}
 use Rattle.job_model.specs.declared.ends.Pick.{Pick}
@@ -23,26 +23,26 @@ use Rattle.twin_script.specs.declared.turns.Side.{Side}
 use Rattle.twin_script.specs.declared.turns.Side.TheVariants.{First, Second}
 use Rattle.job_side.specs.declared.body.Side as body
 
--- the side of this name, where the one in hand is that of the other name
+-- Of the moving side a and the other side b: the one with the name given first, if the moving one has the name given second.
 abbrev pub side_by : {X : Type 0} → Side → Side → X → X → X
 side_by First First a b = a
 side_by Second Second a b = a
 side_by First Second a b = b
 side_by Second First a b = b
 
--- a side of a pair
+-- The side of a pair with this name.
 abbrev pub side_in : {W : Type 0} → Side → Pair W → body.Side W
 side_in side p = side_by side p.moving p.body.side p.other
 
--- a side, and what it stands on
+-- A side with what it shares, as a body.
 abbrev pub over : {W : Type 0} → body.Side W → Shared → Body W
 over s shared = record { side = s; shared = shared }
 
--- the event is numbered, and one of the first n
+-- The entry's event has a number from 1 to n.
 abbrev pub IsAmong : ℕ → Entry → Type 0
 IsAmong n e = (1 ≤ e.event) × (e.event ≤ n)
 
--- a side of this name rests between events: its own are those of the order, of which its script has enough
+-- A side rests between events. Its own events are those that the order gives it, and its script has at least as many.
 pub record RestsOne {W : Type 0} (wants : W → Option Request) (is_of : Setting → Actor → W → Type 0) (running : Known → W → Running)
     (picks_of : W → Option (List Pick)) (sides : List Side) (name : Side) (s : body.Side W) (shared : Shared) : Type 0 where
   pub quiet : Quiet wants is_of running picks_of (over s shared)
@@ -50,14 +50,14 @@ pub record RestsOne {W : Type 0} (wants : W → Option Request) (is_of : Setting
   pub others : s.others.items ≡ others_in name 1 sides
   pub enough : events_of name sides ≤ length s.script.events
 
--- what both share, between events
+-- What holds between events of what both sides share.
 pub record RestsShared (sides : List Side) (shared : Shared) : Type 0 where
   pub own : AreOwn shared.journal.entries
   pub among : AllByRecursion (IsAmong shared.events) shared.journal.entries
   pub few : shared.events ≤ length sides
   pub short : length sides + 1 < 2 ^ 32
 
--- both rest over what they share
+-- Both sides rest between events, they may share a destination, and the store has the fates of the first script.
 pub record RestsBoth {W : Type 0} (wants : W → Option Request) (is_of : Setting → Actor → W → Type 0) (running : Known → W → Running)
     (picks_of : W → Option (List Pick)) (sides : List Side) (s t : body.Side W) (shared : Shared) : Type 0 where
   pub first : RestsOne wants is_of running picks_of sides First s shared
@@ -66,7 +66,7 @@ pub record RestsBoth {W : Type 0} (wants : W → Option Request) (is_of : Settin
   pub twins : MayBeTwins s.script t.script
   pub fates : (n : ℕ) → fate_at shared.store.fates n ≡ fate_at s.script.fates n
 
--- so a pair does
+-- Both sides of a pair rest between events.
 abbrev pub Rests : {W : Type 0} → (W → Option Request) → (Setting → Actor → W → Type 0) → (Known → W → Running) → (W → Option (List Pick))
     → Pair W → Type 0
 Rests wants is_of running picks_of p = RestsBoth wants is_of running picks_of p.sides.items (side_in First p) (side_in Second p)
@@ -74,14 +74,14 @@ Rests wants is_of running picks_of p = RestsBoth wants is_of running picks_of p.
 
 -- ---- nothing has happened
 
--- a side of this script, whose events are all but these, and of which nothing has happened
+-- A side with this script, to which all events but these belong, and of which nothing has happened.
 pub record IsFresh {W : Type 0} (w : Script) (minimum : ℕ) (numbers : List ℕ) (s : body.Side W) : Type 0 where
   pub script : s.script ≡ w
   pub others : s.others.items ≡ numbers
   pub shares : s.shares ≡ true
   pub first : IsFirstSide minimum s
 
--- two such sides over what they share
+-- Two such sides, each with the events that the order gives it, with what they share.
 pub record IsPaired {W : Type 0} (first second : Script) (shared : Shared) (sides : List Side) (p : Pair W) : Type 0 where
   pub one : IsFresh first shared.opening.minimum (others_in First 1 sides) (side_in First p)
   pub other : IsFresh second shared.opening.minimum (others_in Second 1 sides) (side_in Second p)
@@ -90,11 +90,11 @@ pub record IsPaired {W : Type 0} (first second : Script) (shared : Shared) (side
 
 -- ---- what callers see
 
--- of a side
+-- What callers see of one side.
 abbrev pub job_in : {W : Type 0} → (W → Option (List Pick)) → body.Side W → JobRun
 job_in picks_of s = record { script = s.script; picks = picks_in picks_of s.picks (slice_get s.hands.items 0); ends = s.ends.items }
 
--- of two sides
+-- What callers see of two sides.
 abbrev pub run_of : {W : Type 0} → (W → Option (List Pick)) → List Side → body.Side W → body.Side W → Shared → Bool → Run
 run_of picks_of sides s t shared stuck = record {
   first = job_in picks_of s;
@@ -106,7 +106,7 @@ run_of picks_of sides s t shared stuck = record {
   stuck = stuck;
 }
 
--- the other side is in hand, or the same, and nothing else changes
+-- This side is now the moving one, and nothing else has changed.
 pub record IsTurnedTo {W : Type 0} (side : Side) (p q : Pair W) : Type 0 where
   pub moving : q.moving ≡ side
   pub first : side_in First q ≡ side_in First p
@@ -114,13 +114,13 @@ pub record IsTurnedTo {W : Type 0} (side : Side) (p q : Pair W) : Type 0 where
   pub shared : q.body.shared ≡ p.body.shared
   pub sides : q.sides ≡ p.sides
 
--- this side's next event was played
+-- The next event of this side was played, and the other side has not changed.
 pub record IsPlayed {W : Type 0} (side : Side) (p q : Pair W) : Type 0 where
   pub grown : Grown (over (side_in side p) p.body.shared) (over (side_in side q) q.body.shared)
   pub other : side_in (other_of side) q ≡ side_in (other_of side) p
   pub sides : q.sides ≡ p.sides
 
--- for want of memory nothing was, and nothing but room was taken
+-- Memory ran out before the next event of this side, and nothing but spare room has changed.
 pub record IsUnplayed {W : Type 0} (side : Side) (p q : Pair W) : Type 0 where
   pub before : IsAsBefore (over (side_in side p) p.body.shared) (over (side_in side q) q.body.shared)
   pub other : side_in (other_of side) q ≡ side_in (other_of side) p

@@ -2,6 +2,6 @@
 use Rattle.twin_jobs.specs.Worlds.{JobRun}
 use Rattle.twin_jobs.specs.declared.played.JobLeft.{JobLeft}
 
--- what is told of a job
+-- What callers saw last of a job, made from what its run leaves.
 abbrev pub told_of : JobLeft → JobRun
 told_of j = record { script = j.script; picks = j.picks; ends = j.ends }

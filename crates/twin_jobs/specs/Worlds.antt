@@ -24,13 +24,14 @@ use Rattle.twin_script.specs.declared.turns.Side.{Side}
 use Rattle.twin_script.specs.declared.turns.Side.TheVariants.{First, Second}
 use Rattle.twin_facts.specs.Sides as two
 
--- what is a job's own: its script, the picks of its commit, and the ends of its events so far
+-- What callers see of one job: its script, the picks of its commit, and the ends of its events so far.
 pub record JobRun : Type 0 where
   pub script : Script
   pub picks : List Pick
   pub ends : List EventEnd
 
--- both jobs, whose each event of the order is, the store's content as the run began, all entries, and whether an event found no memory
+-- What callers see of a world: both jobs, the side of each event of the order, the store's content as the run began, all entries, and
+-- whether an event ran out of memory.
 pub record Run : Type 0 where
   pub first : JobRun
   pub second : JobRun
@@ -39,20 +40,20 @@ pub record Run : Type 0 where
   pub journal : List Entry
   pub stuck : Bool
 
--- how many events were played
+-- The number of events that were played.
 abbrev pub played : Run → ℕ
 played r = length r.first.ends + length r.second.ends
 
--- a side's job
+-- The job of a side.
 abbrev pub job_of : Run → Side → JobRun
 job_of r First = r.first
 job_of r Second = r.second
 
--- of a job nothing has happened
+-- A job of which nothing has happened.
 abbrev pub nothing_run : Script → JobRun
 nothing_run w = record { script = w; picks = []; ends = [] }
 
--- nothing has happened
+-- The run in which nothing has happened yet.
 abbrev pub begun : Twins → Content → Run
 begun t opening = record {
   first = nothing_run t.first;
@@ -63,37 +64,37 @@ begun t opening = record {
   stuck = false;
 }
 
--- ---- each in its own eyes
+-- ---- each job, as it reads the journal
 
--- the side's own events
+-- Whether the event with a number is the side's own.
 abbrev pub mine : List Side → Side → ℕ → Bool
 mine sides side = is_mine (others_in side 1 sides)
 
--- what a job goes by whose destination another shares
+-- The setting of a job whose destination another job shares.
 abbrev pub setting : Script → Content → Setting
 setting w opening = record { script = w; minimum = opening.minimum; shared = true }
 
--- the journal as the side reads it
+-- The journal as a side reads it.
 abbrev pub seen_by : Run → Side → List Entry
 seen_by r side = in_eyes (mine r.sides side) r.journal
 
--- what a side keeps in its own eyes, whatever the other sends
+-- What a side keeps, as it reads the journal, whatever the other one sends.
 pub record KeepsSide (r : Run) (side : Side) : Type 0 where
-  -- what no stranger breaks
+  -- What no stranger breaks.
   pub among : let j = job_of r side in KeptAmong (setting j.script r.opening) r.opening (seen_by r side) j.picks j.ends
-  -- how its commit, its check, and its abort or clean end
+  -- How its commit, its check, and its abort or clean end.
   pub shared : let j = job_of r side in SharedKept (setting j.script r.opening) r.opening (seen_by r side) j.ends
-  -- its events that were played are those of the order's first
+  -- It has one end for each of its events among those that were played.
   pub counts : number_in (mine r.sides side) (played r) ≡ length (job_of r side).ends
-  -- the picks are all those that its commit has made, unless that commit ran out of memory
+  -- The picks are all that its commit has made, unless it ran out of memory.
   pub whole : let j = job_of r side in
       lacked_memory (past j.script j.ends).commit ≡ false → j.picks ≡ all_picks j.script r.opening (seen_by r side) j.ends
-  -- once its set-up has ended, the facts of the job hold after each send
+  -- Once its set-up has ended done, the facts of the job hold after each send.
   pub facts : let j = job_of r side in FactsHold j.script r.opening (seen_by r side) j.ends
 
 -- ---- the journal of both
 
--- an entry with its side: its event is numbered as that side counts, and as the other does
+-- An entry with its side. Its event has the number n as the first job counts, and m as the second one does.
 abbrev pub entry_by : Bool → ℕ → ℕ → Entry → TwinEntry
 entry_by true n m e = record {
   side = two.First;
@@ -106,39 +107,39 @@ entry_by false n m e = record {
   theirs = n;
 }
 
--- these events are the first's, and those the second's
+-- A journal as entries with their sides; the events of the first job are those in `mine`, of the second those in `theirs`.
 abbrev pub both_of : (ℕ → Bool) → (ℕ → Bool) → List Entry → List TwinEntry
 both_of mine theirs = map (λ e. entry_by (mine e.event) (number_in mine e.event) (number_in theirs e.event) e)
 
 abbrev pub entries_of : Run → List TwinEntry
 entries_of r = both_of (mine r.sides First) (mine r.sides Second) r.journal
 
--- when a side's commit, and its first abort or clean, began
+-- When a job's commit began, and when its first abort or clean.
 abbrev pub times_of : JobRun → Times
 times_of j = times j.script j.ends
 
--- what readers are shown at each moment, and what the marker says
+-- What readers see at each moment, and what the success marker promises there.
 abbrev pub ShowsBoth : Run → Type 0
 ShowsBoth r = (m : ℕ) → m ≤ length (entries_of r)
     → AtMoment r.first.script r.second.script (times_of r.first) (times_of r.second) r.opening (entries_of r) m
 
--- What a run of two jobs keeps.
+-- What holds of a run of two jobs after each call.
 pub record Keeps (r : Run) : Type 0 where
   pub first : KeepsSide r First
   pub second : KeepsSide r Second
   pub shows : ShowsBoth r
-  -- no request of one names what is the other's
+  -- No request of one job names what is the other's.
   pub named_first : NamesNoneOfOthers two.First r.second.script (drew two.Second r.opening (entries_of r)) (entries_of r)
   pub named_second : NamesNoneOfOthers two.Second r.first.script (drew two.First r.opening (entries_of r)) (entries_of r)
-  -- all was sent by actors of the two, with outcomes that were due and that the first script foretells
+  -- All was sent by actors of the two jobs, and each send had the outcome that was due and that the first script names for it.
   pub own : AreOwn r.journal
-  -- each was sent in an event that has its end
+  -- Each entry belongs to an event that has its end.
   pub numbered : AllByRecursion (λ e. (1 ≤ e.event) × (e.event ≤ played r)) r.journal
   pub sent : Sent r.first.script r.opening r.journal
 
 -- ---- a turn
 
--- this side's next event has its end, and what was sent in it has its number; the other side stays
+-- This side's next event has its end, and each entry that was added has the event's number. The other side has not changed.
 pub record Played (r s : Run) (side : Side) : Type 0 where
   pub next : slice_get r.sides (played r) ≡ Some side
   pub script : (job_of s side).script ≡ (job_of r side).script
@@ -150,11 +151,11 @@ pub record Played (r s : Run) (side : Side) : Type 0 where
   pub more : (part : List Entry) × (s.journal ≡ r.journal ++ part) × AllByRecursion (λ e. e.event ≡ played r + 1) part
   pub stuck : s.stuck ≡ r.stuck
 
--- an event was played, or the order is used up and all is as before
+-- An event of this side was played; or, for None, the order has no more events and nothing has changed.
 abbrev pub Turned : Run → Run → Option Side → Type 0
 Turned r s (Some side) = Played r s side
 Turned r s None = (s ≡ r) × (played r ≡ length r.sides)
 
--- no event happened, for want of memory, and none will
+-- No event happened because memory ran out, and no later one will.
 pub record FoundNone (r s : Run) : Type 0 where
   pub is : s ≡ record r { stuck = true }

@@ -1,16 +1,26 @@
-//! The world of two jobs at one destination: both sides over one store that loses sendings as the first script
-//! says, and an order by which the events of both scripts move them.
+//! Two jobs at one destination, run together: both over one store, with an order that says whose
+//! event comes next. The first script says in advance which requests and replies get lost.
 //!
 //! # What is proved
 //!
-//! `TwinWorld`: Two jobs over one store and one journal, for every `Works`. `turn` plays the next event of the
-//! order, and after each call, whatever was lost and wherever memory ran out, `Keeps` holds of both scripts, the
-//! opening content, the journal, and the picks and ends of each side so far: of each side, in its own eyes, what
-//! no stranger breaks, how its commit, its check and its abort or clean end, that all picks of its commit are told
-//! unless that ran out of memory, and the facts of the job from its set-up's end on; of both, what a reader of the
-//! destination is shown at each moment of the journal; that each entry is of an event that has its end; and that no
-//! request of one names what is the other's. The event's end is added (`Turned`), or no event happened for want of
-//! memory, and none will (`FoundNone`). `finish` hands out what the run leaves.
+//! `TwinWorld` has two jobs over one store with one journal. It is generic over the operations of
+//! the actors (`Works`). `turn` plays the next event of the order. Either the event's end is added
+//! (`Turned`), or memory ran out before it, nothing happened, and no later event will
+//! (`FoundNone`).
+//!
+//! After each call, whatever was lost and wherever memory ran out, `Keeps` holds:
+//!
+//! - Each job, as it reads the journal, keeps what no stranger breaks. Its commit, its check, and
+//!   its abort or clean end as they should. The picks are all that its commit has made, unless the
+//!   commit ran out of memory. From the end of its set-up on, the facts of the job hold after each
+//!   send.
+//! - At each moment of the journal, each file that readers of the destination see has its opening
+//!   bytes or those of a job whose commit has begun. While the marker is one that a job has put, all
+//!   its files exist that the other job does not write too.
+//! - Each entry belongs to an event that has its end.
+//! - No request of one job names what is the other's.
+//!
+//! `finish` takes the world apart into what the run leaves.
 #![tactic(auto)]
 
 mod order;

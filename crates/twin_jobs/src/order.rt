@@ -5,7 +5,7 @@ ghost use Rattle.twin_jobs.specs.Order.{others_in};
 use std::alloc::{AllocError, Global};
 use twin_script::{Side, TwinTurn};
 
-/// So many more events of a side.
+/// Adds the events of one line of the order: `turn.count` times its side.
 fn add_turn(sides: &mut Vec<Side>, turn: TwinTurn) -> Result<(), AllocError>
     ensures { OnOk result (sides.new.items ≡ sides.old.items ++ replicate turn.count turn.side) }
 {
@@ -15,7 +15,8 @@ fn add_turn(sides: &mut Vec<Side>, turn: TwinTurn) -> Result<(), AllocError>
     Ok(())
 }
 
-/// The sides of the events that an order asks for, one after another. AllocError comes where memory ran out alone.
+/// The side of each event that an order asks for, in turn. Fails with AllocError only if memory
+/// runs out.
 pub fn sides_of(alloc: Global, order: &[TwinTurn]) -> Result<Vec<Side>, AllocError>
     ensures { IfOk result (λ sides. sides.items ≡ sides_in order.now) }
 {
@@ -26,7 +27,8 @@ pub fn sides_of(alloc: Global, order: &[TwinTurn]) -> Result<Vec<Side>, AllocErr
     Ok(sides)
 }
 
-/// The numbers of the events that are not the side's, from 1 on. AllocError comes where memory ran out alone.
+/// The numbers, from 1 on, of the events that are not this side's. Fails with AllocError only if
+/// memory runs out.
 pub fn others_of(alloc: Global, sides: &[Side], side: Side) -> Result<Vec<u32>, AllocError>
     requires few { length sides.now + 1 < 2 ^ 32 }
     ensures { IfOk result (λ others. others.items ≡ others_in side 1 sides.now) }

@@ -13,7 +13,8 @@ use std::alloc::{AllocError, Global};
 use std::mem;
 use twin_script::Side;
 
-/// Two sides over what they share, of which one is in hand, and whose each event is.
+/// Two sides and what they share: the side whose event is played is in `body`, the other one in
+/// `other`. `moving` names the first, and `sides` has the side of each event.
 #[derive(Drop)]
 pub struct Pair<W> {
     pub body: Body<W>,
@@ -22,7 +23,8 @@ pub struct Pair<W> {
     pub sides: Vec<Side>,
 }
 
-/// A side of which nothing has happened, whose events are those of the order. The minimum is the store's, in bytes.
+/// A side of which nothing has happened, and whose events are its own in the order. `minimum` is
+/// the store's least size of a part, in bytes.
 fn fresh_side<W: Works>(
     alloc: Global,
     script: Script,
@@ -40,7 +42,7 @@ fn fresh_side<W: Works>(
     Ok(fresh)
 }
 
-/// Two sides of which nothing has happened, over what they share.
+/// Two sides of which nothing has happened, with what they share.
 pub fn paired<W: Works>(
     alloc: Global,
     shared: Shared,
@@ -76,7 +78,7 @@ pub fn paired<W: Works>(
 }
 
 impl<W: Works> Pair<W> {
-    /// Takes a side in hand.
+    /// Moves this side into `body`.
     pub fn turn_to(&mut self, side: Side)
         ensures { IsTurnedTo side self.old self.new }
     {
@@ -86,7 +88,7 @@ impl<W: Works> Pair<W> {
         }
     }
 
-    /// A side.
+    /// The side with this name.
     pub fn side(&self, side: Side) -> &JobSide<W>
         ensures { result.now ≡ side_in side self.now }
     {
@@ -97,7 +99,7 @@ impl<W: Works> Pair<W> {
         }
     }
 
-    /// The side whose event is next, or None where the order is used up.
+    /// The side whose event is next, or None after the last event of the order.
     pub fn next(&self) -> Option<Side>
         ensures { result ≡ slice_get self.now.sides.items self.now.body.shared.events }
     {
@@ -105,7 +107,7 @@ impl<W: Works> Pair<W> {
         self.sides.as_slice().get(played).copied()
     }
 
-    /// The next event of the script in hand.
+    /// The next event of the script of the side in `body`.
     fn next_event(&self) -> Event
         requires { IsSome (slice_get self.now.body.side.script.events (length self.now.body.side.ends.items)) }
         ensures { Next self.now.body result }
@@ -123,7 +125,8 @@ impl<W: Works> Pair<W> {
         }
     }
 
-    /// Plays the next event of a side's script, which is the order's next. After want of memory nothing happened.
+    /// Plays the next event of a side's script, which is the order's next. Fails with AllocError if
+    /// memory runs out before it; then nothing has happened.
     pub fn play(&mut self, side: Side) -> Result<(), AllocError>
         requires rests { Rests W.wants W.is_of W.running W.picks_of self.old }
         requires turn { slice_get self.old.sides.items self.old.body.shared.events ≡ Some side }

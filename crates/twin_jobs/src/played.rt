@@ -12,7 +12,7 @@ use s3_types::{Journal, Sequence};
 use std::mem;
 use twin_script::Side;
 
-/// What a run leaves of a job: its script, the picks of its commit, and the ends of its events.
+/// What a run leaves of one job: its script, the picks of its commit, and the ends of its events.
 #[derive(Drop)]
 pub struct JobLeft {
     pub script: Script,
@@ -20,8 +20,8 @@ pub struct JobLeft {
     pub ends: EndList,
 }
 
-/// What a run of two jobs leaves: the store, all that was sent, what is left of each, and whose each event was
-/// to be.
+/// What a run of two jobs leaves: the store, the journal, what is left of each job, and the side of
+/// each event that the order asks for.
 #[derive(Drop)]
 pub struct TwinPlayed {
     pub service: Service,
@@ -31,7 +31,7 @@ pub struct TwinPlayed {
     pub sides: Sequence<Side>,
 }
 
-/// Hands out what a run leaves of a side. Takes no memory.
+/// Takes a side apart into what its run leaves. Takes no memory.
 fn left_of<W: Works>(side: JobSide<W>) -> JobLeft
     requires hands { 0 < length side.hands.items }
     ensures { told_of result ≡ job_in W.picks_of side }
@@ -45,7 +45,7 @@ fn left_of<W: Works>(side: JobSide<W>) -> JobLeft
     }
 }
 
-/// Hands out what a run leaves. Takes no memory.
+/// Takes a pair apart into what the run leaves. Takes no memory.
 pub fn left_by<W: Works>(pair: Pair<W>) -> TwinPlayed
     requires moving { 0 < length pair.body.side.hands.items }
     requires other { 0 < length pair.other.hands.items }

@@ -16,9 +16,10 @@ use std::alloc::{AllocError, Global};
 use std::marker::Model;
 use twin_script::{Side, Twins};
 
-/// Two jobs over one store, moved by an order of the events of both scripts: both scripts, the order, the store's
-/// content as the run began, all that was sent, the picks of each job's commit, the ends of each job's events so
-/// far, and whether an event found no memory. At each call's end it keeps what is promised of both.
+/// Two jobs over one store, moved by an order of the events of both scripts. Callers see both
+/// scripts, the order, the store's content as the run began, the journal, the picks and the ends so
+/// far of each job, and whether an event ran out of memory. After each call all that is promised of
+/// both jobs holds (`Keeps`).
 #[derive(Drop)]
 pub struct TwinWorld<W: Works> {
     pair: Pair<W>,
@@ -43,8 +44,8 @@ impl<W: Works> Model for TwinWorld<W> {
 }
 
 impl<W: Works> TwinWorld<W> {
-    /// No event has happened yet. The store's content is copied, so that the run's opening stays known; bytes
-    /// are shared. AllocError comes where memory ran out alone.
+    /// A world in which no event has happened yet. It copies the store's content, so that the
+    /// opening stays known; the copies share bytes. Fails with AllocError only if memory runs out.
     pub fn new(alloc: Global, twins: Twins, service: Service) -> Result<TwinWorld<W>, AllocError>
         requires few { service.next ≤ 2 ^ 62 }
         ensures { IfOk result (λ world. world ≡ begun twins service) }
@@ -71,16 +72,17 @@ impl<W: Works> TwinWorld<W> {
         Ok(TwinWorld { pair, stuck: false })
     }
 
-    /// The side whose event is next, or None where the order is used up. Takes no memory.
+    /// The side whose event is next, or None after the last event of the order. Takes no memory.
     pub fn next(&self) -> Option<Side>
         ensures { result ≡ slice_get self.now.sides (played self.now) }
     {
         self.pair.next()
     }
 
-    /// Plays the order's next event, whose end stands behind the others of its side then, and says whose it was;
-    /// None comes exactly where the order is used up. What it takes of memory for itself it takes before anything
-    /// happens; where it finds none nothing happens, then and at each later call.
+    /// Plays the order's next event, adds its end to those of its side, and returns that side.
+    /// Returns None exactly if the order has no more events. It takes its own memory before
+    /// anything happens. If there is none, it fails with AllocError, nothing has happened, and each
+    /// later call fails too.
     pub fn turn(&mut self) -> Result<Option<Side>, AllocError>
         ensures keeps { Keeps self.new }
         ensures ok { IfOk result (Turned self.old self.new) }
@@ -104,14 +106,14 @@ impl<W: Works> TwinWorld<W> {
         }
     }
 
-    /// Every sending so far, in order. Takes no memory.
+    /// The journal: every send so far, in order. Takes no memory.
     pub fn journal(&self) -> &Journal
         ensures { result.now.entries ≡ self.now.journal }
     {
         &self.pair.body.shared.journal
     }
 
-    /// The attempts whose sets the commit of a side's job has read, by task. Takes no memory.
+    /// The attempts whose sets the commit of this side's job has read, by task. Takes no memory.
     pub fn picks(&self, side: Side) -> &PickList
         ensures { result.now ≡ (job_of self.now side).picks }
     {
@@ -119,21 +121,21 @@ impl<W: Works> TwinWorld<W> {
         picks_in(&side.hands[0], &side.picks)
     }
 
-    /// The status that is due by a side's ends so far: 0, 1, 8 or 9. Takes no memory.
+    /// The status of this side's job by its ends so far: 0, 1, 8 or 9. Takes no memory.
     pub fn verdict(&self, side: Side) -> u8
         ensures { result ≡ verdict (job_of self.now side).script (job_of self.now side).ends }
     {
         self.pair.side(side).states.verdict()
     }
 
-    /// The store as the sendings so far have left it. Takes no memory.
+    /// The store as the requests so far have left it. Takes no memory.
     pub fn service(&self) -> &Service
         ensures { result.now ≡ (moment self.now.opening self.now.journal (length self.now.journal)).content }
     {
         self.pair.body.shared.store.service()
     }
 
-    /// Hands out what the run leaves. Takes no memory.
+    /// Takes the world apart into what its run leaves. Takes no memory.
     pub fn finish(self) -> TwinPlayed
         ensures service { result.service ≡ (moment self.opening self.journal (length self.journal)).content }
         ensures journal { result.journal.entries ≡ self.journal }

@@ -1,4 +1,4 @@
--- Where the entries of a commit at a shared destination lead, by the reports that it began with: to its check, or behind that.
+-- The state of a commit at a shared destination after its entries, by the reports with which it began: it is in its check, or after that.
 use Rattle.job_model.specs.JobScript.{Script}
 use Rattle.job_model.specs.Known.{Known}
 use Rattle.job_model.specs.declared.ends.CheckEnd.{CheckEnd}
@@ -23,13 +23,13 @@ use Rattle.twin_safety.specs.Checks.{Checked, checking, next}
 use Rattle.twin_safety.specs.Ends.{IsCleared}
 use Rattle.job_model.specs.declared.ends.OpEnd.TheVariants as ends
 
--- at its check, which asked for all of these
+-- It is in its check, which asked for all of these entries.
 pub record Within (w : Script) (r : Reports) (es : List Entry) (t : Retried Check) : Type 0 where
   pub fails : w.mode ≡ Fail
   pub none : r.missing ≡ None
   pub checked : Checked w r.attempts es t
 
--- behind it, with these of its own
+-- It is after its check, with these entries of its own.
 pub record Behind (w : Script) (r : Reports) (es own : List Entry) (c : Commit) : Type 0 where
   pub checks : List Entry
   pub entries : es ≡ checks ++ own
@@ -46,9 +46,9 @@ module _ (g : Setting) (shared : g.shared ≡ true) (r : Reports) where
   abbrev w : Script
   w = g.script
 
-  -- ---- as it begins
+  -- ---- its first state
 
-  -- where a check is clear the commit begins
+  -- If the check is clear, the commit begins.
   cleared_now : w.mode ≡ Fail → r.missing ≡ None → (es : List Entry) (t : Retried Check) → Checked w r.attempts es t → (c : Check)
       → t.operation ≡ c → IsAt w r es [] (after_check_by g t c)
   cleared_now fails none es t checked (CheckOver Clear) over = record {
@@ -88,7 +88,7 @@ module _ (g : Setting) (shared : g.shared ≡ true) (r : Reports) where
   }
   more _ es own k e h asked = absurd h
 
-  -- ---- all of them
+  -- ---- all entries
 
   goes : (before own es : List Entry) (m : Running) → IsAt w r before own m.operation → Follows (wants g Driver) (advance g Driver) m es
       → (mine : List Entry) × IsAt w r (before ++ es) mine (run (advance g Driver) m es).operation
@@ -105,7 +105,7 @@ module _ (g : Setting) (shared : g.shared ≡ true) (r : Reports) where
       → (own : List Entry) × IsAt w r es own (run (advance g Driver) (record { operation = commit_of g r; known = k }) es).operation
   led k es f = goes [] [] es (record { operation = commit_of g r; known = k }) (begins g.shared shared w.mode refl r.missing refl) f
 
--- ---- where it is over
+-- ---- when it is over
 
 module _ (w : Script) (r : Reports) (es own : List Entry) where
   pub commit_ended : (e : CommitEnd) (op : Operation) → IsAt w r es own op → over op ≡ Some (ends.Commit e)

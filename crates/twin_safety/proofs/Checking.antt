@@ -18,9 +18,9 @@ use Rattle.std.proofs.Common.{Bool, List, None, Option, Some, ap, append-nil, ap
 use Rattle.std.proofs.Common.{true, ℕ, [], ◌++◌, ◌∙◌, ◌∷◌, ◌≡◌, ◌⊎◌}
 use Rattle.twin_safety.specs.Checks.{CheckIs, Checked, ShownBy, checking, next}
 
--- ---- what one sending does
+-- ---- what one send does
 
--- what holds of where an answer leads, of an operation that stays, and of one that wore out holds after it
+-- P holds after a send if it holds of the state after an answer, of the same state, and of the state after the request ran out of retries.
 step_by : {M : Type 0} (retries : ℕ) (after : M → Item → M) (t : Retried M) (o : Outcome) (P : Bool → M → Type 0)
     → ((x : Reply) → o ≡ Answered x → P false (after t.operation (Got x t.repeated))) → P false t.operation
     → P true (after t.operation WornOut)
@@ -37,7 +37,7 @@ step_by {M} retries after t o P heard still worn = by o heard
 -- ---- ends of the check
 
 module _ (w : Script) where
-  -- no request wore out so far, and the last of these entries showed a conflict
+  -- No request has run out of retries so far, and if the check is a conflict, the last of these entries showed it.
   abbrev Seen : List Entry → Check → Type 0
   Seen es (CheckOver StoreFault) = ⊥
   Seen es (CheckOver NoMemory) = ⊥
@@ -55,13 +55,13 @@ module _ (w : Script) where
     seen_still : (c : Check) → check_asks w c ≡ Some e.request → Seen (es ++ e ∷ []) c
     seen_still c h = grind arith
 
-  -- a check that is over sends no more
+  -- A check that is over sends no more.
   over_stops : (t : Retried Check) (end : CheckEnd) (es : List Entry) → t.operation ≡ CheckOver end
       → Follows (wants_of (check_asks w)) (next w) t es → es ≡ []
   over_stops t end [] is f = refl
   over_stops t end (e ∷ es) is f = absurd (none_some (ap (check_asks w) is) f.0)
 
-  -- none wore out and it goes on so, or one did and ended it
+  -- No request ran out of retries and the check goes on so, or one did and ended the check.
   abbrev Either : List Entry → Option Request → Check → Type 0
   Either es worn c = ((worn ≡ None) × Seen es c) ⊎ ((r : Request) × (worn ≡ Some r) × (c ≡ CheckOver StoreFault))
 
@@ -103,7 +103,7 @@ module _ (w : Script) where
       by Clear seen = seen
       by _ seen = seen
 
--- where it ended clear no request of it wore out
+-- If the check ended clear, no request of it ran out of retries.
 pub checked_clear : (w : Script) (reported : List Who) (es : List Entry) (t : Retried Check) → Checked w reported es t
     → t.operation ≡ CheckOver Clear → WornFirst w.retries es None
 checked_clear w reported es t checked is = let x = checks_end w reported es t checked Clear is in by x.0 x.1 x.2

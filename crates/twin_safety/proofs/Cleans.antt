@@ -51,7 +51,7 @@ module _ (g : Setting) (shared : g.shared ≡ true) (opening : Content) (j : IsL
   abbrev k : Times
   k = times w x.ends
 
-  -- the scene after a whole journal is its last moment
+  -- The scene after a whole journal is that of its last moment.
   whole : (es : List Entry) → moment opening es (length es) ≡ after_all (store.opening opening) es
   whole es = ap (after_all (store.opening opening)) (take_all es (length es) (omega arith))
 
@@ -88,7 +88,7 @@ module _ (g : Setting) (shared : g.shared ≡ true) (opening : Content) (j : IsL
       from_run = run_from g shared opening j is_opening x.ends z d s (ahead_start g opening j is_opening x run_x idle i d (ends.Clean e) es
           n) begun.0
 
-      -- since it began none of the job's attempts has sent, as far as its end
+      -- Since it began, none of the job's attempts has sent until its end.
       alone_so : AllBy Driver (own (since d.since (until (i + 1) x.journal))) → AllBy Driver (own s.entries)
       alone_so all =
           let strays = until (i + 1) n.closed.entries in

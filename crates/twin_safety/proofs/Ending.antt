@@ -1,4 +1,4 @@
--- How the commit of a job whose destination others share ends, in every run among strangers.
+-- How the commit of a job that shares its destination ends, in every run among strangers.
 use Rattle.job_facts.specs.Told.{driver_entry, entry, strange_entry}
 use Rattle.job_model.specs.JobScript.{Script}
 use Rattle.job_model.specs.Legal.{IsLegal}
@@ -37,7 +37,7 @@ one_more k es e b is = filter-append (is_commits k) es (e ∷ []) ∙ ap (λ c. 
 other_more : (k : Times) (es : List Entry) (e : Entry) → is_commits k e ≡ false → commit_entries k (es ++ e ∷ []) ≡ commit_entries k es
 other_more k es e is = one_more k es e false is ∙ append-nil (commit_entries k es)
 
--- ---- where a commit stands
+-- ---- the state of a commit
 
 module _ (g : Setting) (j : IsLegal g.script) (shared : g.shared ≡ true) (k : Times) (opening : Content) (is : IsOpening g opening) where
   abbrev w : Script
@@ -52,9 +52,9 @@ module _ (g : Setting) (j : IsLegal g.script) (shared : g.shared ≡ true) (k : 
   Stands (Some (TheSparing t)) both own = Unit {0}
   Stands (Some _) both own = ⊥
 
-  -- ---- as it begins
+  -- ---- its first state
 
-  -- nothing was sent for it yet, or it has begun
+  -- Nothing was sent for it yet, or it has begun.
   stood : (d : Option Operation) (both own : List Entry) → Stands d both own → (both ≡ []) ⊎ ((is_set d ≡ true) × (is_just_set d ≡ false))
   stood d both own h = grind arith
 

@@ -73,7 +73,7 @@ none_of f u (v ∷ l) h (inr more) = none_of f u l (or_parts (f v) (list_any f l
 same_driver : (a : Actor) → same_actor a Driver ≡ is_driver a
 same_driver a = grind arith
 
--- before an abort or clean those of its event and of later ones are all of the driver's since it began
+-- Before an abort or clean, the entries of the commit are all entries of the driver since the event of the commit.
 pub entries_so : (k : Times) (n : ℕ) → k.commit ≡ Some n → (es : List Entry) → has_cleaned k.clean es ≡ false
     → commit_entries k es ≡ since n (by_actor Driver es)
 entries_so k n is [] clean = refl
@@ -114,7 +114,7 @@ module _ (g : Setting) (shared : g.shared ≡ true) (opening : Content) (j : IsL
       leads_so is = led g shared d.reports known es (subst (λ v. Follows (wants g Driver) (advance g Driver)
           (record { operation = v; known = known }) es) is n.follows)
 
-  -- ---- one that its check ended
+  -- ---- a commit that its check ended
 
   check_so : (i : ℕ) (d : Doing) (e : CheckEnd) (es : List Entry) (n : Ending g opening x i Driver d (ends.Check e) es)
       → over (At i d (ends.Check e) es n refl n.op) ≡ Some (ends.Check e)
@@ -132,7 +132,7 @@ module _ (g : Setting) (shared : g.shared ≡ true) (opening : Content) (j : IsL
       let n = ending g opening x run_x idle i Driver refl d (ends.Check e) es h in
       elim n.ended [ inl memory ↦ inl (memory_check e memory) | inr o ↦ inr (check_so i d e es n o) ]
 
-  -- ---- one that ended behind it
+  -- ---- a commit that ended after its check
 
   module _ (i : ℕ) (d : Doing) (e : CommitEnd) (es : List Entry) (n : Ending g opening x i Driver d (ends.Commit e) es)
       (o : over (At i d (ends.Commit e) es n refl n.op) ≡ Some (ends.Commit e)) where
@@ -156,7 +156,7 @@ module _ (g : Setting) (shared : g.shared ≡ true) (opening : Content) (j : IsL
         commit_ended w d.reports es led_so.0 e (At i d (ends.Commit e) es n refl first) led_so.1
         (subst (λ v. over (At i d (ends.Commit e) es n refl v) ≡ Some (ends.Commit e)) commit_begun.1 o)
 
-    -- the run at the end of the event
+    -- The run at the end of the event.
     abbrev then : IsRun g opening (happen g z (Closes n.event_end)) (times w x.ends)
     then = run_then g opening j is_opening x run_x idle i d (ends.Commit e) es n
 
@@ -189,7 +189,7 @@ module _ (g : Setting) (shared : g.shared ≡ true) (opening : Content) (j : IsL
         (commit_runs.ended g j k opening is_opening z.journal then.stand then.runs e at_end d.reports.missing
         (ap (run (commit_tells w) (commit_start w d.reports.missing)) own_is ∙ behind.0.leads))
 
-    -- ---- what it was answered
+    -- ---- how its requests were answered
 
     abbrev s : Began g opening z Driver d
     s = start g opening x i Driver d (ends.Commit e) es n
@@ -207,7 +207,7 @@ module _ (g : Setting) (shared : g.shared ≡ true) (opening : Content) (j : IsL
         cleaned_is w s.at.journal (nothing_told (clean_event w x.ends)) ∙
         (or_parts (list_any has_begun s.at.journal) (list_any has_begun s.entries) parts).0
 
-    -- an entry of its own is one of the driver's since it began
+    -- Each of its own entries is one of the driver's since it began.
     sent : (u : Entry) → IsIn u led_so.0 → IsIn u s.entries × (same_actor u.actor Driver ≡ true)
     sent u there =
         let one : IsIn u es = subst (IsIn u) (sym behind.0.entries) (in_back u behind.0.checks led_so.0 there) in
@@ -220,7 +220,7 @@ module _ (g : Setting) (shared : g.shared ≡ true) (opening : Content) (j : IsL
         let here : IsIn u z.journal = subst (IsIn u) (sym s.all) (in_back u s.at.journal s.entries own.0) in
         sym (ap (λ a. is_driver a && is_begun k.clean u.event) (same_is u.actor Driver own.1)) ∙ none_of has_begun u z.journal clean here
 
-    -- where it has sent a request no task was missing, and each has a last publisher from then on
+    -- If it has sent a request, no task was missing, and each is published from then on.
     none_missing : (u : Entry) → IsIn u led_so.0 → d.reports.missing ≡ None
     none_missing u there = elim (none_or_some d.reports.missing) [
       | inl none ↦ none

@@ -1,4 +1,4 @@
--- That how the driver's operations end at a shared destination is as promised in every run.
+-- In every run at a shared destination the driver's operations end as promised.
 use Rattle.twin_safety.specs.Shared.{RunsAreKeptShared}
 use Rattle.twin_safety.proofs.Ends.{commits_kept, checks_kept}
 use Rattle.twin_safety.proofs.Cleans.{cleans_kept}

@@ -1,4 +1,4 @@
--- What happens in a run while the driver's abort or clean goes on, and behind its end until the event is over, is an abort or clean that
+-- While the driver's abort or clean goes on, and after its end until the event is over, what happens in the run is an abort or clean that
 -- goes on request by request.
 use Rattle.basics.proofs.Members.{none_some, some_is, true_or_false}
 use Rattle.basics.proofs.Naturals.{at_most_is, at_most_not}
@@ -45,9 +45,9 @@ use Rattle.twin_facts.specs.Spared.{SparesOn, it_sends, other_sends, spares_begi
 use Rattle.job_model.specs.declared.events.Op.TheVariants as ops
 use Rattle.twin_facts.specs.Sides as sides
 
--- ---- whose entries these are
+-- ---- the actors of these entries
 
--- where all of the job's own are the driver's, so is the last one, if it is the job's
+-- If all of the job's own entries are the driver's, so is the last one, if it is the job's.
 own_last : (es : List Entry) (e : Entry) → AllBy Driver (own (es ++ e ∷ [])) → AllBy Driver (own es)
     × (is_own e.actor ≡ true → e.actor ≡ Driver)
 own_last [] e all = (tt, λ mine. (subst (λ b. AllBy Driver (cond b (e ∷ []) [])) mine all).0)
@@ -71,20 +71,20 @@ module _ (g : Setting) (shared : g.shared ≡ true) (opening : Content) (j : IsL
   pub clean_shared : clean_of g ≡ TheSparing first
   clean_shared = ap (λ b. cond b (TheSparing first) (TheClean (fresh g.script.retries clean_start))) shared
 
-  -- an abort or clean that began where the run stood so, in a run that goes on from there
+  -- An abort or clean that began in this state, in a run that goes on from there.
   pub record Spares (from : Stand) (journal : List Entry) (t : Retried Sparing) : Type 0 where
     pub stand : Stand
     pub on : SparesOn g k (begin g from BeginClean) stand
     pub runs : Runs g k opening journal stand
     pub driver : stand.driver ≡ Some (TheSparing t)
 
-  -- the driver is at it
+  -- The driver is running it.
   pub record Going (from : Stand) (y : Play) : Type 0 where
     pub at : Retried Sparing
     pub spares : Spares from y.journal at
     pub running : operation_of (y.running Driver) ≡ Some (TheSparing at)
 
-  -- a stranger sends
+  -- A stranger sends.
   strayed : (from : Stand) (y : Play) (r : Request) (o : Outcome) (t : Retried Sparing) → MayStray g opening y r o → Spares from y.journal t
       → Spares from (y.journal ++ strange_entry (length y.ends) r o ∷ []) t
   strayed from y r o t may s = record {
@@ -98,7 +98,7 @@ module _ (g : Setting) (shared : g.shared ≡ true) (opening : Content) (j : IsL
       foreign = subst (λ v. IsForeign g.script v r) (λ i a. (sym (told_known g opening k j is_opening y.journal s.stand s.runs a) i).drawn)
           may.foreign
 
-  -- the driver sends
+  -- The driver sends.
   sent : (from : Stand) (y : Play) (e : Entry) → Reachable g opening y → MaySend g opening y e → Ahead y xs → e.actor ≡ Driver
       → Going from y → Going from (happen g y (Sends e))
   sent from y e past may ahead is s =
@@ -138,7 +138,7 @@ module _ (g : Setting) (shared : g.shared ≡ true) (opening : Content) (j : IsL
         running = ap operation_of heard ∙ ap (λ v. Some (tells g (who e.actor) v e.outcome)) op_is;
       }
 
-  -- of one more sending of the job, which is the driver's
+  -- One more send of the job is the driver's.
   is_own_then : (y : Play) (e : Entry) → Reachable g opening y → MaySend g opening y e → Ahead y xs → is_own e.actor ≡ true
   is_own_then y e past may ahead =
       (elim e.actor as (λ a. y.running a ≡ Some may.at → is_own a ≡ true) [
@@ -147,7 +147,7 @@ module _ (g : Setting) (shared : g.shared ≡ true) (opening : Content) (j : IsL
         | _ ↦ λ at. refl
       ]) may.is_at
 
-  -- while nothing else begins, and of the job the driver alone sends
+  -- While nothing else begins, and of the job only the driver sends.
   pub going : (from : Stand) (first_play y : Play) (es : List Entry) → Going from first_play → Meanwhile g opening Driver first_play es y
       → Ahead y xs → AllBy Driver (own es) → Going from y
   going from first_play y es start (nothing_since) ahead all = start
@@ -177,7 +177,7 @@ module _ (g : Setting) (shared : g.shared ≡ true) (opening : Content) (j : IsL
 
   module _ (y : Play) (d : Doing) (b : Began g opening y Driver d) (ahead : Ahead b.at xs) (sort : (d.op ≡ ops.Abort) ⊎ (d.op ≡ ops.Clean))
     where
-      -- the run as it began
+      -- The run when it began.
       pub run_from : IsRun g opening b.at (times g.script xs)
       run_from = is_run g opening j is_opening b.at b.happened xs ahead
 
@@ -207,7 +207,7 @@ module _ (g : Setting) (shared : g.shared ≡ true) (opening : Content) (j : IsL
         running = opened_as b.event d.op b.begins sort ∙ ap (λ op. Some op) clean_shared;
       }
 
-  -- ---- behind its end, until the event is over
+  -- ---- after its end, until the event is over
 
   spares_as : (from : Stand) (t : Retried Sparing) (a b : List Entry) → a ≡ b → Spares from a t → Spares from b t
   spares_as from t a b e s = subst (λ l. Spares from l t) e s
@@ -221,7 +221,7 @@ module _ (g : Setting) (shared : g.shared ≡ true) (opening : Content) (j : IsL
     further : (ends : List EventEnd) (last : EventEnd) → i + 1 ≤ length ends → i + 1 ≤ length (ends ++ last ∷ [])
     further ends last h = let l : length (ends ++ last ∷ []) ≡ length ends + 1 = length-append ends (last ∷ []) in omega arith
 
-    -- one more entry of a later event
+    -- One more entry of a later event.
     passed : (y : Play) (e : Entry) → Rest y → i + 1 < e.event → Spares from (until (i + 1) (y.journal ++ e ∷ [])) t
     passed y e o late = spares_as from t (until (i + 1) y.journal) (until (i + 1) (y.journal ++ e ∷ []))
         (sym (until_late (i + 1) y.journal e late)) o.spares

@@ -1,5 +1,5 @@
--- The requests of a check all ask for a page, and the first of the commit behind it in the mode fail does not: so two partings of their
--- entries are one.
+-- The requests of a check all ask for a page, and the first request of the commit after it, in the mode fail, does not. So there is only
+-- one way to part their entries.
 use Rattle.job_model.specs.Attempts.{Who}
 use Rattle.job_model.specs.JobScript.{Script}
 use Rattle.job_protocol.specs.JobCommits.{commit_asks, commit_start, commit_tells, picks_of, replaced}
@@ -16,7 +16,7 @@ use Rattle.std.proofs.Common.{Bool, List, None, Option, Some, ap, arith, cond, f
 use Rattle.twin_safety.specs.Checks.{checking, next}
 use Rattle.twin_safety.specs.Ends.{IsCleared}
 
--- it asks for a page
+-- The request asks for a page.
 abbrev pub is_page : Request → Bool
 is_page (ListPage bucket prefix delimited after limit) = true
 is_page _ = false
@@ -25,12 +25,12 @@ abbrev pub AllPages : List Entry → Type 0
 AllPages [] = Unit {0}
 AllPages (e ∷ es) = (is_page e.request ≡ true) × AllPages es
 
--- the first one does not
+-- The first request does not ask for a page.
 abbrev pub NoPage : List Entry → Type 0
 NoPage [] = Unit {0}
 NoPage (e ∷ es) = is_page e.request ≡ false
 
--- ---- of the check
+-- ---- the check
 
 module _ (w : Script) where
   asks_page : (c : Check) (r : Request) → check_asks w c ≡ Some r → is_page r ≡ true
@@ -44,7 +44,7 @@ module _ (w : Script) where
   cleared_pages None reported es c = check_pages (checking w reported) es c.1.0
   cleared_pages (Some t) reported es c = subst AllPages (sym c) tt
 
-  -- ---- of the commit
+  -- ---- the commit
 
   none_replaced : (c : Committer) → replaced c Fail w (picks_of []) ≡ []
   none_replaced c = grind arith
@@ -53,9 +53,9 @@ module _ (w : Script) where
       → NoPage es
   no_page h missing es g = grind arith
 
--- ---- one parting
+-- ---- one way to part them
 
--- what stands behind the pages
+-- The entries after the pages.
 abbrev behind_pages : List Entry → List Entry
 behind_pages [] = []
 behind_pages (e ∷ es) = cond (is_page e.request) (behind_pages es) (e ∷ es)
@@ -65,7 +65,7 @@ one_parting [] [] p n = refl
 one_parting [] (u ∷ x) p n = ap (λ b. cond b (behind_pages x) (u ∷ x)) n
 one_parting (u ∷ a) x p n = ap (λ b. cond b (behind_pages (a ++ x)) (u ∷ (a ++ x))) p.0 ∙ one_parting a x p.1 n
 
--- behind two checks of these entries the commit's own are the same
+-- However these entries are parted, the commit's own ones are the same.
 pub one_rest : (w : Script) (es a x b y : List Entry) (missing other : Option ℕ) (reported others : List Who) → es ≡ a ++ x → es ≡ b ++ y
     → IsCleared w.mode missing w reported a → IsCleared w.mode other w others b
     → (m n : Option ℕ) → Follows (commit_asks w) (commit_tells w) (commit_start w m) x

@@ -25,7 +25,7 @@ use Rattle.std.specs.Option.{is_some, option_map}
 use Rattle.job_model.specs.declared.ends.CleanEnd.TheVariants as cleans
 use Rattle.job_model.specs.declared.ends.OpEnd.TheVariants as ends
 
--- ---- it ends Done, or a request wore out
+-- ---- it ends Done, or a request ran out of retries
 
 abbrev Ends : CleanEnd → Type 0
 Ends e = (e ≡ cleans.StoreFault) ⊎ (e ≡ cleans.Done)
@@ -81,14 +81,14 @@ module _ (g : Setting) (a : Actor) where
   sparing_run k t (e ∷ es) = sparing_run (advance g a (record { operation = TheSparing t; known = k }) e.outcome).known
       (step g.script.retries (sparing_after g.script) t e.outcome) es
 
-  -- as it begins
+  -- Its first state.
   abbrev first : Retried Sparing
   first = fresh g.script.retries (sparing_start g.script.committer)
 
   abbrev pub sparing : Known → Running
   sparing k = record { operation = TheSparing (fresh g.script.retries (sparing_start g.script.committer)); known = k }
 
-  -- whatever was answered, and whoever sent between them
+  -- It ends so, whatever was answered and whoever sent between its entries.
   pub sparing_ends : (k : Known) (es : List Entry) → Follows (wants g a) (advance g a) (sparing k) es → (e : CleanEnd)
       → over (run (advance g a) (sparing k) es).operation ≡ Some (ends.Clean e) → (worn : Option Request)
       × WornFirst g.script.retries es worn × CleanIs worn e
@@ -100,7 +100,7 @@ module _ (g : Setting) (a : Actor) where
             (fine g.script.committer) es f) ends_so,
       )
     where
-      -- nothing has worn out as it begins
+      -- No request has run out of retries when it begins.
       fine : (c : Committer) → is_fault (option_map ends.Clean (sparing_over (sparing_start c))) ≡ false
       fine c = grind arith
 

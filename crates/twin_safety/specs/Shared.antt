@@ -1,4 +1,4 @@
--- How the driver's operations end in a run of a job whose destination others share.
+-- How the driver's operations end in a run of a job that shares its destination.
 use Rattle.job_model.specs.JobScript.{Script}
 use Rattle.job_model.specs.Legal.{IsLegal}
 use Rattle.job_model.specs.declared.ends.CheckEnd.{CheckEnd}
@@ -30,32 +30,33 @@ use Rattle.job_model.specs.declared.ends.CommitEnd.TheVariants as commit_ends
 use Rattle.job_model.specs.declared.ends.CleanEnd.TheVariants as clean_ends
 use Rattle.job_model.specs.declared.ends.OpEnd.TheVariants as ends
 
--- the commit ended behind its check, if there was one, as is due of a job alone by the task that was missing, the first of its requests
--- that wore out, and the picks
+-- The commit went on after its check, if it had one. It ended as is due of a job alone, by the missing task, the first of its requests that
+-- ran out of retries, and the picks.
 pub record EndedBehind (w : Script) (s : Seen) (d : Doing) (es : List Entry) (e : CommitEnd) : Type 0 where
-  -- the entries of the check come first, and found nothing
+  -- The entries of the check come first, and it found nothing.
   pub checks : List Entry
   pub own : List Entry
   pub entries : es ≡ checks ++ own
   pub cleared : IsCleared w.mode d.reports.missing w d.reports.attempts checks
   pub ended : CommitEnded w s d.reports.missing own e
-  -- each answered read of a task's set gave one, and a completion was refused only where an earlier send of it was lost
+  -- Each answered read of a task's set gave one, and a completion was refused only if an earlier send of it was lost.
   pub served : CommitServed w own
 
--- the driver's commit, want of memory aside
+-- How the driver's commit ends, unless it ran out of memory.
 abbrev pub SharedCommits : Script → Content → List Entry → List EventEnd → Type 0
 SharedCommits w opening journal xs = (j : ℕ) (d : Doing) (e : CommitEnd) (es : List Entry)
     → EndedIn w xs journal j Driver d (ends.Commit e) es
     → (e ≡ commit_ends.NoMemory) ⊎ EndedBehind w (seen_until w opening journal xs (j + 1)) d es e
 
--- a commit that its check ended, want of memory aside: the mode is fail, no task was missing, and the check ended so by its entries
+-- How a commit ends that its check ended, unless that ran out of memory: the mode is fail, no task was missing, and the check ended so by
+-- its entries.
 abbrev pub SharedChecks : Script → List Entry → List EventEnd → Type 0
 SharedChecks w journal xs = (j : ℕ) (d : Doing) (e : CheckEnd) (es : List Entry) → EndedIn w xs journal j Driver d (ends.Check e) es
     → (e ≡ check_ends.NoMemory) ⊎ ((w.mode ≡ Fail) × (d.reports.missing ≡ None) × (worn : Option Request) × WornFirst w.retries es worn
     × CheckIs w es worn e)
 
--- the driver's abort or clean; where it is Done and none of the job's attempts has sent since it began, no upload lives that was named
--- then, and nothing stands in the job's directory
+-- How the driver's abort or clean ends. If it is Done and none of the job's attempts has sent since it began, no upload lives that the
+-- job's records or sets named then, and nothing is left in the job's directory.
 abbrev pub SharedCleans : Script → Content → List Entry → List EventEnd → Type 0
 SharedCleans w opening journal xs = (j : ℕ) (d : Doing) (e : CleanEnd) (es : List Entry) → EndedIn w xs journal j Driver d (ends.Clean e) es
     → ((e ≡ clean_ends.NoMemory) ⊎ ((worn : Option Request) × WornFirst w.retries es worn × CleanIs worn e))
@@ -63,13 +64,13 @@ SharedCleans w opening journal xs = (j : ℕ) (d : Doing) (e : CleanEnd) (es : L
     → SparingLeaves w (moment opening journal (length (before d.since journal)))
     (moment opening journal (length (until (j + 1) journal))))
 
--- how the driver's operations end whatever strangers send
+-- How the driver's operations end, whatever strangers send.
 pub record SharedKept (g : Setting) (opening : Content) (journal : List Entry) (xs : List EventEnd) : Type 0 where
   pub commits : SharedCommits g.script opening journal xs
   pub checks : SharedChecks g.script journal xs
   pub cleans : SharedCleans g.script opening journal xs
 
--- between events all of it holds of what has happened
+-- At each point between two events of a run at a shared destination, all of this holds.
 abbrev pub RunsAreKeptShared : Type 0
 RunsAreKeptShared = (g : Setting) → (opening : Content) (x : Play) → IsLegal g.script → IsOpening g opening → Reachable g opening x
     → x.now ≡ None → g.shared ≡ true → SharedKept g opening x.journal x.ends

@@ -1,4 +1,4 @@
--- What is printed of two scripts and an order is read as the same again.
+-- Reading the printed text of two scripts and an order gives the same two scripts and order.
 use Rattle.basics.proofs.Bools.{contrary}
 use Rattle.basics.proofs.Reading.{parted}
 use Rattle.basics.proofs.Round.{decimal_word, lines-text_of, number_in-decimal, words-joined}
@@ -42,13 +42,13 @@ use Rattle.job_script.specs.declared.draft.Draft as script_draft
 use Rattle.job_script.specs.declared.fault.ScriptFault.TheVariants as script_fault
 use Rattle.job_script.specs.Script as script
 
--- ---- texts of lines none of which parts
+-- ---- texts without a separator line
 
--- another line than =====
+-- Holds if the line is not =====.
 abbrev IsOther : List ℕ → Type 0
 IsOther line = is_parting line ≡ false
 
--- a text ends behind an LF; where it is empty, what stands before it does so
+-- True if the text ends in LF; for an empty text it is `before`.
 abbrev is_closed : Bool → List ℕ → Bool
 is_closed before [] = before
 is_closed before (x ∷ xs) = is_closed (x == 10) xs
@@ -62,7 +62,7 @@ closed_text [] = refl
 closed_text (l ∷ ls) = closed-append true (ended l) (text_of ls) ∙ ap (λ (b : Bool). is_closed b (text_of ls))
     (closed-append true (joined l) (10 ∷ [])) ∙ closed_text ls
 
--- going over such lines
+-- The search passes over such lines.
 passed : (seen line text rest : List ℕ) (b : Bool) → (b ≡ true → line ≡ []) → is_closed b text ≡ true
     → AllByRecursion IsOther (lines_from line text) → cut_from seen line (text ++ rest) ≡ cut_from (seen ++ (line ++ text)) [] rest
 unfolding cut_from lines_from
@@ -85,12 +85,12 @@ passed seen line (x ∷ xs) rest b e c a = by (x == 10) refl (passed (seen ++ (l
     by false q lf more = rw q (more (rw q at c) (rw q at a) ∙ ap (λ (l : List ℕ). cut_from (seen ++ l) [] rest)
         (append_assoc line (x ∷ []) xs))
 
--- they stand before the first parting line
+-- The lines come before the first separator line.
 cut_behind : (text rest : List ℕ) → is_closed true text ≡ true → AllByRecursion IsOther (lines_of text)
     → cut (text ++ (parting_text ++ rest)) ≡ Some (text, rest)
 cut_behind text rest c a = passed [] [] text (parting_text ++ rest) true (λ t. refl) c a ∙ passed_line text [] (codes "=====") rest refl
 
--- or there is none
+-- There is no separator line.
 cut_none : (text : List ℕ) → is_closed true text ≡ true → AllByRecursion IsOther (lines_of text) → cut text ≡ None
 unfolding cut_from
 cut_none text c a = ap cut (sym (append-nil text)) ∙ passed [] [] text [] true (λ t. refl) c a
@@ -104,7 +104,7 @@ three_again one two three c1 a1 c2 a2 c3 a3 = rw (
   cut_none three c3 a3,
 ) refl
 
--- ---- a parting line is no line of a script
+-- ---- no line of a script is a separator line
 
 stops : (n : ℕ) (d e : script_draft.Draft) → script.line_at n d (codes "=====") ≡ Ok e → ⊥
 unfolding script.words_at parts_from
@@ -160,7 +160,7 @@ unfolding turn_at
 line_again n d turn is enough = rw (shown turn.side (decimal turn.count), turn_again turn is, le-leb turn.count (left d turn.side) enough)
     refl
 
--- the turns that are left ask for no more events than are left
+-- Holds if the turns that are left ask for no more events than are left.
 record Enough (d : Draft) (turn : TwinTurn) (order : List TwinTurn) : Type 0 where
   pub here : turn.count ≤ left d turn.side
   pub first : sum_by first_count order ≤ (with_turn d turn).first
@@ -177,7 +177,7 @@ enough d Second count order h k =
     let b = sum_by-cons second_count (turn_by Second count) order in
     record { here = omega (arith, b, k); first = omega (arith, a, h); second = omega (arith, b, k) }
 
--- the turns behind those before
+-- Holds if reading these turns adds them to the draft.
 record Again (n : ℕ) (d : Draft) (order : List TwinTurn) : Type 0 where
   pub draft : Draft
   pub read : lines_at n d (map joined (map turn_line order)) ≡ Ok draft
@@ -223,7 +223,7 @@ other_turns (turn ∷ order) = (other_turn turn.side (decimal turn.count), other
 order_others : (order : List TwinTurn) → AllByRecursion IsTurn order → AllByRecursion IsOther (lines_of (order_text order))
 order_others order is = subst (AllByRecursion IsOther) (sym (order_lines order is)) (other_turns order)
 
--- ---- two scripts that may run as twins
+-- ---- two scripts that may run at one destination
 
 same_dest : (p q : Path) → p ≡ q → is_same_dest p q ≡ true
 same_dest p q e = rw (
@@ -256,7 +256,7 @@ parts_again : (t : Twins) → AreTwins t → script_of (script_text t.first) ≡
 unfolding with_first with_second
 parts_again t h a b = rw (a, b) (paired_again t h)
 
--- the text of two scripts and an order is read as the same
+-- Reading the text of two scripts and an order gives the same.
 pub twins_again : (t : Twins) → AreTwins t → IsLegal t.first → IsLegal t.second → fin.len t.first.fates ≤ 10000
     → length (twins_text t) ≤ 67108864 → twins_of (twins_text t) ≡ Ok t
 unfolding twins_text twins_of
@@ -277,12 +277,12 @@ twins_again t h first second few short =
     )
     (parts_again t h a b)
 
--- ---- what is written part by part
+-- ---- the parts that are written one by one
 
 four : (a b c d : List ℕ) → ((a ++ b) ++ c) ++ d ≡ a ++ (b ++ (c ++ d))
 four a b c d = simp append_assoc
 
--- is the text of the whole
+-- The parts together are the whole text.
 pub twins_is : (t s : Twins) (turns : List TwinTurn) (none one two three all : List ℕ) → s ≡ t → turns ≡ s.order → none ≡ []
     → one ≡ none ++ script_text s.first → two ≡ one ++ parting_text → three ≡ two ++ script_text s.second
     → all ≡ three ++ (parting_text ++ order_text turns)

@@ -1,4 +1,4 @@
--- Going over lines to the first parting line.
+-- The search over lines for the first separator line.
 use Rattle.basics.proofs.Bools.{not_so}
 use Rattle.basics.specs.Lines.{is_inside, without_return}
 use Rattle.basics.specs.Parts.{parts_of}
@@ -13,7 +13,7 @@ use Rattle.std.specs.Prelude.{None, Some, if◌then◌else◌}
 use Rattle.twin_script.proofs.Lines.{cut_at, lone_at}
 use Rattle.twin_script.specs.Cutting.{cut, cut_from, is_parting}
 
--- a whole line: it parts, or it stands before the first parting line
+-- A whole line is the separator, or it comes before the first separator line.
 pub passed_line : (lines line front rest : List ℕ) → list_all is_inside front ≡ true
     → cut_from lines line (front ++ 10 ∷ rest) ≡ (if is_parting (without_return (line ++ front)) then Some (lines, rest) else cut_from
     (lines ++ ((line ++ front) ++ 10 ∷ [])) [] rest)
@@ -26,7 +26,7 @@ passed_line lines line (x ∷ front) rest h =
     (passed_line lines (line ++ x ∷ []) front rest p.1 ∙ ap (λ (l : List ℕ). if is_parting (without_return l) then Some (lines, rest) else
     cut_from (lines ++ (l ++ 10 ∷ [])) [] rest) (append_assoc line (x ∷ []) front))
 
--- the last line, without an LF
+-- The last line, without an LF.
 pub last_line : (lines line front : List ℕ) → list_all is_inside front ≡ true
     → cut_from lines line front ≡ (if is_parting (line ++ front) then Some (lines, []) else None)
 unfolding cut_from
@@ -36,7 +36,7 @@ last_line lines line (x ∷ front) h =
     rw (not_so (x == 10) p.0) (last_line lines (line ++ x ∷ []) front p.1 ∙ ap
     (λ (l : List ℕ). if is_parting l then Some (lines, []) else None) (append_assoc line (x ∷ []) front))
 
--- past a line and its LF
+-- Holds if the search moves past a line and its LF.
 pub record Moved (bytes line rest : List ℕ) (at next : ℕ) : Type 0 where
   pub before : take next bytes ≡ take at bytes ++ (line ++ 10 ∷ [])
   pub behind : drop next bytes ≡ rest
@@ -62,7 +62,7 @@ moved bytes line rest at next fits e is =
       within = omega (arith, long, ap length whole, length-append seen rest);
     }
 
--- what the search for a parting line answers at a line that begins behind `front`, which is the bytes before `at`
+-- The result of the search at a line that begins after `front`, which has the bytes before `at`.
 module _ (bytes front behind line : List ℕ) (at : ℕ) (f : front ≡ take at bytes) (b : behind ≡ drop at bytes)
     (so_far : cut_from (take at bytes) [] (drop at bytes) ≡ cut bytes) where
   from_here : cut_from front [] behind ≡ cut bytes
@@ -79,7 +79,7 @@ module _ (bytes front behind line : List ℕ) (at : ℕ) (f : front ≡ take at 
   pub last_none : parts_of 10 behind ≡ line ∷ [] → is_parting line ≡ false → None ≡ cut bytes
   last_none e is = rw is at (last_is e)
 
-  -- a whole line parts, or the search goes on behind it
+  -- A whole line is the separator, or the search goes on after it.
   line_is : (rest : List ℕ) → parts_of 10 behind ≡ line ∷ parts_of 10 rest
       → (if is_parting (without_return line) then Some (take at bytes, rest) else cut_from (take at bytes ++ (line ++ 10 ∷ [])) [] rest) ≡
       cut bytes
@@ -97,7 +97,7 @@ module _ (bytes front behind line : List ℕ) (at : ℕ) (f : front ≡ take at 
       let m = moved bytes line rest at next fits (sym b ∙ (cut_at 10 behind line rest e).whole) is_next in
       (m.within, rw (m.before, m.behind) (rw is at (line_is rest e)))
 
--- where no line is left
+-- No line is left.
 pub none_parts : (bytes : List ℕ) (at : ℕ) → length bytes ≤ at → cut_from (take at bytes) [] (drop at bytes) ≡ cut bytes → None ≡ cut bytes
 unfolding cut_from
 none_parts bytes at past so_far = rw (drop_of_length-le bytes past) at so_far

@@ -21,7 +21,7 @@ use Rattle.std.specs.Str.{IsUtf8}
 other : (s x : ℕ) → (x == s) ≡ false → is_other s x ≡ true
 other s x e = rw e refl
 
--- the first part has no separator
+-- The first part has no separator.
 head_from : (s : ℕ) (front text part : List ℕ) (parts : List (List ℕ)) → list_all (is_other s) front ≡ true
     → parts_from s front text ≡ part ∷ parts → list_all (is_other s) part ≡ true
 unfolding parts_from
@@ -33,12 +33,12 @@ head_from s front (x ∷ xs) part parts h e = by (x == s) refl (head_from s (fro
     by true q more = let k = rw q at e in let same : front ≡ part = cc in subst (λ (l : List ℕ). list_all (is_other s) l ≡ true) same h
     by false q more = more (list_all-append (is_other s) front (x ∷ []) ∙ rw (h, q) refl) (rw q at e)
 
--- a text by its first part and those behind it
+-- A text is its first part and the others.
 joined_parts : (s : ℕ) (part : List ℕ) (w : List ℕ) (ws : List (List ℕ)) (parts : List (List ℕ)) → parts ≡ w ∷ ws
     → join_with_byte s (part ∷ parts) ≡ part ++ s ∷ join_with_byte s parts
 joined_parts s part w ws parts e = rw e refl
 
--- a text that was cut at its first separator
+-- Holds if the text is cut at its first separator.
 pub record Cut (s : ℕ) (text part rest : List ℕ) : Type 0 where
   pub whole : text ≡ part ++ s ∷ rest
   pub inside : list_all (is_other s) part ≡ true
@@ -52,7 +52,7 @@ cut_at s text part rest e =
       inside = head_from s [] text part (parts_of s rest) refl e;
     }
 
--- a text without a separator
+-- Holds if the text has no separator.
 pub record Lone (s : ℕ) (text part : List ℕ) : Type 0 where
   pub whole : text ≡ part
   pub inside : list_all (is_other s) text ≡ true
@@ -65,12 +65,12 @@ lone_at s text part e =
       inside = subst (λ (l : List ℕ). list_all (is_other s) l ≡ true) (sym whole) (head_from s [] text part [] refl e);
     }
 
--- the first line
+-- The first line.
 pub line_at_lf : (text part rest : List ℕ) → parts_of 10 text ≡ part ∷ parts_of 10 rest
     → lines_of text ≡ without_return part ∷ lines_of rest
 line_at_lf text part rest e = let c = cut_at 10 text part rest e in ap lines_of c.whole ∙ first_from [] part rest c.inside
 
--- the last line, without an LF
+-- The last line, without an LF.
 pub line_at_end : (text part : List ℕ) → 0 < length text → parts_of 10 text ≡ part ∷ [] → lines_of text ≡ part ∷ lines_of []
 line_at_end text part some e =
     let c = lone_at 10 text part e in
@@ -79,7 +79,7 @@ line_at_end text part some e =
     last_line text (length text) some none (ap (list_all is_inside) all ∙ c.inside)
     ∙ ap (λ (l : List ℕ). l ∷ lines_of (drop (length text) text)) (all ∙ c.whole) ∙ ap (λ (l : List ℕ). part ∷ lines_of l) none
 
--- bytes that are no text write no number
+-- Bytes that are no text write no number.
 pub no_number : (low high : ℕ) (text : List ℕ) → ¬ (IsUtf8 text) → number_in low high text ≡ None
 no_number low high text n = by (nat_le 1 (length text) && nat_le (length text) 18 && list_all is_digit text) refl
   where

@@ -1,4 +1,4 @@
--- What an order that was read keeps: each turn's count, and that no side is asked for more events than it has.
+-- The bounds of an order that was read: the count of each turn, and that no side is asked for more events than it has.
 use Rattle.basics.proofs.Reading.{checked, needed, parted, same_ok}
 use Rattle.basics.proofs.Split.{none_left}
 use Rattle.basics.specs.Lines.{lines_from, lines_of}
@@ -24,7 +24,7 @@ use Rattle.twin_script.specs.declared.turns.TwinTurn.{TwinTurn}
 mapped : (side : Side) (o : Option ℕ) (turn : TwinTurn) → option_map (turn_by side) o ≡ Some turn → o ≡ Some turn.count
 mapped side o turn h = grind arith
 
--- a line's turn asks for 1 to 100,000 events
+-- The turn of a line has 1 to 100,000 events.
 turn_bounds : (line : List ℕ) (turn : TwinTurn) → turn_of line ≡ Some turn → IsTurn turn
 turn_bounds line turn h =
     option_and_then_some turn_in (two (words_of line)) turn h (λ words _ in_words.
@@ -32,7 +32,7 @@ turn_bounds line turn h =
     (λ side _ by_side.
     number_bounds 1 100000 words.1 turn.count (mapped side (number_in 1 100000 words.1) turn by_side)))
 
--- the bounds of what the lines so far said, of scripts of so many events
+-- The bounds of the draft after the lines so far, for scripts with these numbers of events.
 pub record IsSound (first second : ℕ) (d : Draft) : Type 0 where
   pub turns : AllByRecursion IsTurn d.turns
   pub first_sum : sum_by first_count d.turns + d.first ≡ first
@@ -74,13 +74,13 @@ lines_sound first second n d e (line ∷ lines) h s =
     let a = parted (line_at n d line) _ _ h in
     lines_sound first second (n + 1) a.value e lines a.next (line_sound first second (length line == 0) n d a.value line a.first s)
 
--- the bounds of an order over scripts of so many events
+-- The bounds of an order for scripts with these numbers of events.
 pub record IsOrder (first second : ℕ) (order : List TwinTurn) : Type 0 where
   pub turns : AllByRecursion IsTurn order
   pub first_events : sum_by first_count order ≤ first
   pub second_events : sum_by second_count order ≤ second
 
--- an order that was read
+-- An order that was read keeps the bounds.
 pub order_sound : (first second : ℕ) (bytes : List ℕ) (turns : List TwinTurn) → order_of first second bytes ≡ Ok turns
     → IsOrder first second turns
 order_sound first second bytes turns h =
@@ -90,7 +90,7 @@ order_sound first second bytes turns h =
     subst (IsOrder first second) (same_ok a.value.turns turns a.next)
     (record { turns = s.turns; first_events = omega (arith, s.first_sum); second_events = omega (arith, s.second_sum) })
 
--- where no line is left
+-- No line is left.
 pub at_end : (n : ℕ) (d : Draft) (rest : List ℕ) {b : Bool} → b ≡ (length rest == 0) → b ≡ true → lines_at n d (lines_of rest) ≡ Ok d
 unfolding lines_at lines_from
 at_end n d rest is h = rw (none_left rest rest refl is h) refl

@@ -1,4 +1,4 @@
--- Two scripts that may run as twins, and the faults of their parts and of their order.
+-- Two scripts that may run at one destination, and the faults of their parts and of their order.
 use Rattle.basics.proofs.Bools.{not_so}
 use Rattle.basics.proofs.Reading.{checked, parted, unless_more}
 use Rattle.basics.specs.Reading.{check, ◌>>=◌}
@@ -27,19 +27,19 @@ use Rattle.basics.specs.Reading as reading
 use Rattle.job_script.specs.declared.fault.ScriptFault.TheVariants as script_fault
 use Rattle.twin_script.specs.declared.fault.TwinFault.TheVariants as fault
 
--- no sending has a fate
+-- No send has a fate.
 pub no_fates : (m : FateMap) → IsFirstFrom m 0 None → map.len m ≡ 0
 no_fates m none = ap map.len (same_map nat_cmp_total nat_cmp-IsAntisymmetric m map.empty
     (λ k. none k (omega arith) ∙ sym (get-empty nat_cmp k))) ∙ len-empty nat_cmp Fate
 
--- the answer of `fit`, by its tests of what the scripts hold
+-- The result of `fit`, by its tests of the two scripts.
 pub fit_by : (first second p q : Script) (a b r l : Bool) → p ≡ first → q ≡ second → a ≡ bytes_eq p.job q.job
     → b ≡ is_same_dest p.dest q.dest → r ≡ (is_replace p.mode || is_replace q.mode) → l ≡ names_fate q.fates
     → told a b r l ≡ fit first second
 unfolding fit
 fit_by first second p q a b r l ep eq ea eb er el = (λ i. told (ea i) (eb i) (er i) (el i)) ∙ (λ i. fit (ep i) (eq i))
 
--- whether a sending has a fate
+-- The test whether a send has a fate.
 pub fate_named : (m : FateMap) (o : Option (ℕ × Fate)) → IsFirstFrom m 0 o → is_some o ≡ names_fate m
 fate_named m None h = sym (ap (λ (n : ℕ). not (n == 0)) (no_fates m h))
 fate_named m (Some s) h = (elim (map.len m == 0) as (λ b. (map.len m == 0) ≡ b → true ≡ not b) [
@@ -54,7 +54,7 @@ other_first e h = grind arith
 pub other_second : (e : ScriptFault) → (e ≡ script_fault.NoMemory → ⊥) → fault.Second e ≡ second_fault e
 other_second e h = grind arith
 
--- what scripts that may run as twins keep
+-- The rules that two scripts keep if they may run at one destination.
 pub record AreFit (first second : Script) : Type 0 where
   pub ids : first.job ≢ second.job
   pub dest : first.dest ≡ second.dest
@@ -84,7 +84,7 @@ fit_sound first second u h =
       lossless = empty_of_len second.fates (eqb-true (map.len second.fates) 0 (not-false (map.len second.fates == 0) (not_so _ d)));
     }
 
--- what was read runs as twins
+-- Scripts and turns that were read may run at one destination.
 pub turns_sound : (first second : Script) (bytes : List ℕ) (order : List TwinTurn) → turns_of first second bytes ≡ Ok order
     → AreTwins (record { first = first; second = second; order = order })
 unfolding turns_of
@@ -94,21 +94,21 @@ turns_sound first second bytes order h =
     let orders = order_sound (length first.events) (length second.events) bytes order a.next in
     assumption (fits, orders)
 
--- turns that are none
+-- If the turns fail, so does the whole.
 pub turns_end : (first second : Script) (order : List ℕ) (e : TwinFault) → reading.Fails wanting e (turns_of first second order)
     → reading.Fails wanting e (paired first second order)
 unfolding paired
 turns_end first second order e h = unless_more (wanting e) (λ is. ap
     (λ r. r >>= λ turns. Ok (record { first = first; second = second; order = turns })) is) h
 
--- a fault of the first part; want of memory is told as that of the whole
+-- A fault of the first part. NoMemory is reported as that of the whole.
 pub first_fails : (e : ScriptFault) (f : TwinFault) (read : Result Script ScriptFault) → f ≡ first_fault e
     → reading.Fails script_wanting e read
     → record { exact : reading.Fails wanting f (within fault.First read); told : is_told f ≡ true }
 first_fails script_fault.NoMemory f read is h = rw is (record { exact = tt; told = refl })
 first_fails e f read is h = rw is (record { exact = ap (within fault.First) h; told = refl })
 
--- a fault of the second part
+-- A fault of the second part. NoMemory is reported as that of the whole.
 pub second_fails : (e : ScriptFault) (f : TwinFault) (read : Result Script ScriptFault) → f ≡ second_fault e
     → reading.Fails script_wanting e read
     → record { exact : reading.Fails wanting f (within fault.Second read); told : is_told f ≡ true }

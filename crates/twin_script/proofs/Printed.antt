@@ -1,4 +1,4 @@
--- A script's printed text is UTF-8.
+-- The printed text of a script is UTF-8.
 use Rattle.basics.proofs.EntriesFrom.{find_head, find_other, not_found}
 use Rattle.basics.proofs.Tree.{map_sorted}
 use Rattle.basics.specs.Words.{ended, text_of}
@@ -35,7 +35,7 @@ lines_utf8 ls h = IsUtf8-from_is_utf8 (text_of ls) (printed_utf8 ls h)
 both_utf8 : (xs ys : List Line) → IsUtf8 (text_of xs) → IsUtf8 (text_of ys) → IsUtf8 (text_of (xs ++ ys))
 both_utf8 xs ys h k = subst IsUtf8 (sym (flat_map-append ended xs ys)) (IsUtf8-append (text_of xs) (text_of ys) h k)
 
--- what holds of all that is found holds of each entry
+-- A property of all keys that are found holds for each entry.
 each_found : (P : ℕ → Type 0) (es : List (ℕ × Fate)) → IsStrictlySortedBy nat_cmp (keys_of es)
     → ((k : ℕ) (f : Fate) → find nat_cmp k es ≡ Some f → P k) → AllByRecursion (λ e. P e.0) es
 each_found P [] s h = tt
@@ -64,7 +64,7 @@ losses_utf8 : (m : FateMap) → AreFates m → IsUtf8 (text_of (loss_lines m))
 losses_utf8 m h = lines_utf8 (loss_lines m) (losses_printed (fin.entries m) (each_found (λ k. k ≤ 1000000000) (fin.entries m)
     (map_sorted nat_cmp m) (λ k f found. (h k f (fin.get-entries m k ∙ found)).1)))
 
--- the text of a script is UTF-8, however many sendings have a fate
+-- The text of a script is UTF-8, however many sends have a fate.
 pub script_utf8 : (s : Script) → IsLegal s → IsUtf8 (script_text s)
 unfolding script_text
 script_utf8 s h =

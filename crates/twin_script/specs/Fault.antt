@@ -1,4 +1,4 @@
--- Faults by their numbers and lines, and what a call returned of what reading gives.
+-- The numbers and lines of faults, and how a call's result relates to the definition of reading.
 use Rattle.job_script.specs.declared.fault.ScriptFault.{ScriptFault}
 use Rattle.std.specs.Prelude.{Bool, Result, false, true, ℕ, ⊤}
 use Rattle.twin_script.specs.declared.fault.TwinFault.{TwinFault}
@@ -8,7 +8,7 @@ use Rattle.basics.specs.Reading as reading
 use Rattle.job_script.specs.Fault as script
 use Rattle.job_script.specs.declared.fault.ScriptFault.TheVariants as script_fault
 
--- a fault's number
+-- The number of a fault.
 abbrev pub number_of : TwinFault → ℕ
 number_of NotThree = 1
 number_of (First fault) = 2
@@ -21,38 +21,38 @@ number_of (BadOrder n) = 8
 number_of TooLarge = 9
 number_of NoMemory = 10
 
--- a fault's line in its part, 0 where it has none
+-- The line of a fault in its part, or 0 if it has none.
 abbrev pub line_of : TwinFault → ℕ
 line_of (First fault) = script.line_of fault
 line_of (Second fault) = script.line_of fault
 line_of (BadOrder n) = n
 line_of fault = 0
 
--- want of memory
+-- True if memory ran out.
 abbrev pub wanting : TwinFault → Bool
 wanting NoMemory = true
 wanting fault = false
 
--- a fault of the first part, whose want of memory is that of the whole
+-- The fault of the first part. NoMemory is not the fault of a part.
 abbrev pub first_fault : ScriptFault → TwinFault
 first_fault script_fault.NoMemory = NoMemory
 first_fault fault = First fault
 
--- a fault of the second part, whose want of memory is that of the whole
+-- The fault of the second part. NoMemory is not the fault of a part.
 abbrev pub second_fault : ScriptFault → TwinFault
 second_fault script_fault.NoMemory = NoMemory
 second_fault fault = Second fault
 
--- want of memory is not told as the fault of a part
+-- True unless the fault reports NoMemory as that of a part.
 abbrev pub is_told : TwinFault → Bool
 is_told (First script_fault.NoMemory) = false
 is_told (Second script_fault.NoMemory) = false
 is_told fault = true
 
--- what a call returned is what reading gives, unless memory ran out
+-- Holds if a call returned the result of reading, unless memory ran out.
 abbrev pub Gives : {A : Type 0} → Result A TwinFault → Result A TwinFault → Type 0
 Gives result read = reading.Gives wanting result read
 
--- what a call changed its argument to is what reading gives, unless memory ran out
+-- Holds if a call changed its argument to the result of reading, unless memory ran out.
 abbrev pub Makes : {A : Type 0} → Result ⊤ TwinFault → A → Result A TwinFault → Type 0
 Makes result new read = reading.Makes wanting result new read

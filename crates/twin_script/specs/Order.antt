@@ -1,4 +1,4 @@
--- What the lines of an order say.
+-- The lines of an order.
 use Rattle.basics.specs.Lines.{lines_of}
 use Rattle.basics.specs.Numbers.{number_in}
 use Rattle.basics.specs.Reading.{check, need, ◌>>=◌}
@@ -14,58 +14,58 @@ use Rattle.twin_script.specs.declared.turns.Side.{Side}
 use Rattle.twin_script.specs.declared.turns.Side.TheVariants.{First, Second}
 use Rattle.twin_script.specs.declared.turns.TwinTurn.{TwinTurn}
 
--- the words of the sides
+-- The words of the sides.
 abbrev pub sides : Names Side
 sides = (codes "a", First) ∷ (codes "b", Second) ∷ []
 
--- so many events of a side
+-- A turn of this many events of a side.
 abbrev pub turn_by : Side → ℕ → TwinTurn
 turn_by side count = record { side = side; count = count }
 
--- the turn of a side's word and a number from 1 to 100,000
+-- The turn of a side's word and a number from 1 to 100,000.
 abbrev pub turn_in : List ℕ × List ℕ → Option TwinTurn
 turn_in words = option_and_then (λ side. option_map (turn_by side) (number_in 1 100000 words.1)) (named sides words.0)
 
--- the turn of a line of two words
+-- The turn of a line of two words.
 abbrev pub turn_of : List ℕ → Option TwinTurn
 turn_of line = option_and_then turn_in (two (words_of line))
 
--- how many events are left of a side
+-- The number of events that a side has left.
 abbrev pub left : Draft → Side → ℕ
 left d First = d.first
 left d Second = d.second
 
--- so many events of a side are played
+-- The draft after n events of a side have run.
 abbrev pub played : Draft → Side → ℕ → Draft
 played d First n = record d { first = d.first - n }
 played d Second n = record d { second = d.second - n }
 
--- one more turn
+-- The draft with one more turn.
 abbrev pub with_turn : Draft → TwinTurn → Draft
 with_turn d turn = record (played d turn.side turn.count) { turns = d.turns ++ turn ∷ [] }
 
--- a line of a turn that asks for no more events than are left
+-- The draft after a line of a turn, which may ask for no more events than are left.
 unfoldable pub turn_at : ℕ → Draft → List ℕ → Result Draft TwinFault
 turn_at n d line = do
   turn ← need (turn_of line) (BadOrder n)
   enough ← check (nat_le turn.count (left d turn.side)) (BadOrder n)
   Ok (with_turn d turn)
 
--- what the n-th line adds; an empty line adds nothing
+-- The draft after the n-th line. An empty line adds nothing.
 abbrev pub line_at : ℕ → Draft → List ℕ → Result Draft TwinFault
 line_at n d line = if length line == 0 then Ok d else turn_at n d line
 
--- the lines from the n-th on, after those before; the first faulty one gives the fault
+-- The draft after these lines, numbered from n on, or the fault of the first faulty one.
 unfoldable pub lines_at : ℕ → Draft → List (List ℕ) → Result Draft TwinFault
 lines_at n d [] = Ok d
 lines_at n d (line ∷ lines) = do
   next ← line_at n d line
   lines_at (n + 1) next lines
 
--- before the first line, over scripts of so many events
+-- The draft before the first line, for scripts with these numbers of events.
 abbrev pub nothing : ℕ → ℕ → Draft
 nothing first second = record { turns = []; first = first; second = second }
 
--- the turns of an order over scripts of so many events
+-- The turns of an order, for scripts with these numbers of events.
 abbrev pub order_of : ℕ → ℕ → List ℕ → Result (List TwinTurn) TwinFault
 order_of first second bytes = lines_at 1 (nothing first second) (lines_of bytes) >>= λ d. Ok d.turns

@@ -1,4 +1,4 @@
--- The text that two scripts and an order are printed as.
+-- The text of two scripts and an order as it is printed.
 use Rattle.basics.specs.Words.{ended, text_of}
 use Rattle.job_script.specs.Kinds.{Line}
 use Rattle.job_script.specs.Print.{script_text}
@@ -9,19 +9,19 @@ use Rattle.twin_script.specs.declared.turns.Side.{Side}
 use Rattle.twin_script.specs.declared.turns.Side.TheVariants.{First, Second}
 use Rattle.twin_script.specs.declared.turns.TwinTurn.{TwinTurn}
 
--- the word of a side
+-- The word of a side.
 abbrev pub side_word : Side → List ℕ
 side_word First = codes "a"
 side_word Second = codes "b"
 
--- a N, or b N
+-- The line `a N` or `b N`.
 abbrev pub turn_line : TwinTurn → Line
 turn_line turn = side_word turn.side ∷ decimal turn.count ∷ []
 
--- the line =====, with its LF
+-- The line ===== with its LF.
 abbrev pub parting_text : List ℕ
 parting_text = ended (codes "=====" ∷ [])
 
--- the first script, a parting line, the second script, a parting line, and a line for each turn
+-- The text: the first script, a separator line, the second script, a separator line, and a line for each turn.
 unfoldable pub twins_text : Twins → List ℕ
 twins_text t = script_text t.first ++ (parting_text ++ (script_text t.second ++ (parting_text ++ text_of (map turn_line t.order))))

@@ -1,4 +1,4 @@
--- What the bytes of two scripts and an order mean.
+-- The two scripts and the order that bytes mean.
 use Rattle.basics.specs.Reading.{check, need, ◌>>=◌}
 use Rattle.job_model.specs.JobScript.{Script}
 use Rattle.job_script.specs.Script.{script_of}
@@ -15,20 +15,20 @@ use Rattle.twin_script.specs.declared.turns.TwinTurn.{TwinTurn}
 use Rattle.std.specs.FinMap as map
 use Rattle.twin_script.specs.declared.fault.TwinFault.TheVariants as fault
 
--- a script of a part, or the part's fault
+-- The script of a part, or the part's fault.
 abbrev pub within : (ScriptFault → TwinFault) → Result Script ScriptFault → Result Script TwinFault
 within part (Ok script) = Ok script
 within part (Err fault) = Err (part fault)
 
--- two destinations of one bucket and one key
+-- True if two destinations have the same bucket and key.
 abbrev pub is_same_dest : Path → Path → Bool
 is_same_dest p q = bytes_eq p.bucket q.bucket && bytes_eq p.key q.key
 
--- some sending has a fate
+-- True if some send has a fate.
 abbrev pub names_fate : FateMap → Bool
 names_fate fates = not (map.len fates == 0)
 
--- the first fault of two scripts by what was found of them
+-- The first fault of two scripts, by these findings.
 abbrev pub told : Bool → Bool → Bool → Bool → Result ⊤ TwinFault
 told same_job same_dest replaces loses = do
   ids ← check (not same_job) fault.SameJob
@@ -36,32 +36,32 @@ told same_job same_dest replaces loses = do
   keep ← check (not replaces) fault.ReplaceMode
   check (not loses) fault.SecondLoss
 
--- two scripts may run as twins
+-- The first fault of two scripts that may not run at one destination.
 unfoldable pub fit : Script → Script → Result ⊤ TwinFault
 fit first second = told (bytes_eq first.job second.job) (is_same_dest first.dest second.dest)
     (is_replace first.mode || is_replace second.mode) (names_fate second.fates)
 
--- the turns of an order over two scripts that may run as twins
+-- The turns of an order of two scripts, if these may run at one destination.
 unfoldable pub turns_of : Script → Script → List ℕ → Result (List TwinTurn) TwinFault
 turns_of first second order = do
   twins ← fit first second
   order_of (length first.events) (length second.events) order
 
--- two scripts and an order, where the scripts may run as twins
+-- Two scripts and an order, if the scripts may run at one destination.
 unfoldable pub paired : Script → Script → List ℕ → Result Twins TwinFault
 paired first second order = do
   turns ← turns_of first second order
   Ok (record { first = first; second = second; order = turns })
 
--- a script with the second part and the third
+-- The result of the first script, the second part and the third.
 unfoldable pub with_second : Script → List ℕ → List ℕ → Result Twins TwinFault
 with_second first part order = within fault.Second (script_of part) >>= λ second. paired first second order
 
--- the three parts
+-- The result of the three parts.
 unfoldable pub with_first : List ℕ → List ℕ → List ℕ → Result Twins TwinFault
 with_first part behind order = within fault.First (script_of part) >>= λ first. with_second first behind order
 
--- what the bytes mean as two scripts and an order, or the first fault
+-- The two scripts and the order that the bytes mean, or the first fault.
 unfoldable pub twins_of : List ℕ → Result Twins TwinFault
 twins_of bytes = do
   small ← check (nat_le (length bytes) MOST_SCRIPT_BYTES) fault.TooLarge

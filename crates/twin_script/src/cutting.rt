@@ -1,4 +1,5 @@
-//! The parts of some bytes between two parting lines, and their lines. The bytes need not be text.
+//! The parts of an input between two separator lines, and the lines of a part. The bytes need not
+//! be text.
 
 ghost use Rattle.std.specs.Prelude.{◌≡◌, ◌<◌, ◌∷◌, length, option_map};
 ghost use Rattle.basics.specs.Lines.{lines_of, without_return};
@@ -8,7 +9,7 @@ ghost use Rattle.twin_script.specs.Cutting as cutting;
 
 use basics::next_part;
 
-/// A line without one CR at its end.
+/// The line without one CR at its end.
 fn trimmed(line: &[u8]) -> &[u8]
     ensures { result.now ≡ without_return line.now }
 {
@@ -18,8 +19,8 @@ fn trimmed(line: &[u8]) -> &[u8]
     }
 }
 
-/// The first line without its LF and without one CR before that, and what follows its LF. The last line
-/// may lack the LF; a CR at its end is then its own.
+/// The first line without its LF and one CR before that, and the bytes after its LF. The last line
+/// may lack the LF; then a CR at its end belongs to it.
 pub fn next_line(bytes: &[u8]) -> (&[u8], &[u8])
     requires { 0 < length bytes.now }
     ensures lines { lines_of bytes.now ≡ result.0.now ∷ lines_of result.1.now }
@@ -32,7 +33,7 @@ pub fn next_line(bytes: &[u8]) -> (&[u8], &[u8])
     }
 }
 
-/// The only two words of a line.
+/// The two words of a line that has exactly two, or none.
 pub fn two_words(line: &[u8]) -> Option<(&[u8], &[u8])>
     ensures { option_map (λ p. (p.0.now, p.1.now)) result ≡ two (words_of line.now) }
 {
@@ -53,7 +54,7 @@ fn is_parting(line: &[u8]) -> bool
     line == b"=====".as_slice()
 }
 
-/// What stands before the first parting line, and what behind it.
+/// The bytes before the first separator line, and those after it; none if there is no such line.
 fn cut(bytes: &[u8]) -> Option<(&[u8], &[u8])>
     ensures { option_map (λ p. (p.0.now, p.1.now)) result ≡ cutting.cut bytes.now }
 {
@@ -76,8 +77,8 @@ fn cut(bytes: &[u8]) -> Option<(&[u8], &[u8])>
     None
 }
 
-/// The three parts, where there are exactly two parting lines. Takes one pass over the bytes, and copies
-/// none.
+/// The three parts, or none if there are not exactly two separator lines. Takes one pass over the
+/// bytes, and copies none.
 pub fn three_parts(bytes: &[u8]) -> Option<(&[u8], &[u8], &[u8])>
     ensures { option_map (λ p. (p.0.now, p.1.now, p.2.now)) result ≡ cutting.three_parts bytes.now }
 {

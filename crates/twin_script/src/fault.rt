@@ -10,22 +10,22 @@ use thiserror::Error;
 /// Why bytes are not two scripts and an order.
 #[derive(Clone, Copy, Debug, PartialEq, Eq, Error)]
 pub enum TwinFault {
-    /// There are not exactly two parting lines.
+    /// There are not exactly two separator lines.
     NotThree,
     /// The first part is no script.
     First(ScriptFault),
     /// The second part is no script.
     Second(ScriptFault),
-    /// The jobs' ids are equal.
+    /// Both jobs have the same id.
     SameJob,
-    /// The jobs' destinations differ.
+    /// The jobs have different destinations.
     OtherDest,
-    /// The mode of one of the jobs is replace.
+    /// One of the jobs has the mode replace.
     ReplaceMode,
     /// The second script names a fate.
     SecondLoss,
-    /// This line of the third part, from 1, is no line of an order, or asks for more events of its side than
-    /// are left.
+    /// This line of the third part, from 1, is no line of an order, or asks for more events of its
+    /// side than are left.
     BadOrder(u64),
     /// The input is over its limit.
     TooLarge,
@@ -33,7 +33,7 @@ pub enum TwinFault {
 }
 
 impl TwinFault {
-    /// The fault's number, 1 to 10.
+    /// The number of the fault, 1 to 10.
     pub fn number(&self) -> u8
         ensures { result ≡ number_of self.now }
     {
@@ -51,7 +51,7 @@ impl TwinFault {
         }
     }
 
-    /// The number of the faulty line of its part, from 1; 0 where the fault has none.
+    /// The number of the faulty line in its part, from 1, or 0 if the fault has no line.
     pub fn line(&self) -> u64
         ensures { result ≡ line_of self.now }
     {

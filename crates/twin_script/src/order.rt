@@ -11,7 +11,7 @@ use crate::turns::{Side, TurnList, TwinTurn};
 use basics::number_within;
 use std::alloc::Global;
 
-/// What the lines of an order said so far, and how many events are left of each script.
+/// The turns of the lines so far, and the number of events that each script has left.
 #[derive(Drop)]
 pub struct Draft {
     pub turns: TurnList,
@@ -31,7 +31,7 @@ fn side_of(word: &[u8]) -> Option<Side>
     None
 }
 
-/// The number that digits write, from 1 to 100,000. Bytes that are no text write none.
+/// The number that digits write, 1 to 100,000; none if the bytes are no such number.
 fn count_of(digits: &[u8]) -> Option<u32>
     ensures { result ≡ number_in 1 100000 digits.now }
 {
@@ -46,7 +46,7 @@ fn count_of(digits: &[u8]) -> Option<u32>
     }
 }
 
-/// The turn of a line of an order.
+/// The turn of a line of an order, or none.
 fn turn_of(line: &[u8]) -> Option<TwinTurn>
     ensures { result ≡ order.turn_of line.now }
 {
@@ -113,8 +113,8 @@ fn draft_of(alloc: Global, first: u64, second: u64, bytes: &[u8]) -> Result<Draf
     Ok(draft)
 }
 
-/// The turns of an order over scripts of so many events. An empty line is skipped and counted. The error is
-/// of the first faulty line. Takes one pass over the bytes.
+/// The turns of an order of scripts with `first` and `second` events. An empty line is skipped but
+/// counted. The error is the fault of the first faulty line. Takes one pass over the bytes.
 pub fn order_of(alloc: Global, first: u64, second: u64, bytes: &[u8]) -> Result<TurnList, TwinFault>
     ensures exact { Gives result (order.order_of first second bytes.now) }
     ensures told { IfErr result (λ fault. is_told fault ≡ true) }

@@ -40,14 +40,14 @@ fn put_turns(out: &mut String, turns: &[TwinTurn]) -> Result<(), AllocError>
     Ok(())
 }
 
-/// Appends a parting line.
+/// Appends a separator line.
 fn put_parting(out: &mut String) -> Result<(), AllocError>
     ensures { OnOk result (string_bytes out.new ≡ string_bytes out.old ++ parting_text) }
 {
     out.push_str("=====\n")
 }
 
-/// Appends the part of the turns, with the parting line before it.
+/// Appends the separator line and the lines of the turns.
 fn put_order(out: &mut String, turns: &[TwinTurn]) -> Result<(), AllocError>
     ensures { OnOk result (string_bytes out.new ≡ string_bytes out.old
         ++ (parting_text ++ text_of (map turn_line turns.now))) }
@@ -56,7 +56,7 @@ fn put_order(out: &mut String, turns: &[TwinTurn]) -> Result<(), AllocError>
     put_turns(out, turns)
 }
 
-/// Appends a script's printed text, which is UTF-8 by what the script keeps.
+/// Appends the text of a script, which is UTF-8 because the script's words are.
 fn put_script(alloc: Global, out: &mut String, script: &Script) -> Result<(), AllocError>
     ensures text { OnOk result (string_bytes out.new ≡ string_bytes out.old ++ script_text script.now) }
     ensures legal { IsLegal script.now }
@@ -69,11 +69,13 @@ fn put_script(alloc: Global, out: &mut String, script: &Script) -> Result<(), Al
     }
 }
 
-/// The text of two scripts and an order: the first script as `print_script` gives it, a line `=====`, the
-/// second script, a line `=====`, and a line `a N` or `b N` for each turn. LF ends each line. Where the text
-/// has at most 67,108,864 bytes and the first script names at most 10,000 sendings (the second names none),
-/// it is read as the same two scripts and order again. The only error is want of memory: it takes room for
-/// the text and for one script's. Takes one pass over the order, and `print_script`'s over each script.
+/// Returns the text of two scripts and an order: the first script as `print_script` gives it, a
+/// line `=====`, the second script, a line `=====`, and a line `a N` or `b N` for each turn. LF
+/// ends each line. If the text has at most 67,108,864 bytes and the first script names at most
+/// 10,000 sends (the second names none), reading it gives the same two scripts and order again.
+///
+/// The only error is out of memory: the call needs memory for the text and for that of one script.
+/// It takes one pass over the order, and those of `print_script` over each script.
 pub fn print_twins(alloc: Global, twins: &Twins) -> Result<String, AllocError>
     ensures text { IfOk result (λ text. string_bytes text ≡ twins_text twins.now) }
     ensures again { IfOk result (λ text. fin.len twins.now.first.fates ≤ 10000

@@ -86,7 +86,7 @@ fn replaces(first: Mode, second: Mode) -> bool
     is_replace(first) || is_replace(second)
 }
 
-/// The first fault of two scripts by what was found of them.
+/// The first fault of two scripts, by these findings.
 fn told(same_job: bool, same_dest: bool, replaces: bool, loses: bool) -> Result<(), TwinFault>
     ensures exact { result ≡ twins.told same_job same_dest replaces loses }
     ensures told { IfErr result (λ fault. is_told fault ≡ true) }
@@ -106,7 +106,7 @@ fn told(same_job: bool, same_dest: bool, replaces: bool, loses: bool) -> Result<
     Ok(())
 }
 
-/// Whether two scripts may run as twins.
+/// Checks that two scripts may run at one destination.
 fn fit(first: &Script, second: &Script) -> Result<(), TwinFault>
     ensures exact { result ≡ twins.fit first.now second.now }
     ensures told { IfErr result (λ fault. is_told fault ≡ true) }
@@ -118,7 +118,7 @@ fn fit(first: &Script, second: &Script) -> Result<(), TwinFault>
     told(same_job, same_dest, replaces, loses)
 }
 
-/// The turns of an order over two scripts that may run as twins.
+/// The turns of an order of two scripts, if these may run at one destination.
 #[tactic(auto, unfolding(crate::specs::Twins::turns_of))]
 fn turns_of(
     alloc: Global,
@@ -194,11 +194,16 @@ fn twins_in(alloc: Global, bytes: &[u8]) -> Result<Twins, TwinFault>
     with_first(alloc, first, second, order)
 }
 
-/// Reads two job scripts and an order, which two lines `=====` part. The error is the first fault in the order
-/// of `twins_of`: TooLarge for more than 67,108,864 bytes, NotThree, the fault of the first part, that of the
-/// second, SameJob, OtherDest, ReplaceMode, SecondLoss, and the first faulty line of the order. Want of memory
-/// alone may come at any place, and is NoMemory in a part too. The parts are not copied. Takes one pass over
-/// the input to part it, and one over each part.
+/// Reads two job scripts and an order, separated by two lines `=====`. The error is the first fault
+/// in the order of `twins_of`:
+///
+/// 1. TooLarge for more than 67,108,864 bytes, and NotThree
+/// 2. the fault of the first part, then that of the second
+/// 3. SameJob, OtherDest, ReplaceMode, SecondLoss
+/// 4. the first faulty line of the order
+///
+/// NoMemory alone may come at any place, and is never reported as the fault of a part. Takes one
+/// pass over the input to separate it, and one over each part. Copies no part.
 pub fn read_twins(alloc: Global, bytes: &[u8]) -> Result<Twins, TwinFault>
     ensures exact { Gives result (twins.twins_of bytes.now) }
     ensures found { IfOk result (λ t. twins.twins_of bytes.now ≡ Ok t) }

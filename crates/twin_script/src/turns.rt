@@ -1,13 +1,13 @@
 use s3_types::Sequence;
 
-/// One of two jobs.
+/// One of the two jobs.
 #[derive(Clone, Copy, PartialEq, Eq)]
 pub enum Side {
     First,
     Second,
 }
 
-/// So many of a side's next events, 1 to 100,000.
+/// A turn: `count` events of a side, 1 to 100,000.
 #[derive(Clone, Copy, PartialEq, Eq)]
 pub struct TwinTurn {
     pub side: Side,

@@ -5,8 +5,8 @@ use crate::turns::TurnList;
 use job_model::Script;
 use std::marker::Model;
 
-/// Two job scripts and the order of their turns. It keeps what `read_twins` asks of them: the ids differ and
-/// the destinations do not, neither mode is replace, the second script names no fate, and the turns ask for
+/// Two job scripts and the order of their turns. They keep the rules of `read_twins`: different
+/// ids, the same destination, no mode replace, and no fate in the second script. The turns ask for
 /// no more events than each script has.
 #[derive(Drop)]
 pub struct Twins {
@@ -28,7 +28,7 @@ impl Model for Twins {
 }
 
 impl Twins {
-    /// What two scripts and their order keep. Takes no memory.
+    /// The rules that two scripts and their order keep. Takes no memory.
     pub fn keeps(&self)
         ensures twins { AreTwins self.now }
         ensures first { IsLegal self.now.first }

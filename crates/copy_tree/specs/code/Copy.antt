@@ -1,4 +1,4 @@
--- Copying all that is below a directory, by its stages.
+-- The copy of all that is below a directory, by its stages.
 use Rattle.basics.specs.Order.{text_eq}
 use Rattle.bucket_ops.specs.Asks.{Ask, Get, Head}
 use Rattle.bucket_ops.specs.Looks.{look_of}
@@ -33,38 +33,38 @@ use Rattle.s3_types.specs.declared.reply.Reply.TheVariants.{Object as Found}
 use Rattle.std.specs.Prelude.{Bool, Err, List, None, Ok, Option, Result, Some, cond, drop, false, length, nat_eq, nat_lt, true, ℕ, [], ◌&&◌}
 use Rattle.std.specs.Prelude.{◌++◌, ◌+◌, ◌||◌, ◌∷◌}
 
--- the paths of a source and a target
+-- The paths of a source and a target.
 pub record CopyPaths : Type 0 where
   pub source : List ℕ
   pub target : List ℕ
 
--- what a copy answers
+-- The answer of a copy.
 abbrev pub Answer : Type 0
 Answer = Result CopyCount CopyRefusal
 
--- whether one path is the other or below it
+-- True if one path is the other or below it.
 abbrev pub overlaps : CopyPaths → Bool
 overlaps o = begins (prefix_of o.source) (prefix_of o.target) || begins (prefix_of o.target) (prefix_of o.source)
 
--- the keys of the paths above a target, and its own; the root has none
+-- The list of this key, if there is one; the root has none.
 abbrev pub one_of : Option (List ℕ) → List (List ℕ)
 one_of None = []
 one_of (Some k) = k ∷ []
 
--- the keys at which a file would be in the way: those above the target, and its own
+-- The keys at which a file would be in the way: those above the target, and its own.
 abbrev pub climb : List ℕ → List (List ℕ)
 climb t = keys_above t ++ one_of (key_if t)
 
--- what stands at the first of these keys
+-- The request that reads the first of these keys, or looks at the bucket if there is none.
 abbrev pub read_of : List (List ℕ) → Ask
 read_of [] = bucket_asks
 read_of (k ∷ ks) = Get k
 
--- a copy begins with a look at the source
+-- A copy begins with a look at the source.
 abbrev pub first : CopyPaths → CopyStage
 first o = Here
 
--- what a copy asks at each stage
+-- The request of each stage.
 abbrev pub asks : CopyPaths → CopyStage → Ask
 asks o Here = look_asks o.source
 asks o (Walk w) = walk_asks (prefix_of o.source) w
@@ -76,32 +76,32 @@ asks o (Copy c count) = copy_asks c
 
 -- ---- the copies
 
--- how many are copied, and how many stood
+-- The number of keys that are copied, and of those whose new key existed.
 abbrev pub count_of : Parts → CopyCount
 count_of c = record { copied = length c.places; skipped = length c.stood_at }
 
--- the absent keys are copied, or there is none
+-- The step that copies the absent keys, or ends if there are none.
 abbrev pub copies : CopyCount → List (List ℕ) → List (List ℕ) → Step CopyStage Answer
 copies count [] ls = End (Ok count)
 copies count (k ∷ ks) ls = Next (Copy (record { keys = k ∷ ks; places = ls; from = 0 }) count)
 
--- all agree, and the absent ones are copied
+-- The step after all existing new keys agree: the absent ones are copied.
 abbrev pub begun : Parts → Step CopyStage Answer
 begun c = copies (count_of c) c.keys c.places
 
--- the next copy, or the answer behind the last one
+-- The step after a copy: the next copy, or the answer.
 abbrev pub on_copied : CopyCount → CopyStep → Step CopyStage Answer
 on_copied count (NextCopy c) = Next (Copy c count)
 on_copied count (All ks) = End (Ok count)
 
--- ---- the pairs of which both stand
+-- ---- the pairs of which both exist
 
--- the pairs of which both stand are compared first
+-- The step that compares the pairs of which both exist, before anything is copied.
 abbrev pub pairs : Parts → List (List ℕ) → Step CopyStage Answer
 pairs c [] = begun c
 pairs c (k ∷ ks) = Next (Source c 0)
 
--- the keys whose new key stands, and those whose new key is absent
+-- The keys whose new key exists, and those whose new key is absent.
 abbrev pub parts_of : List (List ℕ) → List (List ℕ) → List PageEntry → Parts
 parts_of ks ls es = record {
   stood = chosen true ks ls es;
@@ -111,65 +111,65 @@ parts_of ks ls es = record {
       false ls ls es;
 }
 
--- what is compared and copied, once both sides were listed
+-- The step after both sides were listed.
 abbrev pub parted : Parts → Step CopyStage Answer
 parted c = pairs c c.stood
 
--- what was read of the source is kept; what stood does not go
+-- The step after a key of the source was read: its new key is read next. If the key were gone, the source would be missing.
 abbrev pub on_read : Parts → ℕ → Reply → Step CopyStage Answer
 on_read c n (Found b h) = Next (Target c n b h)
 on_read c n _ = End (Err SourceMissing)
 
--- two length headers are the same
+-- True if two length headers are the same.
 abbrev pub same_header : Option ℕ → Option ℕ → Bool
 same_header None None = true
 same_header (Some a) (Some b) = nat_eq a b
 same_header _ _ = false
 
--- the new key differs from its source
+-- The refusal that names the first of these new keys, which differs from its source.
 abbrev pub differ : List (List ℕ) → Step CopyStage Answer
 differ [] = End (Err SourceMissing)
 differ (l ∷ ls) = End (Err (Differs l))
 
--- the next pair, or all agree
+-- The step after a pair agreed: the next pair, or the copies.
 abbrev pub agreed : Parts → ℕ → Step CopyStage Answer
 agreed c n = cond (nat_lt 1 (length (drop n c.stood))) (Next (Source c (n + 1))) (begun c)
 
--- a pair agrees, or its new key is told
+-- The step after a pair was compared.
 abbrev pub compared : Parts → ℕ → Bool → Step CopyStage Answer
 compared c n true = agreed c n
 compared c n false = differ (drop n c.stood_at)
 
--- the read of a new key is compared with that of its source
+-- The step after a new key was read: it is compared with its source.
 abbrev pub on_compare : Parts → ℕ → List ℕ → Option ℕ → Reply → Step CopyStage Answer
 on_compare c n b h (Found d g) = compared c n (text_eq b d && same_header h g)
 on_compare c n b h _ = End (Err SourceMissing)
 
 -- ---- the walk below the target
 
--- where a page of the target's keys leads
+-- The step after a page of the target's keys.
 abbrev pub on_shown : List (List ℕ) → List (List ℕ) → Walked PageEntry → Step CopyStage Answer
 on_shown ks ls (More w) = Next (WalkTarget ks ls w)
 on_shown ks ls (Whole es) = parted (parts_of ks ls es)
 
--- where a reply that fits leads the walk below the target
+-- The step after a reply to the walk below the target. A reply that does not fit leaves it where it is.
 abbrev pub on_show : List (List ℕ) → List (List ℕ) → List PageEntry → Reply → Bool → Step CopyStage Answer
 on_show ks ls w r true = on_shown ks ls (walked_entries w r)
 on_show ks ls w r false = Next (WalkTarget ks ls w)
 
 -- ---- the paths above the target
 
--- the target's keys are listed, or the first that would be too long is told
+-- The step that lists the target's keys, or refuses the first key that would be too long.
 abbrev pub with_places : List (List ℕ) → Result (List (List ℕ)) (List ℕ) → Step CopyStage Answer
 with_places ks (Ok ls) = Next (WalkTarget ks ls [])
 with_places ks (Err k) = End (Err (TooLong k))
 
--- the new keys of what was listed
+-- The step that makes the new keys of what was listed.
 abbrev pub placed : CopyPaths → Option (List ℕ) → List (List ℕ) → Step CopyStage Answer
 placed o None ks = End (Err SourceMissing)
 placed o (Some t) ks = with_places ks (new_keys (prefix_of o.source) (marker_of t) ks)
 
--- the paths above the target are looked at one by one
+-- The step of the climb: the paths above the target are looked at one by one.
 abbrev pub on_climb : CopyPaths → List (List ℕ) → Climbed → Step CopyStage Answer
 on_climb o ks (File a) = End (Err (TargetFile a))
 on_climb o ks (Goes_on c) = Next (Up ks c)
@@ -177,30 +177,30 @@ on_climb o ks Free = placed o (place_of o.source o.target) ks
 
 -- ---- the source
 
--- a source below which nothing is listed is missing
+-- The step after the listing of the source. A source below which nothing is listed is missing.
 abbrev pub listed : CopyPaths → List (List ℕ) → Step CopyStage Answer
 listed o [] = End (Err SourceMissing)
 listed o (k ∷ ks) = on_climb o (k ∷ ks) (climbing (climb o.target))
 
--- where a page of the source's keys leads
+-- The step after a page of the source's keys.
 abbrev pub on_walked : CopyPaths → Walked PageEntry → Step CopyStage Answer
 on_walked o (More w) = Next (Walk w)
 on_walked o (Whole es) = listed o (keys_on es)
 
--- where a reply that fits leads the walk below the source
+-- The step after a reply to the walk below the source. A reply that does not fit leaves it where it is.
 abbrev pub on_walk : CopyPaths → List PageEntry → Reply → Bool → Step CopyStage Answer
 on_walk o w r true = on_walked o (walked_entries w r)
 on_walk o w r false = Next (Walk w)
 
--- what is refused at once, or the walk below the source begins
+-- The step after the look at the source: a refusal, or the walk below it.
 abbrev pub here : Bool → Look → Step CopyStage Answer
 here true l = End (Err Overlap)
 here false There = End (Err SourceIsFile)
 here false _ = Next (Walk [])
 
--- ---- where a reply leads
+-- ---- the steps after replies
 
--- where a reply leads at each stage
+-- The step after a reply, at each stage.
 abbrev pub on : CopyPaths → CopyStage → Reply → Step CopyStage Answer
 on o Here r = here (overlaps o) (look_of r)
 on o (Walk w) r = on_walk o w r (fits r)
@@ -210,6 +210,6 @@ on o (Source c n) r = on_read c n r
 on o (Target c n b h) r = on_compare c n b h r
 on o (Copy c count) r = on_copied count (copied_next (has_more c) c)
 
--- where a reply leads; without the bucket it ends so
+-- The step after a reply. If there is no bucket, the copy ends with NoSuchBucket.
 abbrev pub goes : CopyPaths → CopyStage → Reply → Step CopyStage Answer
 goes o x r = unless (look_of r) (End (Err NoSuchBucket)) (on o x r)

@@ -1,4 +1,4 @@
--- What holds at each stage of a copy, and what is sent.
+-- What holds at each stage of a copy, and what it sends.
 use Rattle.bucket_ops.specs.Asks.{Ask, Copy as CopyKey, is_look}
 use Rattle.bucket_ops.specs.Walking.{IsWalking, all_below, keys_below, walk_left}
 use Rattle.copy_tree.specs.Parts.{kept}
@@ -16,19 +16,19 @@ use Rattle.s3_types.specs.Store.{Objects}
 use Rattle.std.specs.Prelude.{List, None, Option, Some, drop, false, length, true, ℕ, [], ◌*◌, ◌+◌, ◌<◌, ◌∷◌, ◌≡◌, ◌⊎◌}
 use Rattle.std.specs.FinMap as fin
 
--- each key of the source with its new key
+-- Each key of the source with its new key.
 abbrev pub moves : CopyPaths → Objects → List Move
 moves o z = moves_of true o.source o.target z
 
--- the keys whose new key stands
+-- The moves whose new key exists.
 abbrev pub standing : CopyPaths → Objects → List Move
 standing o z = kept true (moves o z) (all_below (prefix_of o.target) z)
 
--- the keys whose new key is absent
+-- The moves whose new key is absent.
 abbrev pub absent : CopyPaths → Objects → List Move
 absent o z = kept false (moves o z) (all_below (prefix_of o.target) z)
 
--- their keys and new keys
+-- The keys and new keys of both.
 abbrev pub all_parts : CopyPaths → Objects → Parts
 all_parts o z = record {
   stood = sources (standing o z);
@@ -38,24 +38,24 @@ all_parts o z = record {
       (absent o z);
 }
 
--- the source has a place, and all its new keys fit
+-- The source has a place at the target, and all its new keys fit.
 pub record IsPlaced (o : CopyPaths) (z : Objects) : Type 0 where
   pub place : HasPlace z o.source o.target
   pub fit : AllFit z o.source o.target
 
--- each of the moves whose new key stands agrees, or is one of those that are left
+-- Each move whose new key exists agrees with it, or is among those still to compare.
 pub record IsComparing (o : CopyPaths) (z : Objects) (c : Parts) (n : ℕ) : Type 0 where
   pub placed : IsPlaced o z
   pub parts : c ≡ all_parts o z
   pub some : n < length (standing o z)
   pub agree : (k l : List ℕ) → IsOneOf k l (standing o z) → (fin.get z l ≡ fin.get z k) ⊎ IsOneOf k l (drop n (standing o z))
 
--- these bytes and this header stand at the first of these keys
+-- Holds if the first of these keys has these bytes and this header.
 abbrev pub StandsFirst : Objects → List (List ℕ) → List ℕ → Option ℕ → Type 0
 StandsFirst z [] b h = ⊥
 StandsFirst z (k ∷ ks) b h = fin.get z k ≡ Some (record { bytes = b; header = h })
 
--- begun at those objects, it may be in a stage at these
+-- What holds at each stage of a copy that was begun with the objects z.
 abbrev pub holds : CopyPaths → Objects → CopyStage → Objects → Type 0
 holds o z Here m = m ≡ z
 holds o z (Walk w) m = (m ≡ z) × (IsOverlap o.source o.target → ⊥) × NoFile z o.source × IsWalking (prefix_of o.source) z w
@@ -66,12 +66,13 @@ holds o z (Source c n) m = (m ≡ z) × IsComparing o z c n
 holds o z (Target c n b h) m = (m ≡ z) × IsComparing o z c n × StandsFirst z (drop n c.stood) b h
 holds o z (Copy c count) m = MayCopy z o.source o.target × (count ≡ count_of (all_parts o z)) × IsCopying z (absent o z) c m
 
--- it looks or reads, or copies a key that may be copied to its new key, which is absent
+-- Holds if the request looks or reads, or copies a key that may be copied to its new key, which is absent.
 abbrev pub sends : CopyPaths → Objects → Ask → Type 0
 sends o z a = (is_look a ≡ true) ⊎ ((k : List ℕ) × (l : List ℕ) × (a ≡ CopyKey k l) × MayCopy z o.source o.target
     × IsMove z o.source o.target k l × (fin.get z l ≡ None))
 
--- a page for each thousand keys, a look at each path above the target, and two reads or a copy for each key, at most
+-- The most requests that are still to come: a page for each thousand keys, a look at each path above the target, and two reads or a copy
+-- for each key.
 abbrev pub left : CopyPaths → CopyStage → Objects → ℕ
 left o Here m = 2 * walk_left (prefix_of o.source) [] m + length (climb o.target) + walk_left (prefix_of o.target) [] m + 4
 left o (Walk w) m = 2 * walk_left (prefix_of o.source) w m + length (climb o.target) + walk_left (prefix_of o.target) [] m + 3
@@ -81,10 +82,10 @@ left o (Source c n) m = 2 * length (drop n c.stood) + length c.keys + 2
 left o (Target c n b h) m = 2 * length (drop n c.stood) + length c.keys + 1
 left o (Copy c count) m = copies_left c
 
--- what is answered and left, and what stands at any moment
+-- The answer of a copy and the objects that it leaves.
 abbrev pub gives : CopyPaths → Objects → Answer → Objects → Type 0
 gives o z a m = Copies o.source o.target z a m
 
--- what stands at any moment of a copy
+-- Holds at every point of a copy.
 abbrev pub always : CopyPaths → Objects → Objects → Type 0
 always o z m = MayStandCopied o.source o.target z m

@@ -1,4 +1,4 @@
--- The bytes of a file.
+-- The reading of a file, by its stages.
 use Rattle.bucket_ops.specs.Asks.{Ask}
 use Rattle.fs_ops.specs.Places.{get_asks}
 use Rattle.fs_ops.specs.declared.at_path.PathStage.{PathStage}
@@ -10,19 +10,19 @@ use Rattle.s3_types.specs.declared.reply.Reply.TheVariants.{Object as Found}
 use Rattle.std.specs.Prelude.{Err, List, None, Option, Result, Some, ℕ}
 use Rattle.fs_ops.specs.code.AtPath as path
 
--- what a read answers
+-- The answer of a read.
 abbrev pub Answer : Type 0
 Answer = Result (List ℕ) FsRefusal
 
--- what a read asks at each stage
+-- The request of each stage.
 abbrev pub asks : List ℕ → PathStage → Ask
 asks o x = path.asks get_asks o x
 
--- the bytes that a reply has
+-- The bytes in a reply, if it has any.
 abbrev pub bytes_in : Reply → Option (List ℕ)
 bytes_in (Found bytes h) = Some bytes
 bytes_in _ = None
 
--- where a reply leads at each stage
+-- The step after a reply, at each stage.
 abbrev pub on : List ℕ → PathStage → Reply → Step PathStage Answer
 on o x r = path.on (Err IsDirectory) bytes_in o x r

@@ -1,4 +1,4 @@
--- The status of a path.
+-- The look at the status of a path, by its stages.
 use Rattle.bucket_ops.specs.Asks.{Ask}
 use Rattle.dir_markers.specs.declared.status.Status.{Status}
 use Rattle.dir_markers.specs.declared.status.Status.TheVariants.{Directory, File}
@@ -11,24 +11,24 @@ use Rattle.s3_types.specs.declared.reply.Reply.TheVariants.{Head}
 use Rattle.std.specs.Prelude.{List, None, Ok, Option, Result, Some, ℕ}
 use Rattle.fs_ops.specs.code.AtPath as path
 
--- what a look at a path answers
+-- The answer of the look.
 abbrev pub Answer : Type 0
 Answer = Result Status FsRefusal
 
--- what it asks at each stage
+-- The request of each stage.
 abbrev pub asks : List ℕ → PathStage → Ask
 asks o x = path.asks look_asks o x
 
--- the length of the object that a reply tells of
+-- The length of the object that a reply shows, if it shows one.
 abbrev pub length_in : Reply → Option ℕ
 length_in (Head n h) = Some n
 length_in _ = None
 
--- the status of the file that a reply tells of
+-- The status of the file that a reply shows, if it shows one.
 abbrev pub status_in : Reply → Option Status
 status_in (Head n h) = Some (File n)
 status_in _ = None
 
--- where a reply leads at each stage
+-- The step after a reply, at each stage.
 abbrev pub on : List ℕ → PathStage → Reply → Step PathStage Answer
 on o x r = path.on (Ok Directory) status_in o x r

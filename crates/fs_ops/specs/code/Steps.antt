@@ -1,4 +1,4 @@
--- Steps of file operations, all of which end where there is no bucket.
+-- The steps of file operations, all of which end if there is no bucket.
 use Rattle.bucket_ops.specs.Asks.{Ask, edited, is_look, reply_in}
 use Rattle.bucket_ops.specs.Looks.{look_of}
 use Rattle.bucket_ops.specs.declared.look.Look.{Look}
@@ -12,16 +12,16 @@ use Rattle.s3_types.specs.Store.{Objects}
 use Rattle.s3_types.specs.declared.reply.Reply.{Reply}
 use Rattle.std.specs.Prelude.{Err, Result, true, ℕ, ◌≡◌}
 
--- the first where there is no bucket, else the second
+-- The first value if the look showed that there is no bucket, else the second.
 abbrev pub unless : {Y : Type 0} → Look → Y → Y → Y
 unless NoBucket absent y = absent
 unless _ absent y = y
 
--- where a reply leads; without the bucket it ends so
+-- The step after a reply. If there is no bucket, the operation ends with NoSuchBucket.
 abbrev pub goes_by : {O X A : Type 0} → (O → X → Reply → Step X (Result A FsRefusal)) → O → X → Reply → Step X (Result A FsRefusal)
 goes_by on o x r = unless (look_of r) (End (Err NoSuchBucket)) (on o x r)
 
--- what the stages of a file operation owe where there is the bucket
+-- What the stages of a file operation must fulfil while the bucket exists.
 pub record IsStages {O X A : Type 0} (first : O → X) (asks : O → X → Ask) (on : O → X → Reply → Step X A)
     (holds : O → Objects → X → Objects → Type 0) (gives : O → Objects → A → Objects → Type 0) (always : O → Objects → Objects → Type 0)
     (left : O → X → Objects → ℕ) : Type 0 where
@@ -34,10 +34,10 @@ pub record IsStages {O X A : Type 0} (first : O → X) (asks : O → X → Ask) 
   pub during : (o : O) (z : Objects) (x : X) (m : Objects) → holds o z x m → always o z m
   pub at_end : (o : O) (z : Objects) (a : A) (m : Objects) → gives o z a m → always o z m
 
--- an operation that only reads leaves the objects as they were
+-- Holds if the objects are as they were, as after an operation that only reads.
 abbrev pub IsStill : {O : Type 0} → O → Objects → Objects → Type 0
 IsStill o z m = m ≡ z
 
--- an operation asks nothing but looks
+-- Holds if the request only looks.
 abbrev pub OnlyLooks : {O : Type 0} → O → Objects → Ask → Type 0
 OnlyLooks o z a = is_look a ≡ true

@@ -1,4 +1,4 @@
--- What holds at each stage of a renaming, what it gives, and what stands at any moment.
+-- What holds at each stage of a rename, what it gives, and what holds at every point.
 use Rattle.basics.specs.Members.{IsIn}
 use Rattle.bucket_ops.specs.Asks.{Ask, Copy as CopyKey, DropAll, is_look}
 use Rattle.bucket_ops.specs.Sweeping.{IsDeleted, IsDeleting, sweep_left}
@@ -21,56 +21,56 @@ use Rattle.s3_types.specs.Answer.{without}
 use Rattle.s3_types.specs.Store.{Objects}
 use Rattle.std.specs.Prelude.{Bool, Err, List, Ok, Some, false, length, take, true, ℕ, ◌*◌, ◌+◌, ◌∷◌, ◌≡◌, ◌≤◌, ◌⊎◌}
 
--- a directory or a file stands at the source
+-- Holds if the source is a directory (d true) or a file.
 abbrev pub IsSource : Bool → Objects → List ℕ → Type 0
 IsSource true z p = NoFileAt z p × HasDir z p
 IsSource false z p = HasFile z p
 
--- something stands at the source, and the target is neither it nor below it
+-- The source exists, and the target is neither the source nor below it.
 pub record Begun (o : Renaming) (z : Objects) (d : Bool) : Type 0 where
   pub source : IsSource d z o.source
   pub apart : IsAtOrBelow o.source o.target → ⊥
 
--- what was seen before a path is looked at
+-- What is known before a look at each path.
 abbrev pub Before : Renaming → Objects → Spot → Bool → Type 0
 Before o z Source d = Unit {0}
 Before o z Target d = Begun o z d
 Before o z Inside d = Begun o z d × IsDirectory z o.target
 Before o z Above d = Begun o z d × IsAbsent z o.target
 
--- the path that a look is at
+-- The path that is looked at.
 abbrev pub path_at : Renaming → Spot → List ℕ
 path_at o Source = o.source
 path_at o Target = o.target
 path_at o Inside = inside o.source o.target
 path_at o Above = parent o.target
 
--- no file stands at a path, where that was seen
+-- Holds if no file exists at the path, provided that this was already looked for.
 abbrev pub NoFileIf : Bool → Objects → List ℕ → Type 0
 NoFileIf true z p = NoFileAt z p
 NoFileIf false z p = Unit {0}
 
--- the source may be moved to the new place q, where nothing stands
+-- The source may be moved to the new place q, where nothing exists.
 pub record IsReady (o : Renaming) (z : Objects) (d i : Bool) (q : List ℕ) : Type 0 where
   pub begun : Begun o z d
   pub place : IsPlace z o.source o.target q
   pub free : IsAbsent z q
   pub at : place_at o i ≡ Some q
 
--- the source may be moved to the new place q, and no new key is over its limit
+-- The source may be moved to the new place q, and no new key is over its limit.
 pub record MayGo (o : Renaming) (z : Objects) (d i : Bool) (q : List ℕ) : Type 0 where
   pub ready : IsReady o z d i q
   pub fit : AllFit z o.source q
 
--- all keys are moved
+-- The objects after all keys are moved.
 abbrev pub moved : Renaming → Objects → Bool → List ℕ → Objects
 moved o z d q = without (copied_all z (moves_of d o.source q z)) (sources (moves_of d o.source q z))
 
--- every key of the source is at its new place, whichever that is
+-- Holds if every key of the source is at its new place, whichever place that is.
 abbrev pub IsMoved : Renaming → Objects → Objects → Type 0
 IsMoved o z n = (d : Bool) × (i : Bool) × (q : List ℕ) × MayGo o z d i q × (n ≡ moved o z d q)
 
--- what holds at each stage
+-- What holds at each stage.
 abbrev pub holds : Renaming → Objects → RenameStage → Objects → Type 0
 holds o z (Looking s b d) m = (m ≡ z) × Before o z s d × NoFileIf b z (path_at o s)
 holds o z (Walk i found) m = (m ≡ z) × ((q : List ℕ) × IsReady o z true i q) × IsWalking (prefix_of o.source) z found
@@ -80,45 +80,44 @@ holds o z (Batch w) m = (d : Bool) × (i : Bool) × (q : List ℕ) × MayGo o z 
 holds o z (Parent k) m = (marker_if (parent o.source) ≡ Some k) × IsMoved o z m
 holds o z (PutMarker k) m = (marker_if (parent o.source) ≡ Some k) × IsMoved o z m × NoneBelow m k
 
--- all keys are moved, and the marker above the source is put where its directory is left empty; or a refusal by its cause
+-- After success all keys are moved, and the marker above the source is put if its directory is left empty. A refusal has its cause.
 abbrev pub gives : Renaming → Objects → Answer → Objects → Type 0
 gives o z (Ok x) m = (n : Objects) × IsMoved o z n × IsMarked (marker_if (parent o.source)) n m
 gives o z (Err r) m = Renames o.source o.target z (Err r) m
 
--- some keys are copied; or all are, and of the old ones some are deleted; or all are, and the marker above the source is put where it is
--- due
+-- Holds if some keys are copied; or all are, and some of the old ones are deleted; or all are moved, and the marker above the source is put
+-- if its directory is left empty.
 abbrev pub IsOnWay : Renaming → Objects → Bool → List ℕ → Objects → Type 0
 IsOnWay o z d q m =
     ((n : ℕ) × (m ≡ copied_all z (take n (moves_of d o.source q z))))
     ⊎ (((left : List (List ℕ)) × IsDeleting (copied_all z (moves_of d o.source q z)) (sources (moves_of d o.source q z)) left m)
     ⊎ IsMarked (marker_if (parent o.source)) (moved o z d q) m)
 
--- at any moment
+-- Holds at every point: nothing has changed, or the source may be moved and is on its way.
 abbrev pub always : Renaming → Objects → Objects → Type 0
 always o z m = (m ≡ z) ⊎ ((d : Bool) × (i : Bool) × (q : List ℕ) × MayGo o z d i q × IsOnWay o z d q m)
 
--- these are keys of the source, at most a thousand
+-- These are keys of the source, at most a thousand.
 pub record IsBatch (o : Renaming) (z : Objects) (q : List ℕ) (ks : List (List ℕ)) : Type 0 where
   pub few : length ks ≤ 1000
   pub each : (k : List ℕ) → IsIn k ks → (l : List ℕ) × IsMove z o.source q k l
 
--- on the way to the new place q a key is copied to its new key, or old keys are deleted in one batch, or the marker of the directory
--- above is put
+-- Holds if the request copies a key to its new key at q, deletes old keys in one batch, or puts the marker of the directory above.
 abbrev pub Moves : Renaming → Objects → List ℕ → Ask → Type 0
 Moves o z q a =
     ((k : List ℕ) × (l : List ℕ) × (a ≡ CopyKey k l) × IsMove z o.source q k l)
     ⊎ (((k : List ℕ) × (ks : List (List ℕ)) × (a ≡ DropAll (k ∷ ks)) × IsBatch o z q (k ∷ ks))
     ⊎ PutsAbove o.source z a)
 
--- it looks; and where the source may be moved to a new place at which all its keys fit, it moves it there
+-- Holds if the request only looks, or if the source may be moved to a new place where all its keys fit, and the request moves it there.
 abbrev pub Asks : Renaming → Objects → Ask → Type 0
 Asks o z a = (is_look a ≡ true) ⊎ ((q : List ℕ) × IsFreePlace z o.source o.target q × AllFit z o.source q × Moves o z q a)
 
--- what the renaming of a key sends
+-- Holds if the rename of a source with a valid key may send this request.
 abbrev pub sends : Renaming → Objects → Ask → Type 0
 sends o z a = is_key o.source ≡ true → Asks o z a
 
--- so many looks are to come
+-- The number of looks that may still come.
 abbrev pub looks_left : Spot → Bool → ℕ
 looks_left Source false = 6
 looks_left Source true = 5
@@ -127,7 +126,7 @@ looks_left Target true = 3
 looks_left s false = 2
 looks_left s true = 1
 
--- the most requests that are to come
+-- The most requests that are still to come.
 abbrev pub left : Renaming → RenameStage → Objects → ℕ
 left o (Looking s b d) m = 2 * sweep_left (prefix_of o.source) sweep_start m + 4 + looks_left s b
 left o (Walk i found) m = 2 * walk_left (prefix_of o.source) found m + 4

@@ -13,7 +13,7 @@ use s3_types::{Bytes, Request, Sequence};
 use std::alloc::{AllocError, Global};
 use std::marker::Model;
 
-/// The same changes, whose bytes are shared.
+/// Returns a copy of the changes that shares their bytes.
 fn copied_changes(alloc: Global, changes: &[Request]) -> Result<RequestList, AllocError>
     ensures { IfOk result (λ copy. copy ≡ changes.now) }
 {
@@ -32,7 +32,7 @@ fn copied_held(alloc: Global, held: &Held) -> Result<Held, AllocError>
     Ok(Held { base, changes })
 }
 
-/// What is held, shared.
+/// Returns what the shelf holds, sharing its bytes.
 fn loaded(alloc: Global, held: &Option<Held>) -> Result<Option<Held>, LoadFault>
     ensures loaded { IfOk result (λ loaded. IsLoaded (Some (stock held.now)) loaded) }
     ensures large { IsErrOf result LoadFault.TooLarge → IsTooLarge (Some (stock held.now)) }
@@ -51,7 +51,7 @@ fn loaded(alloc: Global, held: &Option<Held>) -> Result<Option<Held>, LoadFault>
     }
 }
 
-/// A base without changes.
+/// Returns a base without changes.
 fn fresh(alloc: Global, bytes: &[u8]) -> Result<Held, AllocError>
     ensures { IfOk result (λ held. held ≡ record { base = bytes.now; changes = [] }) }
 {
@@ -73,7 +73,7 @@ fn grow(alloc: Global, held: &mut Held, change: &Request) -> Result<(), AllocErr
     held.changes.push(copy)
 }
 
-/// A shelf in memory that takes changes, of which the calls that are named fail. It does not tell what a
+/// A shelf in memory that takes changes. The calls that are named fail. It does not say what a
 /// crash leaves.
 #[derive(Drop)]
 pub struct MemShelf {
@@ -95,7 +95,7 @@ impl Model for MemShelf {
 }
 
 impl MemShelf {
-    /// It takes no appends before a `replace`. Takes no memory.
+    /// A shelf that holds this, and takes no appends before a `replace`. Takes no memory.
     pub fn new(alloc: Global, held: Option<Held>, fail: CallList) -> MemShelf
         ensures { result ≡ record { held = held; takes = false; calls = unused fail None } }
     {
@@ -107,7 +107,7 @@ impl MemShelf {
         }
     }
 
-    /// What is held. Takes no memory.
+    /// Returns what the shelf holds. Takes no memory.
     pub fn held(&self) -> Option<&Held>
         ensures { option_copied result ≡ self.now.held }
     {
@@ -143,7 +143,7 @@ impl Shelf for MemShelf {
         }
     }
 
-    /// A base that finds no memory is a fault.
+    /// Counts as a fault if memory runs out.
     fn replace(&mut self, bytes: &[u8]) -> Result<(), Failed> {
         match self.calls.next() {
             Ok(()) => {}

@@ -5,7 +5,7 @@ use Rattle.std.specs.List.{filter}
 use Rattle.std.specs.Map.{keys_of}
 use Rattle.cluster_fs.proofs.cluster.paths_of.Given as goal
 
--- the paths so far and those that are left are all
+-- The paths so far and those that are left are all.
 abbrev pub invariant-loop-path : goal.invariant-loop-path
 invariant-loop-path l = record {
   told : l.paths.items ++ filter (begins l.prefix) (keys_of l.rest) ≡ filter (begins l.prefix) (keys_of l.fn.rest);

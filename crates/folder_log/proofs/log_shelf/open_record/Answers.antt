@@ -30,7 +30,7 @@ returns-clause-crash g c front closed =
     (c.write_synced.ensures.torn rest_at closed.durable) (c.write_synced-2.ensures.torn staged only)
     (left_behind front c.args.gate closed.at c.args.written.now) (left_opened front c.args.gate closed.at c.args.written.now)
 
--- a second write's calls behind a first one's
+-- Two calls more of a second write, after two of a first one, are at most four.
 few_behind : {T E : Type 0} (r : Result T E) (before between now : ℕ) → between ≡ more 2 before → OnErr r (FewMore 2 between now)
     → OnErr r (FewMore 4 before now)
 few_behind (Ok x) before between now is few = tt

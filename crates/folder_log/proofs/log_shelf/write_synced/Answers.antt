@@ -4,7 +4,7 @@ use Rattle.shelf.specs.Logged.{LeavesOnly}
 use Rattle.std.proofs.Common.{arith, inr, length, subst, ℕ, ◌≡◌, ◌⊎◌}
 use Rattle.folder_log.proofs.log_shelf.write_synced.Goals as goal
 
--- a write over a disk that a crash leaves so
+-- A write to a disk of which a crash leaves only this file.
 written : {D : Type 0} (moment : D → ℕ) (may_leave : D → File → Type 0) (left_since : D → ℕ → File → Type 0) (old new : D) (place n : ℕ)
     (file : File) → ((c : File) → left_since old (moment old) c → may_leave old c) → Only file (may_leave old)
     → Follows (IsTorn place n) (may_leave old) (may_leave new)

@@ -15,7 +15,7 @@ use Rattle.job_gen.proofs.counting.pick_bytes.Goals as goal
 
 -- ---- the bytes of the files that a script gives its attempts
 
--- files have the same bytes where they go
+-- Files have the same number of bytes at their paths below the destination.
 as_long : (unique : Bool) (id : List ℕ) (fs : List File) → bytes_of (placed unique id fs) ≡ bytes_of fs
 as_long unique id [] = refl
 as_long unique id ((path, bytes) ∷ fs) = ap (λ n. length bytes + n) (as_long unique id fs)
@@ -31,7 +31,7 @@ among p (d ∷ all) fs h = elim (p d.0) as (λ b. cond b (Some d.1) (lookup p al
   | false ↦ λ e. let n = among p all fs e in omega (arith, n)
 ] h
 
--- no attempt has more than a script may have
+-- No attempt has more bytes than a script may have.
 few_bytes : (w : Script) (a : Who) (fs : List File) → IsLegal w → lookup (same_name a) w.attempts ≡ Some fs
     → bytes_of fs ≤ MOST_SCRIPT_BYTES
 few_bytes w a fs legal h =

@@ -7,7 +7,7 @@ use Rattle.std.specs.Fmt.{char_count, decimal, format_spec, padded_integral}
 use Rattle.std.specs.Prelude.{string_bytes}
 use Rattle.job_gen.proofs.files.made_path.Goals as goal
 
--- ---- numbers as they are written with zeros before them
+-- ---- numbers with leading zeros
 
 two_are : (n : ℕ) → 10 ≤ n → n < 100 → decimal n ≡ two_digits n
 two_are n low high =

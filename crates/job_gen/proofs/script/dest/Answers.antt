@@ -9,7 +9,7 @@ use Rattle.std.proofs.Common.{Err, Ok, arith, sym, ◌≡◌}
 use Rattle.std.specs.Prelude.{Result}
 use Rattle.job_gen.proofs.script.dest.Goals as goal
 
--- the faults of a path that is one give want of memory alone
+-- Reading a text that is a path fails only if memory runs out.
 memory_alone : (x : Path) (e : PathFault) → (e ≡ NoMemory → ⊥)
     → Unless (wanting e) (let read : Result Path PathFault = Ok x in read ≡ Err e) → ⊥
 memory_alone x e h g = grind arith

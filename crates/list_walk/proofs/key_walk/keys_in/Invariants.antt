@@ -3,7 +3,7 @@ use Rattle.list_walk.specs.Walks.{keys_on}
 use Rattle.std.proofs.Common.{drop, ◌++◌, ◌≡◌}
 use Rattle.list_walk.proofs.key_walk.keys_in.Given as goal
 
--- the keys so far and those that are left are all
+-- The keys so far and those that are left are all.
 abbrev pub invariant-loop-entry : goal.invariant-loop-entry
 invariant-loop-entry l = record {
   told : l.keys ++ keys_on (drop l.entry-index l.entries) ≡ keys_on l.entries;

@@ -3,7 +3,7 @@ use Rattle.object_store.specs.Held.{AreOwn}
 use Rattle.std.proofs.Common.{length, ◌++◌, ◌≡◌, ◌≤◌}
 use Rattle.object_store.proofs.page.flat_page.Given as goal
 
--- the entries so far and those that are left are all
+-- The entries so far and those that are left are all.
 abbrev pub invariant-loop-text : goal.invariant-loop-text
 invariant-loop-text l = record {
   told : l.entries.items ++ below l.prefix l.rest ≡ below l.prefix l.fn.rest;

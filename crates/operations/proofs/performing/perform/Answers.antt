@@ -41,7 +41,7 @@ returns-in-Ok-answer_of-clause-answered g c = λ part e a.
     d.is_run.scene
     (sym c.into_inner.ensures ∙ sym c.into_stage-stage.ensures ∙ c.in-Ok-answer_of.ensures.answer) d.appended e a
 
--- the machine that was driven is the new one
+-- The machine that was driven is the new one.
 tried_new : {P A : Type 0} (t : Retrying (Stage P A)) (m : Stage P A) (retries : ℕ) (part : List Entry) (r : Result (Unit {0}) DriveStop)
     → retried t ≡ fresh retries m → t.retries ≡ retries → Tried t.retries t.spare part r → Tried retries retries part r
 tried_new {P = P} {A = A} t m retries part r e n h = subst (λ (k : ℕ). Tried retries k part r) (ap (λ (t : Retried (Stage P A)). t.spare) e)

@@ -4,6 +4,6 @@ use Rattle.std.proofs.Common.{take}
 use Rattle.std.specs.List.{flat_map}
 use Rattle.s3_types.proofs.digests.joined_tag.Given as goal
 
--- the hasher holds the digests so far
+-- The hasher has received the digests of the tags so far.
 abbrev pub invariant-loop-tag : goal.invariant-loop-tag
 invariant-loop-tag l = Holds l.hasher (flat_map digest_of (take l.tag-index l.tags))

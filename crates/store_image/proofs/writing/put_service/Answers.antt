@@ -4,7 +4,7 @@ use Rattle.std.specs.Int.{to_be_bytes, w64}
 use Rattle.store_image.specs.Image.{magic}
 use Rattle.store_image.proofs.writing.put_service.Goals as goal
 
--- four texts behind one, appended one after the other
+-- Four texts that are appended to a text, one after another.
 four : (o m a b d w x y z : List ℕ) → w ≡ o ++ m → x ≡ w ++ a → y ≡ x ++ b → z ≡ y ++ d → z ≡ o ++ (m ++ (a ++ (b ++ d)))
 four o m a b d w x y z first second third fourth =
     fourth ∙ ap (λ (l : List ℕ). l ++ d) third ∙ append_assoc x b d ∙ ap (λ (l : List ℕ). l ++ (b ++ d)) second ∙ append_assoc w a (b ++ d)

@@ -35,7 +35,7 @@ returns-clause-holds c = holds_closed c.args.self.now _ c.requires (returns-clau
 pub returns-clause-asked : goal.returns-clause-asked
 returns-clause-asked c = asked_closed c.args.self.now _ c.requires (returns-clause-ok c)
 
--- after a fault
+-- the stream had already ended
 pub returns-then-is_some-clause-holds : goal.returns-then-is_some-clause-holds
 returns-then-is_some-clause-holds c =
     let s = c.self.inside in

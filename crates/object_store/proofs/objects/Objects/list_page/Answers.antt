@@ -10,7 +10,7 @@ use Rattle.store_frame.specs.Walk.{walked}
 use Rattle.std.specs.FinMap as map
 use Rattle.object_store.proofs.objects.Objects.list_page.Goals as goal
 
--- what is walked is what is listed, folded or not
+-- The walk finds what is listed, with and without the delimiter.
 same : (p a : List ℕ) (m : Objects) (d e : Bool) → d ≡ e → walked p e a (map.entries m) ≡ listed p d a m
 same p a m d e is = walked_listed p e a m ∙ ap (λ d. listed p d a m) (sym is)
 

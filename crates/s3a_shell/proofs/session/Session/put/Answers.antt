@@ -10,7 +10,7 @@ use Rattle.s3a_shell.proofs.Few.{few_none}
 use Rattle.s3a_shell.specs.Most.{most_put}
 use Rattle.s3a_shell.proofs.session.Session.put.Goals as goal
 
--- an input of no more bytes than the most is not refused
+-- An input of at most `most_input` bytes is not refused.
 is_small : (bytes lent : List ℕ) → lent ≡ bytes → length lent ≤ most_input → false ≡ nat_lt most_input (length bytes)
 is_small bytes lent same few = grind arith
 
