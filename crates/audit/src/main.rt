@@ -2,9 +2,9 @@
 #![tactic(auto)]
 
 use audit_top::audit;
+use devices::{StdSink, StdSource};
 use exit_status::Status;
 use s3_types::Text;
-use shelf::{StdSink, StdSource};
 use std::alloc::AllocError;
 use std::process::ExitCode;
 use std::rt::Env;

@@ -1,9 +1,9 @@
 -- Parent directories of paths, and sets of directories.
 use Rattle.audit_claims.specs.Directories.{AreDirectories, has_dir}
-use Rattle.basics.proofs.Bools.{contrary}
-use Rattle.basics.proofs.Members.{false_true, same_or_not, text_is, text_true, true_or_false}
-use Rattle.basics.specs.Members.{IsIn}
-use Rattle.basics.specs.Order.{text_cmp, text_eq, text_ties}
+use Rattle.text_and_lists.proofs.Bools.{contrary}
+use Rattle.text_and_lists.proofs.Members.{false_true, same_or_not, text_is, text_true, true_or_false}
+use Rattle.text_and_lists.specs.Members.{IsIn}
+use Rattle.text_and_lists.specs.Order.{text_cmp, text_eq, text_ties}
 use Rattle.soundness.specs.Claims.{directory, is_below, with_byte}
 use Rattle.std.proofs.Common.{Bool, List, ap, arith, cond, drop, false, get_or, inl, inr, length, length-append, map, refl, subst, suc, sym}
 use Rattle.std.proofs.Common.{take, true, zero, ℕ, [], ◌&&◌, ◌++◌, ◌+◌, ◌<◌, ◌==◌, ◌||◌, ◌∙◌, ◌∷◌, ◌≡◌, ◌≤◌}

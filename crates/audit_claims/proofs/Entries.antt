@@ -5,7 +5,7 @@ use Rattle.std.specs.Prelude.{OnOk, OnErr, ⊤}
 use Rattle.std.specs.declared.alloc.AllocError.{AllocError}
 use Rattle.std.specs.Map.{lookup, values_of}
 use Rattle.std.proofs.lemmas.Option.{same_Some}
-use Rattle.basics.proofs.Options.{none_is}
+use Rattle.text_and_lists.proofs.Options.{none_is}
 use Rattle.indexmap.specs.IndexMap.{IndexMap, insert_entry, set_value_at}
 use Rattle.indexmap.proofs.CallerLemmas.{insert_entry-new}
 use Rattle.soundness.specs.Claims.{Files}

@@ -3,8 +3,8 @@ use Rattle.std.proofs.Common.{◌≡◌, ℕ, suc, ◌<◌, ◌||◌, Bool, true
 use Rattle.std.proofs.Common.{None, is_some, nat_eq, refl, sym, ap, subst, ◌∙◌, arith}
 use Rattle.std.specs.Map.{lookup, set_value}
 use Rattle.std.specs.Option.{unwrap_or}
-use Rattle.basics.specs.Order.{text_eq}
-use Rattle.basics.proofs.Members.{some_is, none_some, false_true, eq_nat, nat_true, text_is}
+use Rattle.text_and_lists.specs.Order.{text_eq}
+use Rattle.text_and_lists.proofs.Members.{some_is, none_some, false_true, eq_nat, nat_true, text_is}
 use Rattle.soundness.specs.Claims.{Files, file_at}
 use Rattle.judging.specs.Listed.{Listed, Numbered, numbered, with_attempt, with_last, with_file, writes_among, owner}
 use Rattle.audit_claims.specs.Claims.{Claimed, IsIndexed, Tags, last_has}

@@ -2,8 +2,8 @@
 use Rattle.audit_claims.proofs.Dirs.{any_at, any_some, both_true, same_truth}
 use Rattle.audit_claims.specs.Claims.{Tags}
 use Rattle.audit_claims.specs.Directories.{all_write, always_writes, files_of, has_dir, some_always_reaches, some_reaches, some_writes}
-use Rattle.basics.proofs.Members.{false_true, text_is, text_true}
-use Rattle.basics.specs.Order.{text_eq}
+use Rattle.text_and_lists.proofs.Members.{false_true, text_is, text_true}
+use Rattle.text_and_lists.specs.Order.{text_eq}
 use Rattle.judging.specs.Listed.{Listed, Numbered}
 use Rattle.soundness.specs.Claims.{Attempts, Files, always_reaches, directory, is_below, reaches, writes_into}
 use Rattle.std.proofs.Common.{Bool, List, ap, false, refl, sym, true, ℕ, [], ◌&&◌, ◌||◌, ◌∙◌, ◌∷◌, ◌≡◌}

@@ -3,7 +3,7 @@ use Rattle.std.proofs.Common.{◌≡◌, Bool, refl}
 use Rattle.std.specs.Prelude.{Decides}
 use Rattle.std.proofs.lemmas.Bool.Decides.{Decides-eqb}
 use Rattle.std.proofs.lemmas.Slice.Eq.{slice_eq-Decides}
-use Rattle.basics.specs.Order.{text_eq}
+use Rattle.text_and_lists.specs.Order.{text_eq}
 use Rattle.audit_claims.specs.Claims.{Tags}
 use Rattle.audit_claims.specs.Etags.{tags_eq}
 

@@ -1,7 +1,7 @@
 -- The claim of a trace, as its lines list it.
 use Rattle.std.specs.Prelude.{◌≡◌, ◌<◌, ℕ, List, [], Bool, is_some, length}
 use Rattle.std.specs.Map.{lookup}
-use Rattle.basics.specs.Order.{text_eq}
+use Rattle.text_and_lists.specs.Order.{text_eq}
 use Rattle.soundness.specs.Claims.{file_at}
 use Rattle.judging.specs.Listed.{Listed, last_files, numbered, owner, with_attempt}
 

@@ -1,7 +1,7 @@
 -- Which directories attempts write into, and which paths are below them.
 use Rattle.std.specs.Prelude.{◌≡◌, ◌&&◌, ℕ, List, [], ◌∷◌, Bool, false, map}
 use Rattle.std.specs.List.{list_any, list_all}
-use Rattle.basics.specs.Order.{text_eq}
+use Rattle.text_and_lists.specs.Order.{text_eq}
 use Rattle.soundness.specs.Claims.{Attempts, always_reaches, directory, reaches, writes_into}
 use Rattle.judging.specs.Listed.{Listed, Numbered}
 use Rattle.audit_claims.specs.Claims.{Tags}

@@ -4,7 +4,7 @@ use Rattle.std.specs.Cmp.{IsPartialEquivalence, IsEquivalence, partial_equiv_fro
 use Rattle.std.specs.Cmp.Lexicographic.{pointwise, lists_equiv}
 use Rattle.std.specs.Coded.{Coded, coded_list, coded_ℕ}
 use Rattle.std.specs.FinMap as map
-use Rattle.basics.specs.Order.{text_cmp, text_eq, text_equiv}
+use Rattle.text_and_lists.specs.Order.{text_cmp, text_eq, text_equiv}
 use Rattle.audit_claims.specs.Claims.{Tags}
 
 -- Two contents have as many tags, and the same tag at each place.

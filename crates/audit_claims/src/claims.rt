@@ -1,7 +1,7 @@
 ghost use Rattle.std.specs.Option.{option_copied};
 ghost use Rattle.std.specs.Prelude.{◌≡◌, ◌<◌, ◌↔◌, ℕ, List, [], Some, cond, false, length, not, is_some, nat_eq, IfOk, IfSome, IfNone, IsTrue, OnOk, OnErr};
 ghost use Rattle.std.specs.Map.{lookup};
-ghost use Rattle.basics.specs.Order.{text_eq};
+ghost use Rattle.text_and_lists.specs.Order.{text_eq};
 ghost use Rattle.soundness.specs.Claims.{file_at};
 ghost use Rattle.judging.specs.Listed.{has_attempt, last_files, numbered, owner, with_attempt, with_file};
 ghost use Rattle.indexmap.specs.IndexMap.{spare};

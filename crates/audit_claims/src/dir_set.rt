@@ -1,6 +1,6 @@
 ghost use Rattle.std.specs.Prelude.{◌≡◌, ◌<◌, ◌+◌, ◌&&◌, ◌||◌, ◌==◌, ℕ, List, [], take, length, slice_index, IfOk, OnOk};
 ghost use Rattle.std.specs.List.{list_any};
-ghost use Rattle.basics.specs.Order.{text_eq};
+ghost use Rattle.text_and_lists.specs.Order.{text_eq};
 ghost use Rattle.soundness.specs.Claims.{directory, is_below};
 ghost use Rattle.audit_claims.specs.Directories.{has_dir};
 

@@ -1,7 +1,7 @@
 -- A judge decides rightly: the results of the tests give the first reason, or the judge's knowledge afterwards.
 use Rattle.audit_claims.specs.Etags.{TagMap}
 use Rattle.audit_claims.specs.Claims.{AllListed, IsFirstMissing, Tags}
-use Rattle.basics.specs.Order.{text_cmp, text_ties}
+use Rattle.text_and_lists.specs.Order.{text_cmp, text_ties}
 use Rattle.judging.specs.Judging.{JudgedNext, StillExplains}
 use Rattle.judging.specs.Listed.{Listed, Numbered, claim_of, files_of, numbered, of_task}
 use Rattle.soundness.specs.Claims.{Attempts, Files, file_at}
@@ -44,7 +44,7 @@ use Rattle.soundness.specs.declared.marker.Marker.{Marker}
 use Rattle.soundness.specs.declared.marker.Marker.TheVariants as markers
 use Rattle.std.specs.FinMap as fin
 use Rattle.audit_judge.proofs.Tests.{or_cases, or_left, or_right}
-use Rattle.basics.proofs.Members.{text_is}
+use Rattle.text_and_lists.proofs.Members.{text_is}
 use Rattle.std.specs.Ordering.{eq_by_cmp, is_lt}
 use Rattle.std.specs.FinMap.Entries.{below_all}
 use Rattle.std.specs.declared.cmp.Ordering.{Ordering}

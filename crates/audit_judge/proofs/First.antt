@@ -1,5 +1,5 @@
 -- The first path of a list at which a test holds.
-use Rattle.basics.specs.Order.{text_cmp, text_total}
+use Rattle.text_and_lists.specs.Order.{text_cmp, text_total}
 use Rattle.std.proofs.Common.{Bool, List, None, Some, [], ap, cond, false, inl, inr, refl, subst, sym, true, ℕ, ◌∙◌, ◌∷◌, ◌≡◌, ◌⊎◌}
 use Rattle.std.proofs.lemmas.Bool.{false≢true}
 use Rattle.std.proofs.lemmas.Slice.Eq.{bytes_eq-Decides}

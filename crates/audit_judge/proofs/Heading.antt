@@ -4,8 +4,8 @@ use Rattle.audit_claims.specs.Fits.{after_fit, fit_of}
 use Rattle.audit_claims.specs.declared.claims.FileFit.{FileFit}
 use Rattle.audit_claims.specs.declared.claims.FileFit.TheVariants.{Added, Repeated, SamePath}
 use Rattle.audit_claims.specs.Claims.{Claimed, Tags, with_next}
-use Rattle.basics.proofs.Members.{text_is}
-use Rattle.basics.specs.Order.{text_eq}
+use Rattle.text_and_lists.proofs.Members.{text_is}
+use Rattle.text_and_lists.specs.Order.{text_eq}
 use Rattle.judging.proofs.Owned.{either}
 use Rattle.judging.specs.Listed.{Listed, ListedOnce, Numbered, numbered, owner, with_attempt, with_file, with_last, writes_among}
 use Rattle.soundness.specs.Claims.{Files, file_at}

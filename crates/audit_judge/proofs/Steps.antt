@@ -1,6 +1,6 @@
 -- A judge's knowledge from one moment to the next.
 use Rattle.audit_claims.specs.Claims.{Tags}
-use Rattle.basics.specs.Order.{text_cmp, text_eq, text_ties, text_total}
+use Rattle.text_and_lists.specs.Order.{text_cmp, text_eq, text_ties, text_total}
 use Rattle.judging.proofs.Owned.{either}
 use Rattle.judging.specs.Judging.{AttemptExplains, Begins, DifferAt, Judged, OthersFit, StillExplains}
 use Rattle.judging.specs.Listed.{Listed, Numbered, files_of, of_task}
@@ -16,7 +16,7 @@ use Rattle.std.specs.List.{All, AllByRecursion, AllZip, Any, Contains}
 use Rattle.audit_claims.specs.Etags.{TagMap}
 use Rattle.audit_judge.proofs.First.{is_in}
 use Rattle.audit_judge.proofs.Tests.{neither_first, neither_second}
-use Rattle.basics.proofs.Members.{text_false}
+use Rattle.text_and_lists.proofs.Members.{text_false}
 use Rattle.std.specs.FinMap as fin
 use Rattle.std.specs.List.Sorted.{IsStrictlySortedBy}
 use Rattle.std.specs.Ordering.{eq_by_cmp}

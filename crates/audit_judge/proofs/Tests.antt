@@ -1,7 +1,7 @@
 -- The tests at one path return what they should.
 use Rattle.audit_claims.specs.Claims.{Tags}
 use Rattle.audit_claims.specs.Etags.{tags_eq}
-use Rattle.basics.proofs.Members.{text_is, text_true}
+use Rattle.text_and_lists.proofs.Members.{text_is, text_true}
 use Rattle.judging.proofs.Owned.{either}
 use Rattle.soundness.specs.Claims.{Claim, is_kept, is_replaced}
 use Rattle.soundness.specs.Moments.{Fits, Shown, Whole}

@@ -1,6 +1,6 @@
 -- One more moment, at which some paths have changed: the results of the tests decide which reasons hold.
 use Rattle.audit_claims.specs.Claims.{Tags}
-use Rattle.basics.specs.Order.{text_cmp}
+use Rattle.text_and_lists.specs.Order.{text_cmp}
 use Rattle.judging.proofs.Owned.{either}
 use Rattle.judging.specs.Judging.{AttemptExplains, DifferAt, OthersFit, StillExplains}
 use Rattle.judging.specs.Listed.{Listed, Numbered, claim_of, files_of, numbered, of_task, owner, writes_among}

@@ -1,7 +1,7 @@
 -- The knowledge of a judge at a point of a run.
 use Rattle.std.specs.Prelude.{ℕ, List, Bool}
 use Rattle.std.specs.FinMap as fin
-use Rattle.basics.specs.Order.{text_cmp}
+use Rattle.text_and_lists.specs.Order.{text_cmp}
 use Rattle.soundness.specs.Claims.{Claim}
 use Rattle.soundness.specs.Moments.{Moment, Shown}
 use Rattle.soundness.specs.declared.keeps.Keeps.{Keeps}

@@ -1,7 +1,7 @@
 -- The reason that an audit gives: the first that holds.
 use Rattle.std.specs.Prelude.{ℕ, List, [], Bool, true, ◌&&◌, ◌||◌, ◌==◌, nat_lt, ◌≡◌}
 use Rattle.std.specs.Ordering.{is_lt}
-use Rattle.basics.specs.Order.{text_cmp}
+use Rattle.text_and_lists.specs.Order.{text_cmp}
 use Rattle.soundness.specs.Claims.{Claim}
 use Rattle.soundness.specs.Moments.{Moment, Shown}
 use Rattle.judging.specs.Reasons as reasons

@@ -2,7 +2,7 @@ ghost use Rattle.std.specs.FinMap as fin;
 ghost use Rattle.std.specs.List.Sorted.{IsStrictlySortedBy};
 ghost use Rattle.std.specs.Prelude.{◌≡◌, ◌∷◌, ◌++◌, ◌<◌, List, [], None, true, false, cond, length, nat_lt, not, IfNone, IfOk, IfSome};
 ghost use Rattle.std.specs.Prelude.{OnErr, OnOk};
-ghost use Rattle.basics.specs.Order.{text_cmp};
+ghost use Rattle.text_and_lists.specs.Order.{text_cmp};
 ghost use Rattle.soundness.specs.Moments.{Moment};
 ghost use Rattle.audit_claims.specs.Claims.{Tags, with_next};
 ghost use Rattle.audit_claims.specs.Fits.{after_fit, fit_of};

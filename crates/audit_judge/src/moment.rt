@@ -2,7 +2,7 @@ ghost use Rattle.std.specs.List.{find};
 ghost use Rattle.std.specs.List.Sorted.{IsStrictlySortedBy};
 ghost use Rattle.std.specs.Option.{option_copied};
 ghost use Rattle.std.specs.Prelude.{◌≡◌, ◌≢◌, ◌<◌, ℕ, List, [], false, true, IfOk, None};
-ghost use Rattle.basics.specs.Order.{text_cmp};
+ghost use Rattle.text_and_lists.specs.Order.{text_cmp};
 ghost use Rattle.judging.specs.Listed.{of_task};
 ghost use Rattle.soundness.specs.Moments.{Moment, Same};
 ghost use Rattle.audit_claims.specs.Claims.{Tags};

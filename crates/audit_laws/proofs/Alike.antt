@@ -14,7 +14,7 @@ use Rattle.audit_judge.specs.Reasons.{Holds}
 use Rattle.audit_judge.specs.declared.reason.Reason.{Reason}
 use Rattle.audit_judge.specs.declared.reason.Reason.TheVariants.{Early, Missing, Foreign, Lost, Torn, Stale, Half, Left}
 use Rattle.audit_laws.specs.Alike.{Alike, AllAlike}
-use Rattle.audit_laws.specs.Laws.{FirstAlike, SoundAlike}
+use Rattle.audit_laws.specs.LineByLine.{FirstAlike, SoundAlike}
 
 -- ---- likeness
 

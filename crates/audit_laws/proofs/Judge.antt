@@ -7,7 +7,7 @@ use Rattle.std.specs.FinMap as fin
 use Rattle.std.specs.List.{Contains, list_any}
 use Rattle.std.specs.Prelude.{map}
 use Rattle.std.specs.Str.{bytes_eq}
-use Rattle.basics.proofs.Members.{text_gone, text_here, text_left, text_other}
+use Rattle.text_and_lists.proofs.Members.{text_gone, text_here, text_left, text_other}
 use Rattle.soundness.specs.Claims.{Attempts, Files}
 use Rattle.soundness.specs.Moments.{Moment, Unchanged}
 use Rattle.judging.proofs.Changed.{among, where_changed}
@@ -20,7 +20,7 @@ use Rattle.audit_judge.specs.Bench.{Bench, Paths, claim, now, opened}
 use Rattle.audit_judge.specs.Changes.{change_all, change_by}
 use Rattle.audit_judge.specs.Following.{Follows}
 use Rattle.audit_laws.proofs.Seen.{none_in, one_of}
-use Rattle.audit_laws.specs.Laws.{Again, ChangedAll}
+use Rattle.audit_laws.specs.LineByLine.{Again, ChangedAll}
 
 -- ---- a moment once more
 

@@ -1,11 +1,11 @@
 -- One more line.
 use Rattle.std.proofs.Common.{Err, List, Ok, Option, Result, Some, [], ap, subst, sym, ℕ, ◌++◌, ◌∙◌, ◌∷◌, ◌≡◌}
 use Rattle.std.proofs.lemmas.List.{append-nil, append_assoc}
-use Rattle.basics.specs.Reading.{◌>>=◌}
+use Rattle.text_and_lists.specs.Reading.{◌>>=◌}
 use Rattle.trace_reader.specs.declared.fault.TraceFault.{TraceFault}
 use Rattle.audit_model.specs.Moments.{moment_if, moments, moments_behind, said_by}
 use Rattle.audit_model.specs.Recorded.{Recorded, read_after}
-use Rattle.audit_laws.specs.Laws.{OneMore}
+use Rattle.audit_laws.specs.LineByLine.{OneMore}
 
 -- The facts and the moments go on with one more line.
 abbrev GoesOn : List (List ℕ) → Option Recorded → List ℕ → Recorded → Type 0

@@ -11,7 +11,7 @@ use Rattle.std.proofs.lemmas.Slice.Eq.{bytes_eq-Decides, starts_is}
 use Rattle.std.specs.List.{Contains, flat_map, list_any, starts_with}
 use Rattle.std.specs.Prelude.{is_some, nat_eq, not, if◌then◌else◌, get_or, ◌&&◌}
 use Rattle.std.specs.Str.{bytes_eq}
-use Rattle.basics.proofs.Lists.{drop_front}
+use Rattle.text_and_lists.proofs.Lists.{drop_front}
 use Rattle.soundness.specs.Paths.{is_visible}
 use Rattle.judging.proofs.Owned.{either}
 use Rattle.path_keys.specs.Paths.{Path, below, relative_in}
@@ -20,7 +20,7 @@ use Rattle.audit_model.specs.Answers.{seen_path, seen_paths, visible_in}
 use Rattle.audit_model.specs.Moments.{shown_of}
 use Rattle.audit_model.specs.Recorded.{is_marker, marker_key}
 use Rattle.audit_objects.specs.Objects.{Objects, delete, put, same_place}
-use Rattle.audit_laws.specs.Laws.{MarkerLaws, SeenLaws}
+use Rattle.audit_laws.specs.LineByLine.{MarkerLaws, SeenLaws}
 
 -- ---- lists
 

@@ -8,7 +8,7 @@ use Rattle.std.proofs.lemmas.List.Elements.{All-append, All-cons, All-contains, 
 use Rattle.std.proofs.lemmas.List.Folds.{list_any_at}
 use Rattle.std.specs.List.{All, AllByRecursion, Contains, list_any}
 use Rattle.std.specs.Prelude.{codes, is_none, is_some, not, ◌↔◌}
-use Rattle.basics.specs.Reading.{check, need, ◌>>=◌}
+use Rattle.text_and_lists.specs.Reading.{check, need, ◌>>=◌}
 use Rattle.soundness.specs.Claims.{Claim}
 use Rattle.soundness.specs.Moments.{Explains, Moment, Same, Shown, Sound, Unchanged}
 use Rattle.soundness.specs.declared.keeps.Keeps.{Keeps}

@@ -1,3 +1,3 @@
 pub mod Alike
-pub mod Laws
+pub mod LineByLine
 pub mod Split

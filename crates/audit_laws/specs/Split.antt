@@ -3,7 +3,7 @@ use Rattle.std.specs.Prelude.{ℕ, List, [], ◌∷◌, ◌++◌, Bool, true, fa
 use Rattle.std.specs.List.{All, filter, list_any}
 use Rattle.soundness.specs.Moments.{Moment, Sound}
 use Rattle.soundness.specs.declared.keeps.Keeps.{Keeps}
-use Rattle.basics.specs.Reading.{◌>>=◌}
+use Rattle.text_and_lists.specs.Reading.{◌>>=◌}
 use Rattle.path_keys.specs.Paths.{Path, below}
 use Rattle.trace_reader.specs.declared.fault.TraceFault.{TraceFault}
 use Rattle.trace_reader.specs.declared.line.TraceLine.{TraceLine}

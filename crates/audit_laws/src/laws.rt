@@ -1,4 +1,4 @@
-ghost use Rattle.audit_laws.specs.Laws.{Again, ChangedAll, FirstAlike, MarkerLaws, OneMore, SeenLaws, SoundAlike};
+ghost use Rattle.audit_laws.specs.LineByLine.{Again, ChangedAll, FirstAlike, MarkerLaws, OneMore, SeenLaws, SoundAlike};
 ghost use Rattle.audit_laws.specs.Split.{Split};
 
 /// The laws by which an audit goes from one line of a trace to the next.

@@ -7,7 +7,7 @@ use Rattle.soundness.specs.declared.marker.Marker.{Marker}
 use Rattle.soundness.specs.declared.marker.Marker.TheVariants as markers
 use Rattle.judging.specs.Listed.{claim_of}
 use Rattle.audit_claims.specs.Claims.{Tags}
-use Rattle.basics.specs.Reading.{◌>>=◌}
+use Rattle.text_and_lists.specs.Reading.{◌>>=◌}
 use Rattle.trace_reader.specs.declared.fault.TraceFault.{TraceFault}
 use Rattle.path_keys.specs.Paths.{Path, below}
 use Rattle.audit_objects.specs.Objects.{Objects}

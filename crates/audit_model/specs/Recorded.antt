@@ -1,7 +1,7 @@
 -- The facts that the lines of a trace state, one line after the other.
 use Rattle.std.specs.Prelude.{ℕ, ◌+◌, List, [], Bool, true, false, not, ◌||◌, Option, Some, None, Result, Ok, Err}
 use Rattle.std.specs.Prelude.{codes, is_none, length, nat_eq, nat_lt}
-use Rattle.basics.specs.Reading.{check, need, ◌>>=◌}
+use Rattle.text_and_lists.specs.Reading.{check, need, ◌>>=◌}
 use Rattle.soundness.specs.declared.keeps.Keeps.{Keeps}
 use Rattle.judging.specs.Listed.{has_attempt, owner, with_attempt, with_file}
 use Rattle.audit_claims.specs.Claims.{Claimed, Tags, last_has}
@@ -11,7 +11,7 @@ use Rattle.trace_reader.specs.declared.fault.TraceFault.{TraceFault}
 use Rattle.trace_reader.specs.declared.fault.TraceFault.TheVariants.{NoSource, OutOfOrder, Repeated, SamePath}
 use Rattle.trace_reader.specs.declared.line.TraceLine.{TraceLine}
 use Rattle.trace_reader.specs.declared.line.TraceLine.TheVariants as line
-use Rattle.trace_reader.specs.declared.stage.Stage.{Stage}
+use Rattle.trace_reader.specs.declared.stage.TraceStage.{TraceStage}
 use Rattle.trace_reader.specs.Reading.{line_of}
 
 -- The facts that the lines so far state.
@@ -116,7 +116,7 @@ after (Some r) (line.Delete bucket keys) = Ok (changed (delete bucket keys r.obj
 after (Some r) line.Still = Ok r
 
 -- How far the trace has come.
-abbrev pub stage_of : Option Recorded → Stage
+abbrev pub stage_of : Option Recorded → TraceStage
 stage_of None = record { tasks = None; attempted = false; running = false }
 stage_of (Some r) = record { tasks = Some r.tasks; attempted = nat_lt 0 (length r.claimed.listed); running = r.running }
 

@@ -2,9 +2,9 @@
 use Rattle.audit_claims.specs.Claims.{Tags}
 use Rattle.audit_claims.specs.Etags.{TagMap}
 use Rattle.audit_objects.specs.Objects.{ObjectMap, at, delete, put, same_place, tags_in}
-use Rattle.basics.proofs.Members.{text_is, text_true}
-use Rattle.basics.proofs.Tree.{get_made, insert_same, made_insert}
-use Rattle.basics.specs.Order.{text_cmp, text_eq, text_ties, text_total}
+use Rattle.text_and_lists.proofs.Members.{text_is, text_true}
+use Rattle.text_and_lists.proofs.Tree.{get_made, insert_same, made_insert}
+use Rattle.text_and_lists.specs.Order.{text_cmp, text_eq, text_ties, text_total}
 use Rattle.std.proofs.Common.{Bool, List, None, Option, Some, ap, cond, false, get_or, length, refl, sym, take, true, ℕ, [], ◌&&◌, ◌+◌, ◌<◌}
 use Rattle.std.proofs.Common.{◌||◌, ◌∙◌, ◌∷◌, ◌≡◌}
 use Rattle.std.proofs.lemmas.List.Folds.{list_any_more}

@@ -4,7 +4,7 @@ use Rattle.std.specs.Coded.{Coded, coded_list, coded_ℕ}
 use Rattle.std.specs.FinMap as map
 use Rattle.std.specs.List.{list_any}
 use Rattle.std.specs.Str.{bytes_eq}
-use Rattle.basics.specs.Order.{text_cmp}
+use Rattle.text_and_lists.specs.Order.{text_cmp}
 use Rattle.audit_claims.specs.Claims.{Tags}
 use Rattle.audit_claims.specs.Etags.{TagMap, coded_tags}
 

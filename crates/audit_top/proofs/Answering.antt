@@ -11,7 +11,7 @@ use Rattle.audit_text.specs.declared.sound.Pick.{Pick}
 use Rattle.audit_top.specs.Answer.{AreLeast, ArePicks, IsAnswer, TellsFault, TellsSound, TellsUnsound}
 use Rattle.audit_top.specs.Progress.{AreLines, OfLines}
 use Rattle.auditor.proofs.Taking.{sound_so_far}
-use Rattle.auditor.specs.Held.{Held, Tells}
+use Rattle.auditor.specs.AuditState.{AuditState, Tells}
 use Rattle.auditor.specs.SoFar.{IsTold}
 use Rattle.exit_status.specs.Statuses.{memory_text}
 use Rattle.exit_status.specs.declared.statuses.Status.{Status}
@@ -39,7 +39,7 @@ pub if_made : {A E : Type 0} (x : Result A E) (P Q : A → Type 0) → ((t : A) 
 if_made (Ok t) P Q f h = f t h
 if_made (Err e) P Q f h = tt
 
-pub tells_sound : (h : Held) (all : List (List ℕ)) (t : IsTold h all) (n changes : ℕ) (marker : Marker) (picks : List Pick) (text : List ℕ)
+pub tells_sound : (h : AuditState) (all : List (List ℕ)) (t : IsTold h all) (n changes : ℕ) (marker : Marker) (picks : List Pick) (text : List ℕ)
     → n ≡ length all → changes ≡ min t.said.changes (2 ^ 64 - 1) → marker ≡ marker_of t.said → ArePicks marker all t.said picks
     → text ≡ sound_text n changes marker picks → TellsSound all text
 tells_sound h all t n changes marker picks text count c m are is = record {
@@ -71,11 +71,11 @@ no_line lines none = subst (λ (l : List (List ℕ)). IsFaulty l 0 OutOfOrder) (
 -- ---- the picks, task by task
 
 -- The attempts so far are the least ones of the tasks before this one.
-LeastSo : Held → (task : ℕ) → List Pick → Type 0
+LeastSo : AuditState → (task : ℕ) → List Pick → Type 0
 LeastSo h task picks = (lines : List (List ℕ)) (t : IsTold h lines) (rest : List Pick)
     → AreLeast lines t.said task rest → AreLeast lines t.said 0 (picks ++ rest)
 
-pub one_pick : (h : Held) (lines : List (List ℕ)) (t : IsTold h lines) (task attempt : ℕ) (picks more : List Pick)
+pub one_pick : (h : AuditState) (lines : List (List ℕ)) (t : IsTold h lines) (task attempt : ℕ) (picks more : List Pick)
     → ((rest : List Pick) → AreLeast lines t.said task rest → AreLeast lines t.said 0 (picks ++ rest))
     → IsLeast lines t.said task attempt → more ≡ picks ++ record { task = task; attempt = attempt } ∷ []
     → (rest : List Pick) → AreLeast lines t.said (task + 1) rest → AreLeast lines t.said 0 (more ++ rest)

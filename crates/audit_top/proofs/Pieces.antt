@@ -1,6 +1,6 @@
 -- The text that was written so far.
 use Rattle.audit_top.specs.Audited.{WritesSome}
-use Rattle.shelf.specs.Devices.{Appends}
+use Rattle.devices.specs.Devices.{Appends}
 use Rattle.std.proofs.Common.{Err, List, None, Ok, OnErr, Option, Result, Some, ap, drop, length, refl, subst, sym, take, ℕ, [], ◌++◌, ◌∙◌}
 use Rattle.std.proofs.Common.{◌≡◌}
 use Rattle.std.proofs.lemmas.List.{append-nil, append_assoc, take-append-drop, take_at}

@@ -9,9 +9,9 @@ use Rattle.audit_top.specs.Progress.{AreLines, AreRead, IsAt, IsOver, LineTaken,
 use Rattle.audit_top.specs.declared.verdict.Step.{Step}
 use Rattle.audit_top.specs.declared.verdict.Step.TheVariants as step
 use Rattle.auditor.proofs.Taking.{faulty, faulty_first}
-use Rattle.auditor.specs.Held.{Held}
+use Rattle.auditor.specs.AuditState.{AuditState}
 use Rattle.auditor.specs.SoFar.{IsOfSome, IsSoFar}
-use Rattle.basics.specs.Reading.{check, ◌>>=◌}
+use Rattle.text_and_lists.specs.Reading.{check, ◌>>=◌}
 use Rattle.line_input.proofs.FirstLines.{first_of_lines, no_lines}
 use Rattle.line_input.specs.LinesOf.{behind_line, first_line, lines_of}
 use Rattle.line_input.specs.Reading.{Gives, IsCut, IsWhole}
@@ -19,18 +19,18 @@ use Rattle.trace_reader.specs.Faults.{wanting}
 use Rattle.trace_reader.specs.Reading.{MOST_BYTES, line_of}
 use Rattle.trace_reader.specs.declared.fault.TraceFault.{TraceFault}
 use Rattle.trace_reader.specs.declared.fault.TraceFault.TheVariants.{TooLong}
-use Rattle.trace_reader.specs.declared.stage.Stage.{Stage}
+use Rattle.trace_reader.specs.declared.stage.TraceStage.{TraceStage}
 
 -- ---- a line that is too long
 
 over : (n most : ℕ) → most < n → nat_le n most ≡ false
 over n most less = grind (arith, rules)
 
-long_line : (stage : Stage) (bytes : List ℕ) → MOST_BYTES < length bytes → line_of stage bytes ≡ Err TooLong
+long_line : (stage : TraceStage) (bytes : List ℕ) → MOST_BYTES < length bytes → line_of stage bytes ≡ Err TooLong
 unfolding line_of
 long_line stage bytes long = let e : nat_le (length bytes) MOST_BYTES ≡ false = over (length bytes) MOST_BYTES long in rw e refl
 
-pub too_long : (known : Option Held) (lines behind : List (List ℕ)) (bytes : List ℕ) → IsSoFar known lines → MOST_BYTES < length bytes
+pub too_long : (known : Option AuditState) (lines behind : List (List ℕ)) (bytes : List ℕ) → IsSoFar known lines → MOST_BYTES < length bytes
     → IsFaulty (lines ++ bytes ∷ behind) (length lines + 1) TooLong
 too_long None lines behind bytes none long =
     faulty_first lines behind bytes TooLong none (ap (λ x. x >>= after None) (long_line (stage_of None) bytes long))
@@ -59,7 +59,7 @@ too_short : (n most : ℕ) → most < n → n ≤ most → ⊥
 too_short n most less few = omega (arith, less, few)
 
 -- A line of an input that tells its bytes.
-told_step : (text rest : List ℕ) (o n : Option Held) (after : Option (List ℕ)) (line : List ℕ) (s : Step) (lines : List (List ℕ))
+told_step : (text rest : List ℕ) (o n : Option AuditState) (after : Option (List ℕ)) (line : List ℕ) (s : Step) (lines : List (List ℕ))
     → IsSoFar o lines → lines_of text ≡ lines ++ lines_of rest → 0 < length rest → IsWhole rest line after ⊎ IsCut MOST_BYTES rest line
     → LineTaken o n line s → StepsTo (Some text) (length lines) n after s
 told_step text rest o n after line step.More lines told e some (inl w) taken = record {
@@ -105,7 +105,7 @@ told_step text rest o n after line step.Failed lines told e some g taken = absur
 told_step text rest o n after line step.NoMemory lines told e some g taken = tt
 
 -- A line of an input that does not tell its bytes.
-untold_step : (o n : Option Held) (after : Option (List ℕ)) (line : List ℕ) (s : Step) (lines : List (List ℕ)) → IsSoFar o lines
+untold_step : (o n : Option AuditState) (after : Option (List ℕ)) (line : List ℕ) (s : Step) (lines : List (List ℕ)) → IsSoFar o lines
     → after ≡ None → LineTaken o n line s → StepsTo None (length lines) n after s
 untold_step o n after line step.More lines told none taken = record {
   lines = lines ++ line ∷ [];
@@ -131,7 +131,7 @@ untold_step o n after line step.Failed lines told none taken = absurd taken
 untold_step o n after line step.NoMemory lines told none taken = tt
 
 -- One more line.
-pub next_step : (left : Option (List ℕ)) (o n : Option Held) (rest after : Option (List ℕ)) (line : List ℕ) (s : Step) (count : ℕ)
+pub next_step : (left : Option (List ℕ)) (o n : Option AuditState) (rest after : Option (List ℕ)) (line : List ℕ) (s : Step) (count : ℕ)
     → IsAt left o rest count → Gives true MOST_BYTES rest line after → LineTaken o n line s → StepsTo left count n after s
 next_step left o n rest after line s count at gives taken =
     subst (λ k. StepsTo left k n after s) (sym at.count) (by left rest at.read gives)
@@ -142,7 +142,7 @@ next_step left o n rest after line s count at gives taken =
     by (Some text) (Some bytes) read g = told_step text bytes o n after line s at.lines at.told read g.0 g.1 taken
 
 -- The end of the input.
-pub over_step : (left : Option (List ℕ)) (known : Option Held) (rest after : Option (List ℕ)) (line : List ℕ) (count : ℕ)
+pub over_step : (left : Option (List ℕ)) (known : Option AuditState) (rest after : Option (List ℕ)) (line : List ℕ) (count : ℕ)
     → IsAt left known rest count → Gives false MOST_BYTES rest line after → IsOver left known count
 over_step left known rest after line count at gives =
     record { lines = at.lines; are = by left rest at.read gives; told = at.told; count = at.count }

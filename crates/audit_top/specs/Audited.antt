@@ -5,7 +5,7 @@ use Rattle.audit_top.specs.Progress.{OfLines}
 use Rattle.audit_top.specs.declared.answer.Words.{Words}
 use Rattle.exit_status.specs.declared.statuses.Status.{Status}
 use Rattle.exit_status.specs.declared.statuses.Status.TheVariants.{WriteFault}
-use Rattle.shelf.specs.Devices.{Appends}
+use Rattle.devices.specs.Devices.{Appends}
 
 -- The text is the answer to the lines of the input with this status.
 abbrev pub Answers : Option (List ℕ) → Status → Words → Type 0

@@ -5,7 +5,7 @@ use Rattle.audit_top.specs.declared.verdict.Step.{Step}
 use Rattle.audit_top.specs.declared.verdict.Step.TheVariants as step
 use Rattle.audit_top.specs.declared.verdict.Verdict.{Verdict}
 use Rattle.audit_top.specs.declared.verdict.Verdict.TheVariants as verdict
-use Rattle.auditor.specs.Held.{Held}
+use Rattle.auditor.specs.AuditState.{AuditState}
 use Rattle.auditor.specs.SoFar.{IsSoFar}
 use Rattle.line_input.specs.LinesOf.{lines_of}
 use Rattle.trace_reader.specs.Faults.{wanting}
@@ -24,14 +24,14 @@ AreRead (Some text) lines None = ⊥
 AreRead (Some text) lines (Some rest) = lines_of text ≡ lines ++ lines_of rest
 
 -- The audit has read `n` lines of the input, and knows what they say.
-pub record IsAt (left : Option (List ℕ)) (known : Option Held) (rest : Option (List ℕ)) (n : ℕ) : Type 0 where
+pub record IsAt (left : Option (List ℕ)) (known : Option AuditState) (rest : Option (List ℕ)) (n : ℕ) : Type 0 where
   pub lines : List (List ℕ)
   pub told : IsSoFar known lines
   pub read : AreRead left lines rest
   pub count : n ≡ length lines
 
 -- The audit has read all lines, and knows what they say.
-pub record IsOver (left : Option (List ℕ)) (known : Option Held) (n : ℕ) : Type 0 where
+pub record IsOver (left : Option (List ℕ)) (known : Option AuditState) (n : ℕ) : Type 0 where
   pub lines : List (List ℕ)
   pub are : AreLines left lines
   pub told : IsSoFar known lines
@@ -42,7 +42,7 @@ abbrev pub OfLines : Option (List ℕ) → (List (List ℕ) → Type 0) → Type
 OfLines left P = (lines : List (List ℕ)) × AreLines left lines × P lines
 
 -- The right result for a line. The line may be only the start of one that is too long.
-abbrev pub LineTaken : (before after : Option Held) → (bytes : List ℕ) → Step → Type 0
+abbrev pub LineTaken : (before after : Option AuditState) → (bytes : List ℕ) → Step → Type 0
 LineTaken before after bytes step.More =
     (length bytes ≤ MOST_BYTES) × ((lines : List (List ℕ)) → IsSoFar before lines → IsSoFar after (lines ++ bytes ∷ []))
 LineTaken before after bytes step.Over = ⊥
@@ -56,7 +56,7 @@ LineTaken before after bytes step.Failed = ⊥
 LineTaken before after bytes step.NoMemory = Unit {0}
 
 -- The right result for one more line, after `n` lines.
-abbrev pub StepsTo : Option (List ℕ) → ℕ → Option Held → Option (List ℕ) → Step → Type 0
+abbrev pub StepsTo : Option (List ℕ) → ℕ → Option AuditState → Option (List ℕ) → Step → Type 0
 StepsTo left n known rest step.More = IsAt left known rest (n + 1)
 StepsTo left n known rest step.Over = IsOver left known n
 StepsTo left n known rest (step.Unsound reason) = OfLines left (λ lines. IsUnsound lines (n + 1) reason)
@@ -65,7 +65,7 @@ StepsTo left n known rest step.Failed = Unit {0}
 StepsTo left n known rest step.NoMemory = Unit {0}
 
 -- The right result for the lines of the input.
-abbrev pub Judged : Option (List ℕ) → Option Held → Verdict → Type 0
+abbrev pub Judged : Option (List ℕ) → Option AuditState → Verdict → Type 0
 Judged left known (verdict.Over n) = IsOver left known n
 Judged left known (verdict.Unsound n reason) = OfLines left (λ lines. IsUnsound lines n reason)
 Judged left known (verdict.Faulty n fault) = (wanting fault ≡ false) × OfLines left (λ lines. IsFaulty lines n fault)
@@ -73,5 +73,5 @@ Judged left known verdict.Failed = Unit {0}
 Judged left known verdict.NoMemory = Unit {0}
 
 -- This is the right result for the lines of some input.
-abbrev pub JudgedSome : Option Held → Verdict → Type 0
+abbrev pub JudgedSome : Option AuditState → Verdict → Type 0
 JudgedSome known v = (left : Option (List ℕ)) × Judged left known v

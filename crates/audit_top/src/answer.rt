@@ -14,7 +14,7 @@ use trace_reader::TraceFault;
 
 /// A status with its text.
 #[derive(Drop)]
-pub struct Answer {
+pub struct AuditAnswer {
     pub due: Status,
     pub text: Words,
 }
@@ -83,13 +83,13 @@ fn sound(alloc: Global, audit: &Audit, lines: u64) -> Result<String, AllocError>
 }
 
 /// Returns an answer with a composed text, or the answer that memory ran out.
-fn made(due: Status, text: Result<String, AllocError>) -> Answer
+fn made(due: Status, text: Result<String, AllocError>) -> AuditAnswer
     ensures ok { IfOk text (λ t. (result.due ≡ due) × (text_of result.text ≡ string_bytes t)) }
     ensures due { OnOk text (result.due ≡ due) }
     ensures err { OnErr text ((result.due ≡ Status.NoMemory) × (text_of result.text ≡ memory_text)) }
 {
     match text {
-        Ok(text) => Answer {
+        Ok(text) => AuditAnswer {
             due,
             text: Words::Made(text),
         },
@@ -98,18 +98,18 @@ fn made(due: Status, text: Result<String, AllocError>) -> Answer
 }
 
 /// Returns the answer that memory ran out.
-fn no_memory() -> Answer
+fn no_memory() -> AuditAnswer
     ensures due { result.due ≡ Status.NoMemory }
     ensures text { text_of result.text ≡ memory_text }
 {
-    Answer {
+    AuditAnswer {
         due: Status::NoMemory,
         text: Words::Fixed("no memory\n"),
     }
 }
 
 /// Returns the answer to a trace of `lines` lines that has ended.
-fn over(alloc: Global, auditor: &Auditor, lines: u64) -> Answer
+fn over(alloc: Global, auditor: &Auditor, lines: u64) -> AuditAnswer
     requires told { IsOfSome auditor.now }
     ensures right { (left : Option (List ℕ)) → IsOver left auditor.now lines → OfLines left (IsAnswer result.due (text_of result.text)) }
     ensures calm { result.due ≢ Status.ReadFault }
@@ -124,7 +124,7 @@ fn over(alloc: Global, auditor: &Auditor, lines: u64) -> Answer
 }
 
 /// Returns the answer that reports a verdict.
-pub fn answer_of(alloc: Global, auditor: &Auditor, verdict: &Verdict) -> Answer
+pub fn answer_of(alloc: Global, auditor: &Auditor, verdict: &Verdict) -> AuditAnswer
     requires judged { JudgedSome auditor.now verdict.now }
     ensures right { (left : Option (List ℕ)) → Judged left auditor.now verdict.now
         → OfLines left (IsAnswer result.due (text_of result.text)) }
@@ -141,7 +141,7 @@ pub fn answer_of(alloc: Global, auditor: &Auditor, verdict: &Verdict) -> Answer
             Status::BadScript,
             fault_text(alloc, *number, *fault),
         ),
-        Verdict::Failed => Answer {
+        Verdict::Failed => AuditAnswer {
             due: Status::ReadFault,
             text: Words::Fixed("read fault\n"),
         },
@@ -150,11 +150,11 @@ pub fn answer_of(alloc: Global, auditor: &Auditor, verdict: &Verdict) -> Answer
 }
 
 /// Returns the answer to a command line with words, which may have none.
-pub fn usage() -> Answer
+pub fn usage() -> AuditAnswer
     ensures due { result.due ≡ Status.Usage }
     ensures text { text_of result.text ≡ usage_text }
 {
-    Answer {
+    AuditAnswer {
         due: Status::Usage,
         text: Words::Fixed("usage: audit\n"),
     }

@@ -5,8 +5,8 @@ ghost use Rattle.line_input.specs.Reading.{unread};
 
 use crate::verdict::{Step, Verdict};
 use auditor::Auditor;
+use devices::Source;
 use line_input::{InputFault, LineInput};
-use shelf::Source;
 use std::alloc::Global;
 use trace_reader::{MOST_BYTES, TraceFault};
 

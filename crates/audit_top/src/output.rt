@@ -1,8 +1,8 @@
 ghost use Rattle.std.specs.Prelude.{◌≡◌, ◌<◌, ◌^◌, ◌-◌, OnOk, OnErr};
-ghost use Rattle.shelf.specs.Devices.{Appends};
+ghost use Rattle.devices.specs.Devices.{Appends};
 ghost use Rattle.audit_top.specs.Audited.{WritesSome};
 
-use shelf::{Failed, Sink};
+use devices::{Failed, Sink};
 
 /// Writes all bytes, piece by piece, and sees that they have gone out.
 pub fn write_output<K: Sink>(out: &mut K, bytes: &[u8]) -> Result<(), Failed>

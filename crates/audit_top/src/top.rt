@@ -2,13 +2,13 @@ ghost use Rattle.std.specs.Prelude.{◌≡◌, ◌≢◌, ◌<◌, ◌^◌, ◌-
 ghost use Rattle.audit_top.specs.Audited.{Answers, Audited, Writes};
 ghost use Rattle.audit_top.specs.Answer.{usage_text};
 
-use crate::answer::{Answer, answer_of, usage};
+use crate::answer::{AuditAnswer, answer_of, usage};
 use crate::lines::judge_lines;
 use crate::output::write_output;
 use auditor::Auditor;
+use devices::{Sink, Source};
 use exit_status::Status;
 use s3_types::Text;
-use shelf::{Sink, Source};
 use std::alloc::Global;
 
 /// The end of an audit: the status of its answer, and the status with which the program ends. They
@@ -20,7 +20,7 @@ pub struct Report {
 }
 
 /// Reads a trace and answers whether readers were safe.
-fn judged<Q: Source>(alloc: Global, input: &mut Q) -> Answer
+fn judged<Q: Source>(alloc: Global, input: &mut Q) -> AuditAnswer
     requires source_count { Q.faults input.old < 2 ^ 64 - 1 }
     ensures right { Answers (Q.left input.old) result.due result.text }
     ensures failed { result.due ≡ Status.ReadFault → Q.faults input.old < Q.faults input.new }

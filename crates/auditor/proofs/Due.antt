@@ -1,5 +1,5 @@
 -- What the stage of a trace guarantees of a line.
-use Rattle.basics.specs.Reading.{check, need, ◌>>=◌}
+use Rattle.text_and_lists.specs.Reading.{check, need, ◌>>=◌}
 use Rattle.pending_json.specs.Fields.{as_texts, as_u32, kept}
 use Rattle.serde_json.specs.Data.{Data}
 use Rattle.serde_json.specs.Find.{as_bool, as_object, as_str, get}
@@ -16,7 +16,7 @@ use Rattle.trace_reader.specs.declared.fault.TraceFault.{TraceFault}
 use Rattle.trace_reader.specs.declared.fault.TraceFault.TheVariants.{MissingField, NotJson, OutOfOrder, TooLong, UnknownOp}
 use Rattle.trace_reader.specs.declared.line.TraceLine.{TraceLine}
 use Rattle.trace_reader.specs.declared.operation.Operation.{Operation}
-use Rattle.trace_reader.specs.declared.stage.Stage.{Stage}
+use Rattle.trace_reader.specs.declared.stage.TraceStage.{TraceStage}
 use Rattle.trace_reader.specs.declared.fault.Field.TheVariants as field
 use Rattle.trace_reader.specs.declared.line.TraceLine.TheVariants as line
 use Rattle.trace_reader.specs.declared.operation.Operation.TheVariants as op
@@ -27,7 +27,7 @@ Below t None = ⊥
 Below t (Some n) = t < n
 
 -- The guarantees for a line that may come at this stage.
-abbrev pub Sure : Stage → TraceLine → Type 0
+abbrev pub Sure : TraceStage → TraceLine → Type 0
 Sure s (line.Job dest keeps tasks) = Unit {0}
 Sure s (line.Attempt task attempt) = (s.running ≡ false) × Below task s.tasks
 Sure s (line.File path tags) = (s.running ≡ false) × (s.attempted ≡ true)
@@ -63,7 +63,7 @@ not_running true e = sym e
 not_running false e = refl
 
 -- A request that took no effect is a line that changes nothing.
-effect : (s : Stage) (b : Bool) (l : TraceLine) → Sure s l → Sure s (if_effect b l)
+effect : (s : TraceStage) (b : Bool) (l : TraceLine) → Sure s l → Sure s (if_effect b l)
 effect s true l h = h
 effect s false l h = tt
 
@@ -90,7 +90,7 @@ member_is kind f d a e = by (get (name_of f) d) e
     by None e = grind (arith)
     by (Some v) e = (v, of_kind_is f (kind v) a e)
 
-sure_of : (s : Stage) (o : Operation) (d : Data) → may_come s o ≡ true → OfRead (Sure s) (said_by s.tasks o d)
+sure_of : (s : TraceStage) (o : Operation) (d : Data) → may_come s o ≡ true → OfRead (Sure s) (said_by s.tasks o d)
 unfolding job_in attempt_in file_in object_in put_in copy_in delete_in delete_all_in complete_in
 sure_of s op.Job d may =
     step (Sure s) (member as_dest field.Dest d) _ (λ dest _. step (Sure s) (member as_keeps field.Keeps d) _ (λ keeps _.
@@ -129,19 +129,19 @@ sure_of s op.CompleteMultipartUpload d may =
     effect s e (line.Put bucket key parts) tt))))
 sure_of s op.Other d may = tt
 
-turned : (s : Stage) (o : Operation) (b : Bool) (f : TraceFault) → may_come s o ≡ b
+turned : (s : TraceStage) (o : Operation) (b : Bool) (f : TraceFault) → may_come s o ≡ b
     → OfRead (λ o. may_come s o ≡ true) (check b f >>= λ _. Ok o)
 turned s o true f h = h
 turned s o false f h = tt
 
-turn : (s : Stage) (d : Data) (o : Operation) → turn_in s d ≡ Ok o → may_come s o ≡ true
+turn : (s : TraceStage) (d : Data) (o : Operation) → turn_in s d ≡ Ok o → may_come s o ≡ true
 turn s d o e = subst (OfRead (λ o. may_come s o ≡ true)) e
     (step (λ o. may_come s o ≡ true) (need (as_object d) NotJson) _ (λ m _. step (λ o. may_come s o ≡ true) (member as_str field.Op d) _
     (λ name _. step (λ o. may_come s o ≡ true) (need (operation_of name) UnknownOp) _
     (λ o _. turned s o (may_come s o) OutOfOrder refl))))
 
 -- A line that was read has its guarantees.
-pub sure : (s : Stage) (bytes : List ℕ) (l : TraceLine) → line_of s bytes ≡ Ok l → Sure s l
+pub sure : (s : TraceStage) (bytes : List ℕ) (l : TraceLine) → line_of s bytes ≡ Ok l → Sure s l
 unfolding line_of
 sure s bytes l e = subst (OfRead (Sure s)) e
     (step (Sure s) (check (nat_le (length bytes) MOST_BYTES) TooLong) _ (λ fits _. step (Sure s) (need (tree_of bytes) NotJson) _

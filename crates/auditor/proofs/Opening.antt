@@ -20,11 +20,11 @@ use Rattle.audit_model.specs.Recorded.{Recorded, attempt_after, begin, file_afte
 use Rattle.audit_objects.specs.Objects.{ObjectMap, Objects, at, no_objects, put, same_place}
 use Rattle.auditor.proofs.Stepping.{Told}
 use Rattle.auditor.proofs.Telling.{shown_by}
-use Rattle.auditor.specs.Held.{At, GoesBy, Held, Stands, Stepped, Tells, moments_after}
+use Rattle.auditor.specs.AuditState.{At, GoesBy, AuditState, Stands, Stepped, Tells, moments_after}
 use Rattle.auditor.specs.Paths.{given, has_path}
 use Rattle.auditor.specs.Steps.{Opened, no_paths}
-use Rattle.basics.specs.Order.{text_cmp}
-use Rattle.basics.specs.Reading.{check, ◌>>=◌}
+use Rattle.text_and_lists.specs.Order.{text_cmp}
+use Rattle.text_and_lists.specs.Reading.{check, ◌>>=◌}
 use Rattle.judging.specs.Listed.{has_attempt, owner}
 use Rattle.path_keys.specs.Paths.{Path, below}
 use Rattle.soundness.specs.Moments.{Moment}
@@ -51,7 +51,7 @@ waits_of b moments true e h = absurd (false≢true (sym e))
 waits_of b moments false e h = h.0
 
 -- One more line before the run begins.
-pub waits_on : (o n : Held) (q r : Recorded) (moments : List (Moment Tags)) → At o q moments → o.bench.started ≡ false
+pub waits_on : (o n : AuditState) (q r : Recorded) (moments : List (Moment Tags)) → At o q moments → o.bench.started ≡ false
     → n.bench.started ≡ false → Waits n.bench → Tells n r → r.marked ≡ q.marked → At n r (moments_after n.bench moments)
 waits_on o n q r moments at early still w t m = record {
   tells = t;
@@ -60,12 +60,12 @@ waits_on o n q r moments at early still w t m = record {
 }
 
 -- A judge that waits can take a line before the run begins.
-pub at_waits : (h : Held) (q : Recorded) (moments : List (Moment Tags)) → At h q moments → h.bench.started ≡ false → Waits h.bench
+pub at_waits : (h : AuditState) (q : Recorded) (moments : List (Moment Tags)) → At h q moments → h.bench.started ≡ false → Waits h.bench
 at_waits h q moments at early = waits_of h.bench moments h.bench.started early at.stands
 
 -- ---- the job's line
 
-pub begun : (h : Held) (dest : Path) (keeps : Keeps) (tasks : ℕ) → h.dest ≡ dest → h.bench ≡ new_bench keeps tasks
+pub begun : (h : AuditState) (dest : Path) (keeps : Keeps) (tasks : ℕ) → h.dest ≡ dest → h.bench ≡ new_bench keeps tasks
     → Waits h.bench → ((b k : List ℕ) → at h.objects b k ≡ None) → h.changes ≡ 0 → At h (begin dest keeps tasks) []
 begun h dest keeps tasks d b w o c = record {
   tells = record {
@@ -92,7 +92,7 @@ begun h dest keeps tasks d b w o c = record {
 -- ---- an opening object
 
 -- The judge knows no file at the path of an object that does not exist.
-pub unopened : (h : Held) (q : Recorded) (moments : List (Moment Tags)) (bucket key : List ℕ) (p : List ℕ) → At h q moments
+pub unopened : (h : AuditState) (q : Recorded) (moments : List (Moment Tags)) (bucket key : List ℕ) (p : List ℕ) → At h q moments
     → h.bench.started ≡ false → at h.objects bucket key ≡ None → Contains (seen_paths h.dest bucket (key ∷ [])) p
     → fin.get h.bench.opening p ≡ None
 unopened h q moments bucket key p a early free c =
@@ -117,7 +117,7 @@ old_marker d dest bucket key tags objects marked was same m w =
     by true h = rw (marker_laws.marker_put dest bucket key tags objects, h, m) refl
     by false h = rw (marker_laws.marker_put dest bucket key tags objects, h) w
 
-pub opened_so : (o m n : Held) (bucket key : List ℕ) (tags : Tags) → at o.objects bucket key ≡ None → o.bench.started ≡ false
+pub opened_so : (o m n : AuditState) (bucket key : List ℕ) (tags : Tags) → at o.objects bucket key ≡ None → o.bench.started ≡ false
     → Opened o m bucket key tags → n ≡ record m { objects = n.objects }
     → ((b k : List ℕ) → at n.objects b k ≡ put bucket key tags (at m.objects) b k)
     → Stepped o n (object_after bucket key tags) no_paths (Ok None)
@@ -129,15 +129,15 @@ opened_so o m n bucket key tags free early is e objs = λ q moments a.
       opening = change_all items o.bench.opening;
       shown = change_all items o.bench.shown;
       marker = cond (is_marker o.dest bucket key) markers.Old o.bench.marker;
-    } = ap (λ (h : Held). h.bench) e ∙ is.bench in
+    } = ap (λ (h : AuditState). h.bench) e ∙ is.bench in
     let kept : (h : Path) → h ≡ q.dest → (p : List ℕ)
     → has_path p (seen_paths h bucket (key ∷ [])) ≡ has_path p (seen_paths q.dest bucket (key ∷ [])) =
     λ h s p. ap (λ (d : Path). has_path p (seen_paths d bucket (key ∷ []))) s in
     subst (λ (b : Bool). GoesBy n moments (check b Repeated >>= λ _. Ok z)) (sym new)
     (waits_on o n q z moments a early (ap (λ (b : Bench). b.started) whole ∙ early)
-    (subst Waits (sym (ap (λ (h : Held). h.bench) e)) is.waits)
+    (subst Waits (sym (ap (λ (h : AuditState). h.bench) e)) is.waits)
     (record {
-      dest = ap (λ (h : Held). h.dest) e ∙ ap (λ (h : Held). h.dest) is.same ∙ a.tells.dest;
+      dest = ap (λ (h : AuditState). h.dest) e ∙ ap (λ (h : AuditState). h.dest) is.same ∙ a.tells.dest;
       keeps = ap (λ (b : Bench). b.keeps) whole ∙ a.tells.keeps;
       tasks = ap (λ (b : Bench). b.tasks) whole ∙ a.tells.tasks;
       claimed = ap (λ (b : Bench). b.claimed) whole ∙ a.tells.claimed;
@@ -154,11 +154,11 @@ opened_so o m n bucket key tags free early is e objs = λ q moments a.
       begun = ap (λ (b : Bench). b.begun) whole ∙ a.tells.begun;
       started = ap (λ (b : Bench). b.started) whole ∙ a.tells.started;
       objects = λ b k. objs b k ∙ ap (λ v. cond (same_place bucket key b k) (Some tags) v)
-          (ap (λ (h : Held). at h.objects b k) is.same ∙ a.tells.objects b k);
-      changes = ap (λ (h : Held). h.changes) e ∙ ap (λ (h : Held). h.changes) is.same ∙ a.tells.changes;
+          (ap (λ (h : AuditState). at h.objects b k) is.same ∙ a.tells.objects b k);
+      changes = ap (λ (h : AuditState). h.changes) e ∙ ap (λ (h : AuditState). h.changes) is.same ∙ a.tells.changes;
     }) refl)
 
-pub opened_again : (o n : Held) (bucket key : List ℕ) (tags : Tags) → is_some (at o.objects bucket key) ≡ true
+pub opened_again : (o n : AuditState) (bucket key : List ℕ) (tags : Tags) → is_some (at o.objects bucket key) ≡ true
     → Stepped o n (object_after bucket key tags) no_paths (Err Repeated)
 opened_again o n bucket key tags there = λ free q moments a.
     let same : is_none (q.objects bucket key) ≡ false = some_there (q.objects bucket key)

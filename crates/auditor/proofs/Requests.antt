@@ -20,17 +20,17 @@ use Rattle.audit_objects.specs.Objects.{Objects, at, delete, put, same_place}
 use Rattle.auditor.proofs.Stepping.{Told, changing}
 use Rattle.auditor.proofs.Telling.{Made, marker_after_delete, marker_after_put, same_elements, shown_by, told as telling}
 use Rattle.auditor.specs.Destinations.{in_list}
-use Rattle.auditor.specs.Held.{AtSome, Held, Stepped, Tells}
+use Rattle.auditor.specs.AuditState.{AtSome, AuditState, Stepped, Tells}
 use Rattle.auditor.specs.Paths.{given, has_path}
 use Rattle.auditor.specs.Steps.{Answered, Begun, delete_after, put_after}
-use Rattle.basics.specs.Order.{text_cmp}
+use Rattle.text_and_lists.specs.Order.{text_cmp}
 use Rattle.path_keys.specs.Paths.{Path}
 use Rattle.soundness.specs.Moments.{Moment}
 use Rattle.soundness.specs.declared.marker.Marker.{Marker}
 use Rattle.soundness.specs.declared.marker.Marker.TheVariants as markers
 
 -- The judge follows some moments once the run has begun.
-pub follows_some : (o s : Held) → AtSome o → Begun o s → FollowsSome s.bench
+pub follows_some : (o s : AuditState) → AtSome o → Begun o s → FollowsSome s.bench
 follows_some o s some begun = (some.1, begun.follows some.0 some.1 some.2)
 
 -- The paths of these changes.
@@ -45,19 +45,19 @@ one_rises None e = tt
 one_rises (Some p) e = (tt, tt)
 
 -- The knowledge after the judge received the changes.
-made : (o s m n : Held) (items : List Change) (marker : Marker) (r : Option Reason) → Begun o s → m ≡ record s { objects = m.objects }
+made : (o s m n : AuditState) (items : List Change) (marker : Marker) (r : Option Reason) → Begun o s → m ≡ record s { objects = m.objects }
     → Answered m n items marker r → Made o n items s.bench marker
 made o s m n items marker r begun e told = record {
-  dest = told.dest ∙ ap (λ (h : Held). h.dest) e ∙ ap (λ (h : Held). h.dest) begun.same;
+  dest = told.dest ∙ ap (λ (h : AuditState). h.dest) e ∙ ap (λ (h : AuditState). h.dest) begun.same;
   start = begun.bench;
   bench = told.bench
-      ∙ ap (λ (h : Held). record (changed_bench items marker h.bench) { needed = n.bench.needed; candidates = n.bench.candidates }) e;
-  changes = told.changes ∙ ap (λ (h : Held). min (h.changes + 1) (2 ^ 64 - 1))
-      (e ∙ ap (λ (h : Held). record h { objects = m.objects }) begun.same);
+      ∙ ap (λ (h : AuditState). record (changed_bench items marker h.bench) { needed = n.bench.needed; candidates = n.bench.candidates }) e;
+  changes = told.changes ∙ ap (λ (h : AuditState). min (h.changes + 1) (2 ^ 64 - 1))
+      (e ∙ ap (λ (h : AuditState). record h { objects = m.objects }) begun.same);
 }
 
 -- A request that gives some paths the same tags, or removes their files.
-pub requested : (o s m n : Held) (ps : List (List ℕ)) (e : Option Tags) (items : List Change) (marker : Marker) (r : Option Reason)
+pub requested : (o s m n : AuditState) (ps : List (List ℕ)) (e : Option Tags) (items : List Change) (marker : Marker) (r : Option Reason)
     (objects : Recorded → Objects) (marked : Recorded → Bool) (paths : Path → List (List ℕ))
     → Begun o s → m ≡ record s { objects = m.objects } → items ≡ given ps e
     → ((p : List ℕ) → has_path p ps ≡ has_path p (paths s.dest))
@@ -69,10 +69,10 @@ pub requested : (o s m n : Held) (ps : List (List ℕ)) (e : Option Tags) (items
     → Stepped o n (λ q. Ok (changed (objects q) (marked q) q)) paths (Ok r)
 requested o s m n ps e items marker r objects marked paths begun em is same told objs seen other mark =
     let mk : Made o n items s.bench marker = made o s m n items marker r begun em told in
-    let at_dest : (q : Recorded) → Tells o q → s.dest ≡ q.dest = λ q t. ap (λ (h : Held). h.dest) begun.same ∙ t.dest in
+    let at_dest : (q : Recorded) → Tells o q → s.dest ≡ q.dest = λ q t. ap (λ (h : AuditState). h.dest) begun.same ∙ t.dest in
     let kept : (q : Recorded) → Tells o q → (p : List ℕ) → has_path p ps ≡ has_path p (paths q.dest) =
     λ q t p. same p ∙ ap (λ (d : Path). has_path p (paths d)) (at_dest q t) in
-    let bench_is : m.bench ≡ s.bench = ap (λ (h : Held). h.bench) em in
+    let bench_is : m.bench ≡ s.bench = ap (λ (h : AuditState). h.bench) em in
     changing o n s.bench items marker (λ q. Ok (changed (objects q) (marked q) q)) paths r begun.bench begun.follows mk.bench
     (λ moments f. subst (λ (b : Bench). Answers b moments (paths_of items) r n.bench) bench_is
     (told.answers moments (subst (λ (b : Bench). Follows b moments) (sym bench_is) f)))
@@ -84,7 +84,7 @@ requested o s m n ps e items marker r objects marked paths begun em is same told
     (λ q t. subst (λ (l : List (List ℕ)). SameElements l (paths q.dest)) (sym (ap paths_of is ∙ given_paths ps e))
     (same_elements ps (paths q.dest) (kept q t)))
 
-pub put_step : (o s m n : Held) (bucket key : List ℕ) (tags : Tags) (path : Option (List ℕ)) (items : List Change) (marker : Marker)
+pub put_step : (o s m n : AuditState) (bucket key : List ℕ) (tags : Tags) (path : Option (List ℕ)) (items : List Change) (marker : Marker)
     (r : Option Reason) → Begun o s → m ≡ record s { objects = m.objects } → items ≡ given (in_list path) (Some tags)
     → in_list path ≡ seen_paths s.dest bucket (key ∷ [])
     → marker ≡ cond (is_marker s.dest bucket key) markers.New s.bench.marker
@@ -95,18 +95,18 @@ put_step o s m n bucket key tags path items marker r begun em is same mark objs 
     requested o s m n (in_list path) (Some tags) items marker r (λ q. put bucket key tags q.objects) (λ q. is_marker q.dest bucket key)
     (λ dest. seen_paths dest bucket (key ∷ [])) begun em is (λ p. ap (has_path p) same) told
     (λ q t b k. objs b k ∙ ap (λ v. cond (same_place bucket key b k) (Some tags) v)
-    (ap (λ (h : Held). at h.objects b k) begun.same ∙ t.objects b k))
+    (ap (λ (h : AuditState). at h.objects b k) begun.same ∙ t.objects b k))
     (λ q. seen_laws.put_seen q.dest bucket key tags q.objects) (λ q. seen_laws.put_other q.dest bucket key tags q.objects)
     (λ q t. marker_after_put q.dest bucket key tags q.objects q.marked o.bench.marker marker t.marker
     (mark ∙ (λ i. cond (is_marker (at_dest q t i) bucket key) markers.New (at_marker i))))
   where
     at_dest : (q : Recorded) → Tells o q → s.dest ≡ q.dest
-    at_dest q t = ap (λ (h : Held). h.dest) begun.same ∙ t.dest
+    at_dest q t = ap (λ (h : AuditState). h.dest) begun.same ∙ t.dest
 
     at_marker : s.bench.marker ≡ o.bench.marker
     at_marker = ap (λ (b : Bench). b.marker) begun.bench
 
-pub delete_step : (o s m n : Held) (bucket : List ℕ) (keys ps : List (List ℕ)) (items : List Change) (marker : Marker)
+pub delete_step : (o s m n : AuditState) (bucket : List ℕ) (keys ps : List (List ℕ)) (items : List Change) (marker : Marker)
     (r : Option Reason) → Begun o s → m ≡ record s { objects = m.objects } → items ≡ given ps None
     → ((p : List ℕ) → has_path p ps ≡ has_path p (seen_paths s.dest bucket keys))
     → marker ≡ cond (list_any (λ key. is_marker s.dest bucket key) keys) markers.Absent s.bench.marker
@@ -117,13 +117,13 @@ delete_step o s m n bucket keys ps items marker r begun em is same mark objs tol
     requested o s m n ps None items marker r (λ q. delete bucket keys q.objects) (λ q. false)
     (λ dest. seen_paths dest bucket keys) begun em is same told
     (λ q t b k. objs b k ∙ ap (λ v. cond (list_any (λ key. same_place bucket key b k) keys) None v)
-    (ap (λ (h : Held). at h.objects b k) begun.same ∙ t.objects b k))
+    (ap (λ (h : AuditState). at h.objects b k) begun.same ∙ t.objects b k))
     (λ q. seen_laws.delete_seen q.dest bucket keys q.objects) (λ q. seen_laws.delete_other q.dest bucket keys q.objects)
     (λ q t. marker_after_delete q.dest bucket keys q.objects q.marked o.bench.marker marker t.marker
     (mark ∙ (λ i. cond (list_any (λ key. is_marker (at_dest q t i) bucket key) keys) markers.Absent (at_marker i))))
   where
     at_dest : (q : Recorded) → Tells o q → s.dest ≡ q.dest
-    at_dest q t = ap (λ (h : Held). h.dest) begun.same ∙ t.dest
+    at_dest q t = ap (λ (h : AuditState). h.dest) begun.same ∙ t.dest
 
     at_marker : s.bench.marker ≡ o.bench.marker
     at_marker = ap (λ (b : Bench). b.marker) begun.bench

@@ -3,7 +3,7 @@ use Rattle.std.proofs.Common.{List, ap, sym, ℕ, ◌||◌, ◌∙◌, ◌≡◌
 use Rattle.std.proofs.lemmas.List.{map-id}
 use Rattle.std.specs.BTreeSet.{insert_key}
 use Rattle.audit_claims.proofs.Dirs.{has_inserted}
-use Rattle.basics.specs.Order.{text_cmp, text_eq}
+use Rattle.text_and_lists.specs.Order.{text_cmp, text_eq}
 use Rattle.auditor.specs.Paths.{has_path}
 
 pub has_added : (p : List ℕ) (ks new : List (List ℕ)) (k : List ℕ) → new ≡ insert_key text_cmp ks k

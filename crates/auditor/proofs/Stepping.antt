@@ -12,14 +12,14 @@ use Rattle.audit_judge.specs.declared.change.Change.{Change}
 use Rattle.audit_judge.specs.declared.reason.Reason.{Reason}
 use Rattle.audit_laws.specs.Alike.{SameElements}
 use Rattle.audit_model.specs.Recorded.{Recorded}
-use Rattle.auditor.specs.Held.{At, BreaksBy, GoesBy, Held, Stands, Stepped, Tells, moments_after}
+use Rattle.auditor.specs.AuditState.{At, BreaksBy, GoesBy, AuditState, Stands, Stepped, Tells, moments_after}
 use Rattle.path_keys.specs.Paths.{Path}
 use Rattle.soundness.specs.Moments.{Moment}
 use Rattle.soundness.specs.declared.marker.Marker.{Marker}
 use Rattle.trace_reader.specs.declared.fault.TraceFault.{TraceFault}
 
 -- The knowledge is what the lines say, if the last one has no fault.
-abbrev pub Told : Held → Result Recorded TraceFault → Type 0
+abbrev pub Told : AuditState → Result Recorded TraceFault → Type 0
 Told h (Ok r) = Tells h r
 Told h (Err fault) = ⊥
 
@@ -33,7 +33,7 @@ follows_on b moments e f =
     cond_of s = cond s (now b ∷ []) []
 
 -- A request changed what readers see, and the judge answered.
-pub changing : (o n : Held) (s : Bench) (items : List Change) (marker : Marker) (adds : Recorded → Result Recorded TraceFault)
+pub changing : (o n : AuditState) (s : Bench) (items : List Change) (marker : Marker) (adds : Recorded → Result Recorded TraceFault)
     (paths : Path → List (List ℕ)) (r : Option Reason)
     → s ≡ record o.bench { started = true; candidates = s.candidates }
     → ((q : Recorded) (moments : List (Moment Tags)) → At o q moments → Follows s moments)

@@ -20,9 +20,9 @@ use Rattle.audit_model.specs.Answers.{IsFaulty, IsLeast, IsSafe, IsSound, IsUnso
 use Rattle.audit_model.specs.Moments.{claim, moment, moment_if, moments, opening, said_by}
 use Rattle.audit_model.specs.Recorded.{Recorded, after, read_after, stage_of}
 use Rattle.auditor.proofs.Due.{Sure, sure}
-use Rattle.auditor.specs.Held.{At, Breaks, BreaksBy, GoesBy, Held, Stands, Stepped, Tells, moments_after}
+use Rattle.auditor.specs.AuditState.{At, Breaks, BreaksBy, GoesBy, AuditState, Stands, Stepped, Tells, moments_after}
 use Rattle.auditor.specs.SoFar.{BegunBy, IsDue, IsOfSome, IsSoFar, IsTold, Taken}
-use Rattle.basics.specs.Reading.{Unless, ◌>>=◌}
+use Rattle.text_and_lists.specs.Reading.{Unless, ◌>>=◌}
 use Rattle.judging.specs.Judging.{StillExplains}
 use Rattle.judging.specs.Listed.{Listed, claim_of, numbered, of_task}
 use Rattle.path_keys.specs.Paths.{Path}
@@ -35,14 +35,14 @@ use Rattle.trace_reader.specs.declared.fault.TraceFault.{TraceFault}
 use Rattle.trace_reader.specs.declared.fault.TraceFault.TheVariants.{OutOfOrder}
 use Rattle.trace_reader.specs.declared.line.TraceLine.{TraceLine}
 use Rattle.trace_reader.specs.declared.line.TraceLine.TheVariants as line
-use Rattle.trace_reader.specs.declared.stage.Stage.{Stage}
+use Rattle.trace_reader.specs.declared.stage.TraceStage.{TraceStage}
 
 -- ---- the same claim, the same moment
 
-claim_is : (h : Held) (r : Recorded) → Tells h r → bench_claim h.bench ≡ claim r
+claim_is : (h : AuditState) (r : Recorded) → Tells h r → bench_claim h.bench ≡ claim r
 claim_is h r t = λ i. claim_of (t.keeps i) (t.tasks i) (t.claimed i).listed
 
-now_is : (h : Held) (r : Recorded) → Tells h r → Alike (now h.bench) (moment r)
+now_is : (h : AuditState) (r : Recorded) → Tells h r → Alike (now h.bench) (moment r)
 now_is h r t = record { begun = t.begun; marker = t.marker; shown = t.shown }
 
 -- Moments that are alike, and one more of each.
@@ -52,7 +52,7 @@ alike_more [] (n ∷ ns) xs ys a b = absurd a
 alike_more (m ∷ ms) [] xs ys a b = absurd a
 alike_more (m ∷ ms) (n ∷ ns) xs ys a b = (a.0, alike_more ms ns xs ys a.1 b)
 
-alike_now : (h : Held) (r : Recorded) → Tells h r → AllAlike (cond h.bench.started (now h.bench ∷ []) []) (moment_if r)
+alike_now : (h : AuditState) (r : Recorded) → Tells h r → AllAlike (cond h.bench.started (now h.bench ∷ []) []) (moment_if r)
 alike_now h r t = subst (λ (b : Bool). AllAlike (cond h.bench.started (now h.bench ∷ []) []) (cond b (moment r ∷ []) [])) t.started
     (by h.bench.started)
   where
@@ -66,19 +66,19 @@ safe_judged : (b : Bench) (s : Bool) (ms : List (Moment Tags)) → Stands s b ms
 safe_judged b true ms h = sound_of b ms h
 safe_judged b false ms h = subst (Sound (bench_claim b) (opened b)) (sym h.1) (inl (λ k d less. absurd (omega arith)))
 
-pub safe_so_far : (h : Held) (lines : List (List ℕ)) (t : IsTold h lines) → IsSafe lines t.said
+pub safe_so_far : (h : AuditState) (lines : List (List ℕ)) (t : IsTold h lines) → IsSafe lines t.said
 safe_so_far h lines t =
     sound_alike (claim t.said) (opened h.bench) (opening t.said) t.judged (moments lines None) t.alike t.at.tells.opening
     (subst (λ (w : Claim Tags). Sound w (opened h.bench) t.judged) (claim_is h t.said t.at.tells)
     (safe_judged h.bench h.bench.started t.judged t.at.stands))
 
-pub sound_so_far : (h : Held) (lines : List (List ℕ)) (t : IsTold h lines) → IsSound lines t.said
+pub sound_so_far : (h : AuditState) (lines : List (List ℕ)) (t : IsTold h lines) → IsSound lines t.said
 sound_so_far h lines t = record { said = t.said_is; safe = safe_so_far h lines t }
 
 -- ---- one more line
 
 -- The audit knows what a line without a fault says too.
-pub told_more : (o n : Held) (lines : List (List ℕ)) (bytes : List ℕ) (l : TraceLine) (t : IsTold o lines)
+pub told_more : (o n : AuditState) (lines : List (List ℕ)) (bytes : List ℕ) (l : TraceLine) (t : IsTold o lines)
     → line_of (stage_of (Some t.said)) bytes ≡ Ok l → GoesBy n t.judged (after (Some t.said) l) → IsTold n (lines ++ bytes ∷ [])
 told_more o n lines bytes l t read goes = by (after (Some t.said) l) (ap (λ x. x >>= after (Some t.said)) read) goes
   where
@@ -97,7 +97,7 @@ told_more o n lines bytes l t read goes = by (after (Some t.said) l) (ap (λ x. 
         }
 
 -- A line shows that readers are not safe.
-pub broken : (o n : Held) (lines behind : List (List ℕ)) (bytes : List ℕ) (l : TraceLine) (reason : Reason) (t : IsTold o lines)
+pub broken : (o n : AuditState) (lines behind : List (List ℕ)) (bytes : List ℕ) (l : TraceLine) (reason : Reason) (t : IsTold o lines)
     → line_of (stage_of (Some t.said)) bytes ≡ Ok l
     → BreaksBy o n t.judged (after (Some t.said) l) (changed_paths t.said.dest l) reason
     → IsUnsound (lines ++ bytes ∷ behind) (length lines + 1) reason
@@ -125,7 +125,7 @@ broken o n lines behind bytes l reason t read breaks = by (after (Some t.said) l
     }
 
 -- A line has a fault.
-pub faulty : (o : Held) (lines behind : List (List ℕ)) (bytes : List ℕ) (fault : TraceFault) (t : IsTold o lines)
+pub faulty : (o : AuditState) (lines behind : List (List ℕ)) (bytes : List ℕ) (fault : TraceFault) (t : IsTold o lines)
     → read_after (Some t.said) bytes ≡ Err fault → IsFaulty (lines ++ bytes ∷ behind) (length lines + 1) fault
 faulty o lines behind bytes fault t e = record {
   before = lines;
@@ -148,7 +148,7 @@ faulty_first lines behind bytes fault none e =
     })
 
 -- The first line is a job's.
-pub told_first : (h : Held) (lines : List (List ℕ)) (bytes : List ℕ) (l : TraceLine) → lines ≡ []
+pub told_first : (h : AuditState) (lines : List (List ℕ)) (bytes : List ℕ) (l : TraceLine) → lines ≡ []
     → line_of (stage_of None) bytes ≡ Ok l → BegunBy h (after None l) → IsTold h (lines ++ bytes ∷ [])
 told_first h lines bytes l none read begun =
     subst (λ (ls : List (List ℕ)). IsTold h (ls ++ bytes ∷ [])) (sym none)
@@ -168,7 +168,7 @@ told_first h lines bytes l none read begun =
 
 -- ---- the guarantees of the stage
 
-pub due_by : (h : Held) (r : Recorded) (l : TraceLine) → Tells h r → Sure (stage_of (Some r)) l → IsDue h l
+pub due_by : (h : AuditState) (r : Recorded) (l : TraceLine) → Tells h r → Sure (stage_of (Some r)) l → IsDue h l
 due_by h r (line.Job dest keeps tasks) t s = tt
 due_by h r (line.Attempt task attempt) t s = (t.started ∙ s.0, subst (λ n. task < n) (sym t.tasks) s.1)
 due_by h r (line.File path tags) t s = (t.started ∙ s.0, some_listed (ap (λ (c : Claimed). length c.listed) t.claimed) s.1)
@@ -182,13 +182,13 @@ due_by h r (line.Copy bucket source key) t s = tt
 due_by h r (line.Delete bucket keys) t s = tt
 due_by h r line.Still t s = tt
 
-pub due : (h : Held) (lines : List (List ℕ)) (bytes : List ℕ) (l : TraceLine) (t : IsTold h lines)
+pub due : (h : AuditState) (lines : List (List ℕ)) (bytes : List ℕ) (l : TraceLine) (t : IsTold h lines)
     → line_of (stage_of (Some t.said)) bytes ≡ Ok l → IsDue h l
 due h lines bytes l t e = due_by h t.said l t.at.tells (sure (stage_of (Some t.said)) bytes l e)
 
 -- ---- a line that changes nothing
 
-pub still : (h : Held) (r : Recorded) (moments : List (Moment Tags)) → At h r moments → At h r (moments_after h.bench moments)
+pub still : (h : AuditState) (r : Recorded) (moments : List (Moment Tags)) → At h r moments → At h r (moments_after h.bench moments)
 still h r moments a = record { tells = a.tells; stands = by h.bench.started a.stands; unmarked = a.unmarked }
   where
     by : (s : Bool) → Stands s h.bench moments → Stands s h.bench (moments ++ cond s (now h.bench ∷ []) [])
@@ -198,66 +198,66 @@ still h r moments a = record { tells = a.tells; stands = by h.bench.started a.st
 -- ---- a line of bytes
 
 -- The stage is the one that the lines so far lead to.
-abbrev pub StageOf : Option Held → Stage → Type 0
+abbrev pub StageOf : Option AuditState → TraceStage → Type 0
 StageOf known stage =
     (lines : List (List ℕ)) (said : Option Recorded) → IsSoFar known lines → said_by lines None ≡ Ok said → stage ≡ stage_of said
 
-first_stage : (stage : Stage) (lines : List (List ℕ)) → StageOf None stage → lines ≡ [] → stage ≡ stage_of None
+first_stage : (stage : TraceStage) (lines : List (List ℕ)) → StageOf None stage → lines ≡ [] → stage ≡ stage_of None
 first_stage stage lines s none = s lines None none (ap (λ (l : List (List ℕ)). said_by l None) none)
 
-next_stage : (h : Held) (stage : Stage) (lines : List (List ℕ)) (t : IsTold h lines) → StageOf (Some h) stage
+next_stage : (h : AuditState) (stage : TraceStage) (lines : List (List ℕ)) (t : IsTold h lines) → StageOf (Some h) stage
     → stage ≡ stage_of (Some t.said)
 next_stage h stage lines t s = s lines (Some t.said) t t.said_is
 
 -- The line itself has a fault.
-pub unread : (known after : Option Held) (bytes : List ℕ) (stage : Stage) (fault : TraceFault) → StageOf known stage
+pub unread : (known after : Option AuditState) (bytes : List ℕ) (stage : TraceStage) (fault : TraceFault) → StageOf known stage
     → Unless (wanting fault) (line_of stage bytes ≡ Err fault) → Taken known after bytes (Err fault)
 unread None n bytes stage fault s fails = λ free lines behind none.
     faulty_first lines behind bytes fault none
-    (ap (λ x. x >>= after None) (ap (λ (g : Stage). line_of g bytes) (sym (first_stage stage lines s none))
+    (ap (λ x. x >>= after None) (ap (λ (g : TraceStage). line_of g bytes) (sym (first_stage stage lines s none))
     ∙ subst (λ b. Unless b (line_of stage bytes ≡ Err fault)) free fails))
 unread (Some h) n bytes stage fault s fails = λ free lines behind t.
     faulty h lines behind bytes fault t
-    (ap (λ x. x >>= after (Some t.said)) (ap (λ (g : Stage). line_of g bytes) (sym (next_stage h stage lines t s))
+    (ap (λ x. x >>= after (Some t.said)) (ap (λ (g : TraceStage). line_of g bytes) (sym (next_stage h stage lines t s))
     ∙ subst (λ b. Unless b (line_of stage bytes ≡ Err fault)) free fails))
 
 -- The line is taken.
-pub stepped : (o n : Held) (bytes : List ℕ) (l : TraceLine) (stage : Stage) (result : Result (Option Reason) TraceFault)
+pub stepped : (o n : AuditState) (bytes : List ℕ) (l : TraceLine) (stage : TraceStage) (result : Result (Option Reason) TraceFault)
     → StageOf (Some o) stage → line_of stage bytes ≡ Ok l
     → Stepped o n (λ r. after (Some r) l) (λ dest. changed_paths dest l) result → Taken (Some o) (Some n) bytes result
 stepped o n bytes l stage (Ok None) s read step = λ lines t.
-    told_more o n lines bytes l t (ap (λ (g : Stage). line_of g bytes) (sym (next_stage o stage lines t s)) ∙ read)
+    told_more o n lines bytes l t (ap (λ (g : TraceStage). line_of g bytes) (sym (next_stage o stage lines t s)) ∙ read)
     (step t.said t.judged t.at)
 stepped o n bytes l stage (Ok (Some reason)) s read step = λ lines behind t.
-    broken o n lines behind bytes l reason t (ap (λ (g : Stage). line_of g bytes) (sym (next_stage o stage lines t s)) ∙ read)
+    broken o n lines behind bytes l reason t (ap (λ (g : TraceStage). line_of g bytes) (sym (next_stage o stage lines t s)) ∙ read)
     (step t.said t.judged t.at)
 stepped o n bytes l stage (Err fault) s read step = λ free lines behind t.
     faulty o lines behind bytes fault t
-    (ap (λ x. x >>= after (Some t.said)) (ap (λ (g : Stage). line_of g bytes) (sym (next_stage o stage lines t s)) ∙ read)
+    (ap (λ x. x >>= after (Some t.said)) (ap (λ (g : TraceStage). line_of g bytes) (sym (next_stage o stage lines t s)) ∙ read)
     ∙ step free t.said t.judged t.at)
 
 -- The first line is taken.
-pub begun_taken : (h : Held) (bytes : List ℕ) (l : TraceLine) (stage : Stage) → StageOf None stage → line_of stage bytes ≡ Ok l
+pub begun_taken : (h : AuditState) (bytes : List ℕ) (l : TraceLine) (stage : TraceStage) → StageOf None stage → line_of stage bytes ≡ Ok l
     → BegunBy h (after None l) → Taken None (Some h) bytes (Ok None)
 begun_taken h bytes l stage s read begun = λ lines none.
-    told_first h lines bytes l none (ap (λ (g : Stage). line_of g bytes) (sym (first_stage stage lines s none)) ∙ read) begun
+    told_first h lines bytes l none (ap (λ (g : TraceStage). line_of g bytes) (sym (first_stage stage lines s none)) ∙ read) begun
 
-pub unbegun : (n : Option Held) (bytes : List ℕ) (l : TraceLine) (stage : Stage) (fault : TraceFault) → StageOf None stage
+pub unbegun : (n : Option AuditState) (bytes : List ℕ) (l : TraceLine) (stage : TraceStage) (fault : TraceFault) → StageOf None stage
     → line_of stage bytes ≡ Ok l → (wanting fault ≡ false → after None l ≡ Err fault) → Taken None n bytes (Err fault)
 unbegun n bytes l stage fault s read fails = λ free lines behind none.
     faulty_first lines behind bytes fault none
-    (ap (λ x. x >>= after None) (ap (λ (g : Stage). line_of g bytes) (sym (first_stage stage lines s none)) ∙ read) ∙ fails free)
+    (ap (λ x. x >>= after None) (ap (λ (g : TraceStage). line_of g bytes) (sym (first_stage stage lines s none)) ∙ read) ∙ fails free)
 
 -- An audit that knows some lines can take the line.
-pub some_due : (h : Held) (bytes : List ℕ) (l : TraceLine) (stage : Stage) → IsOfSome (Some h) → StageOf (Some h) stage
+pub some_due : (h : AuditState) (bytes : List ℕ) (l : TraceLine) (stage : TraceStage) → IsOfSome (Some h) → StageOf (Some h) stage
     → line_of stage bytes ≡ Ok l → IsDue h l
 some_due h bytes l stage some s read =
-    due h some.0 bytes l some.1 (ap (λ (g : Stage). line_of g bytes) (sym (next_stage h stage some.0 some.1 s)) ∙ read)
+    due h some.0 bytes l some.1 (ap (λ (g : TraceStage). line_of g bytes) (sym (next_stage h stage some.0 some.1 s)) ∙ read)
 
 -- ---- a new success marker
 
 -- Only a run that has begun has a new marker.
-pub follows_new : (h : Held) (lines : List (List ℕ)) (t : IsTold h lines) → h.bench.marker ≡ markers.New → Follows h.bench t.judged
+pub follows_new : (h : AuditState) (lines : List (List ℕ)) (t : IsTold h lines) → h.bench.marker ≡ markers.New → Follows h.bench t.judged
 follows_new h lines t new = by h.bench.started t.at.stands
   where
     by : (s : Bool) → Stands s h.bench t.judged → Follows h.bench t.judged
@@ -287,7 +287,7 @@ pick_alike w listed o p ms ns task a same alike pick = (
   λ k d l e. pick.1 k d l (still_alike w p o (back_same o p same) (of_task task listed) _ ns ms (all_back ms ns alike) e),
 )
 
-pub least_of : (h : Held) (lines : List (List ℕ)) (t : IsTold h lines) (task attempt : ℕ) → IsPick h.bench t.judged task attempt
+pub least_of : (h : AuditState) (lines : List (List ℕ)) (t : IsTold h lines) (task attempt : ℕ) → IsPick h.bench t.judged task attempt
     → IsLeast lines t.said task attempt
 unfolding PickAt
 least_of h lines t task attempt pick =
@@ -300,12 +300,12 @@ least_of h lines t task attempt pick =
     told.opening t.alike at_claim in
     record { explains = alike.0; least = alike.1 }
 
-pub some_least : (h : Held) (lines : List (List ℕ)) (t : IsTold h lines) (task : ℕ) (r : Option ℕ)
+pub some_least : (h : AuditState) (lines : List (List ℕ)) (t : IsTold h lines) (task : ℕ) (r : Option ℕ)
     → IfSome r (IsPick h.bench t.judged task) → IfSome r (IsLeast lines t.said task)
 some_least h lines t task None h2 = tt
 some_least h lines t task (Some a) h2 = least_of h lines t task a h2
 
-pub none_missing : (h : Held) (lines : List (List ℕ)) (t : IsTold h lines) (task : ℕ) (r : Option ℕ) → h.bench.marker ≡ markers.New
+pub none_missing : (h : AuditState) (lines : List (List ℕ)) (t : IsTold h lines) (task : ℕ) (r : Option ℕ) → h.bench.marker ≡ markers.New
     → task < h.bench.tasks → IfNone r (NoPick h.bench t.judged task) → r ≡ None → ⊥
 none_missing h lines t task None new below none e = picked h.bench t.judged task (follows_new h lines t new) new below none
 none_missing h lines t task (Some a) new below none e = absurd (some_none_not (sym e))

@@ -18,7 +18,7 @@ use Rattle.audit_model.specs.Recorded.{Recorded, changed, is_marker, marker_key}
 use Rattle.audit_objects.specs.Objects.{Objects, ObjectMap, at, delete, put}
 use Rattle.audit_laws.proofs.Judge.{changed_all}
 use Rattle.audit_laws.proofs.Seen.{marker_laws}
-use Rattle.auditor.specs.Held.{Held, Tells}
+use Rattle.auditor.specs.AuditState.{AuditState, Tells}
 use Rattle.auditor.specs.Paths.{given, has_path}
 use Rattle.path_keys.specs.Paths.{Path}
 use Rattle.soundness.specs.Moments.{Shown}
@@ -30,14 +30,14 @@ counted : (n : ℕ) → min (min n (2 ^ 64 - 1) + 1) (2 ^ 64 - 1) ≡ min (n + 1
 counted n = grind (arith)
 
 -- A request has changed the objects, and with them what readers see and the marker.
-pub record Made (o n : Held) (items : List Change) (s : Bench) (marker : Marker) : Type 0 where
+pub record Made (o n : AuditState) (items : List Change) (s : Bench) (marker : Marker) : Type 0 where
   pub dest : n.dest ≡ o.dest
   pub start : s ≡ record o.bench { started = true; candidates = s.candidates }
   pub bench : n.bench ≡ record (changed_bench items marker s) { needed = n.bench.needed; candidates = n.bench.candidates }
   pub changes : n.changes ≡ min (o.changes + 1) (2 ^ 64 - 1)
 
 -- The knowledge, by what readers then see at each path below the destination.
-pub told : (o n : Held) (items : List Change) (s : Bench) (marker : Marker) (r : Recorded) (objects : Objects) (marked : Bool)
+pub told : (o n : AuditState) (items : List Change) (s : Bench) (marker : Marker) (r : Recorded) (objects : Objects) (marked : Bool)
     → Made o n items s marker → Tells o r
     → ((p : List ℕ) → fin.get (change_all items o.bench.shown) p ≡ shown_of r.dest objects p)
     → marker ≡ marker_if (is_some (objects r.dest.bucket (marker_key r.dest))) (r.marked || marked)

@@ -1,6 +1,6 @@
 pub mod Destinations
 pub mod Paths
-pub mod Held
+pub mod AuditState
 pub mod Codes
 pub mod Steps
 pub mod SoFar

@@ -1,7 +1,7 @@
 -- Sets of paths below a destination.
 use Rattle.std.specs.Prelude.{ℕ, List, Bool, Option, map}
 use Rattle.std.specs.List.{list_any}
-use Rattle.basics.specs.Order.{text_eq}
+use Rattle.text_and_lists.specs.Order.{text_eq}
 use Rattle.audit_claims.specs.Claims.{Tags}
 use Rattle.audit_judge.specs.declared.change.Change.{Change}
 

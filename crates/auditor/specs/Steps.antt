@@ -10,7 +10,7 @@ use Rattle.audit_judge.specs.Following.{Follows, Waits}
 use Rattle.audit_model.specs.Answers.{seen_paths}
 use Rattle.audit_model.specs.Recorded.{Recorded, changed, is_marker}
 use Rattle.audit_objects.specs.Objects.{delete, put}
-use Rattle.auditor.specs.Held.{At, Held}
+use Rattle.auditor.specs.AuditState.{At, AuditState}
 use Rattle.auditor.specs.Paths.{given}
 use Rattle.path_keys.specs.Paths.{Path}
 use Rattle.soundness.specs.Moments.{Moment}
@@ -31,13 +31,13 @@ abbrev pub delete_after : (bucket : List ℕ) → (keys : List (List ℕ)) → R
 delete_after bucket keys r = Ok (changed (delete bucket keys r.objects) false r)
 
 -- The run has begun, if it had not; nothing else has changed.
-pub record Begun (before after : Held) : Type 0 where
+pub record Begun (before after : AuditState) : Type 0 where
   pub same : after ≡ record before { bench = after.bench }
   pub bench : after.bench ≡ record before.bench { started = true; candidates = after.bench.candidates }
   pub follows : (r : Recorded) (moments : List (Moment Tags)) → At before r moments → Follows after.bench moments
 
 -- The judge knows an object that exists when the run begins: the file that readers see there, or an old success marker.
-pub record Opened (before after : Held) (bucket key : List ℕ) (tags : Tags) : Type 0 where
+pub record Opened (before after : AuditState) (bucket key : List ℕ) (tags : Tags) : Type 0 where
   pub same : after ≡ record before { bench = after.bench }
   pub bench : after.bench ≡ record before.bench {
     opening = change_all (given (seen_paths before.dest bucket (key ∷ [])) (Some tags)) before.bench.opening;
@@ -47,7 +47,7 @@ pub record Opened (before after : Held) (bucket key : List ℕ) (tags : Tags) : 
   pub waits : Waits after.bench
 
 -- The judge received the changes of one more request and the marker that then exists, and answered.
-pub record Answered (before after : Held) (items : List Change) (marker : Marker) (r : Option Reason) : Type 0 where
+pub record Answered (before after : AuditState) (items : List Change) (marker : Marker) (r : Option Reason) : Type 0 where
   pub dest : after.dest ≡ before.dest
   pub objects : after.objects ≡ before.objects
   pub changes : after.changes ≡ min (before.changes + 1) (2 ^ 64 - 1)

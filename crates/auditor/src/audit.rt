@@ -4,7 +4,7 @@ ghost use Rattle.std.specs.Prelude.{IfSome, OnOk};
 ghost use Rattle.std.specs.FinMap as fin;
 ghost use Rattle.audit_judge.specs.Following.{FollowsSome, Waits};
 ghost use Rattle.audit_judge.specs.Changes.{paths_of};
-ghost use Rattle.basics.specs.Order.{text_cmp};
+ghost use Rattle.text_and_lists.specs.Order.{text_cmp};
 ghost use Rattle.std.specs.List.Sorted.{IsStrictlySortedBy};
 ghost use Rattle.audit_model.specs.Answers.{IsLeast, seen_paths};
 ghost use Rattle.audit_model.specs.Moments.{marker_of};
@@ -12,7 +12,7 @@ ghost use Rattle.audit_model.specs.Recorded.{Recorded, attempt_after, begin, com
 ghost use Rattle.audit_model.specs.Recorded.{object_after, stage_of};
 ghost use Rattle.audit_objects.specs.Objects.{at};
 ghost use Rattle.auditor.specs.Destinations.{in_list};
-ghost use Rattle.auditor.specs.Held.{At, AtSome, Stepped, Tells};
+ghost use Rattle.auditor.specs.AuditState.{At, AtSome, Stepped, Tells};
 ghost use Rattle.auditor.specs.Paths.{given};
 ghost use Rattle.auditor.specs.SoFar.{IsTold, IsToldSome};
 ghost use Rattle.auditor.specs.Steps.{Answered, Begun, Opened, delete_after, no_paths, put_after};
@@ -28,7 +28,7 @@ use s3_types::{Text, TextList};
 use soundness::{Keeps, Marker};
 use std::alloc::{AllocError, Global};
 use std::marker::Model;
-use trace_reader::{Stage, TraceFault};
+use trace_reader::{TraceFault, TraceStage};
 
 /// The knowledge of an audit about the lines so far, from the job's line on.
 #[derive(Drop)]
@@ -42,9 +42,9 @@ pub struct Audit {
 
 impl Model for Audit {
     ghost use Rattle.auditor.specs.Codes.{coded_held};
-    ghost use Rattle.auditor.specs.Held.{Held};
+    ghost use Rattle.auditor.specs.AuditState.{AuditState};
 
-    ghost Value = { Held };
+    ghost Value = { AuditState };
 
     ghost coded = { coded_held };
 
@@ -71,10 +71,10 @@ impl Audit {
     }
 
     /// Returns how far the trace has come.
-    pub(crate) fn stage(&self) -> Stage
+    pub(crate) fn stage(&self) -> TraceStage
         ensures stage { (r : Recorded) → Tells self.now r → result ≡ stage_of (Some r) }
     {
-        Stage {
+        TraceStage {
             tasks: Some(self.judge.tasks()),
             attempted: self.judge.has_attempts(),
             running: self.judge.has_started(),

@@ -3,7 +3,7 @@ ghost use Rattle.std.specs.Prelude.{◌≡◌, ℕ, List, [], None, Some, Ok, Op
 ghost use Rattle.audit_model.specs.Answers.{changed_paths};
 ghost use Rattle.audit_model.specs.Moments.{said_by};
 ghost use Rattle.audit_model.specs.Recorded.{Recorded, after, stage_of};
-ghost use Rattle.auditor.specs.Held.{AtSome, Stepped};
+ghost use Rattle.auditor.specs.AuditState.{AtSome, Stepped};
 ghost use Rattle.auditor.specs.SoFar.{Begins, IsDue, IsOfSome, IsSoFar, Taken};
 
 use crate::audit::Audit;
@@ -11,7 +11,7 @@ use audit_judge::Reason;
 use s3_types::let_go;
 use std::alloc::Global;
 use std::marker::Model;
-use trace_reader::{Stage, TraceFault, TraceLine, read_line};
+use trace_reader::{TraceFault, TraceLine, TraceStage, read_line};
 
 /// An audit of a trace. Contracts see what it knows, once the job's line has come.
 #[derive(Drop)]
@@ -23,9 +23,9 @@ pub struct Auditor {
 impl Model for Auditor {
     ghost use Rattle.std.specs.Prelude.{Option};
     ghost use Rattle.auditor.specs.Codes.{coded_known};
-    ghost use Rattle.auditor.specs.Held.{Held};
+    ghost use Rattle.auditor.specs.AuditState.{AuditState};
 
-    ghost Value = { Option Held };
+    ghost Value = { Option AuditState };
 
     ghost coded = { coded_known };
 
@@ -73,13 +73,13 @@ fn first(alloc: Global, line: TraceLine) -> Result<Audit, TraceFault>
 
 impl Auditor {
     /// Returns how far the trace has come.
-    fn stage(&self) -> Stage
+    fn stage(&self) -> TraceStage
         ensures stage { (lines : List (List ℕ)) (said : Option Recorded) → IsSoFar self.now lines → said_by lines None ≡ Ok said
             → result ≡ stage_of said }
     {
         match &self.audit {
             Some(audit) => audit.stage(),
-            None => Stage {
+            None => TraceStage {
                 tasks: None,
                 attempted: false,
                 running: false,

@@ -1,7 +1,7 @@
 ghost use Rattle.std.specs.List.{list_any};
 ghost use Rattle.std.specs.List.Sorted.{IsStrictlySortedBy};
 ghost use Rattle.std.specs.Prelude.{◌≡◌, ◌||◌, ℕ, List, [], None, IfOk, OnOk};
-ghost use Rattle.basics.specs.Order.{text_cmp, text_eq};
+ghost use Rattle.text_and_lists.specs.Order.{text_cmp, text_eq};
 ghost use Rattle.audit_model.specs.Answers.{seen_paths};
 ghost use Rattle.auditor.specs.Paths.{given, has_path};
 

@@ -1,5 +1,5 @@
 -- What a stream's blocks show of the pending bytes.
-use Rattle.basics.proofs.Naturals.{above_so, at_most_so}
+use Rattle.text_and_lists.proofs.Naturals.{above_so, at_most_so}
 use Rattle.block_stream.proofs.FillingLaws.{AtStage, at_stage}
 use Rattle.block_stream.specs.Kept.{IsCutUp, first_of, is_due, is_short, is_whole, next_at, seen, settles, stage_by}
 use Rattle.block_stream.specs.Stream.{Stream, asks_with, begin_or_wait, complete_or_wait, ended, has_part, has_some, is_direct, is_settled}
@@ -7,8 +7,8 @@ use Rattle.block_stream.specs.Stream.{is_small, settled, stage_of, wanted}
 use Rattle.block_stream.specs.declared.mode.StreamEnd.{StreamEnd}
 use Rattle.block_stream.specs.declared.mode.StreamEnd.TheVariants.{Done}
 use Rattle.block_stream.specs.declared.mode.StreamMode.{StreamMode}
-use Rattle.block_stream.specs.declared.stage.Stage.{Stage}
-use Rattle.block_stream.specs.declared.stage.Stage.TheVariants.{Completing, Over, Putting, Sending, Waiting}
+use Rattle.block_stream.specs.declared.stage.StreamStage.{StreamStage}
+use Rattle.block_stream.specs.declared.stage.StreamStage.TheVariants.{Completing, Over, Putting, Sending, Waiting}
 use Rattle.s3_types.specs.Tags.{Spelled}
 use Rattle.std.proofs.Common.{ap, append_assoc, arith, length-append, refl, subst, sym, ◌∙◌}
 use Rattle.std.proofs.Math.Seq.{drop-append_seam}
@@ -106,10 +106,10 @@ module _ (mode : StreamMode) (bucket key : List ℕ) (n : ℕ) (q : List (List �
         → asks_with (stage_by mode n q closed tags u) bucket key (unwrap_or u 0) tags (first_of q) ≡ wanted (stream closed)
     asks_is closed h g = grind (arith, first_is, stage_is, waits)
 
-settles_not : (mode : StreamMode) (g : Stage) → (is_direct mode ≡ false → g ≡ Completing → ⊥) → settles mode g ≡ (g, None)
+settles_not : (mode : StreamMode) (g : StreamStage) → (is_direct mode ≡ false → g ≡ Completing → ⊥) → settles mode g ≡ (g, None)
 settles_not mode g h = grind arith
 
-settles_now : (mode : StreamMode) (g : Stage) → is_direct mode ≡ false → g ≡ Completing → settles mode g ≡ (Over, Some Done)
+settles_now : (mode : StreamMode) (g : StreamStage) → is_direct mode ≡ false → g ≡ Completing → settles mode g ≡ (Over, Some Done)
 settles_now mode g h e = grind arith
 
 both : (a b c : Bool) → (a && (not b && not c)) ≡ true → (a ≡ true) × (b ≡ false) × (c ≡ false)
@@ -129,7 +129,7 @@ module _ (mode : StreamMode) (bucket key : List ℕ) (n : ℕ) (q : List (List �
   here = seen mode bucket key n q r u tags count closed None
 
   -- what the fields stand for and the request, for each outcome of whether the stream has ended
-  abbrev IsNext : Stage × Option StreamEnd → Stream → Type 0
+  abbrev IsNext : StreamStage × Option StreamEnd → Stream → Type 0
   IsNext g m = (seen mode bucket key n q r u tags count closed g.1 ≡ m) × ((next_at g bucket key q tags u).0 ≡ wanted m)
 
   pub next_is : 1 ≤ n → IsCutUp n closed q r → (u ≡ None → tags ≡ [])

@@ -5,8 +5,8 @@ use Rattle.block_stream.proofs.KeepingLaws.{gave_up, hidden, lost, took}
 use Rattle.block_stream.specs.Holds.{Holds, IsReady}
 use Rattle.block_stream.specs.Stored.{IsSameOutput, IsStored}
 use Rattle.block_stream.specs.Stream.{Stream, ended, moved, parted, refused, settled, stage, standing, told, wanted}
-use Rattle.block_stream.specs.declared.stage.Stage.{Stage}
-use Rattle.block_stream.specs.declared.stage.Stage.TheVariants.{Beginning, Completing, Putting, Sending}
+use Rattle.block_stream.specs.declared.stage.StreamStage.{StreamStage}
+use Rattle.block_stream.specs.declared.stage.StreamStage.TheVariants.{Beginning, Completing, Putting, Sending}
 use Rattle.machine.proofs.Keeping.{Keeps}
 use Rattle.machine.proofs.Keeps.{kept_run}
 use Rattle.machine.specs.Drove.{Drove}
@@ -63,7 +63,7 @@ same_then a b c h k = record {
 same_refused : (m : Stream) (b : Bool) (r : Refusal) → IsSameOutput m (refused m b r)
 same_refused m b r = grind arith
 
-same_told : (g : Stage) (m : Stream) (b : Bool) (a : Reply) → IsSameOutput m (told g m b a)
+same_told : (g : StreamStage) (m : Stream) (b : Bool) (a : Reply) → IsSameOutput m (told g m b a)
 same_told Putting m b (Stored t) = record { mode = refl; bucket = refl; key = refl; block = refl; count = refl; closed = refl }
 same_told Beginning m b (Upload id) = record { mode = refl; bucket = refl; key = refl; block = refl; count = refl; closed = refl }
 same_told Sending m b (Part t) = same_then m (parted m t) (settled (parted m t))

@@ -1,8 +1,8 @@
 -- Laws of an upload that is being filled: its parts, its room, and what holds after all was sent. Contracts cite none of them.
-use Rattle.basics.proofs.Bools.{not_so}
-use Rattle.basics.proofs.Lists.{one_longer}
-use Rattle.basics.proofs.Tree.{insert_same}
-use Rattle.basics.specs.Order.{text_eq, text_equiv, text_total}
+use Rattle.text_and_lists.proofs.Bools.{not_so}
+use Rattle.text_and_lists.proofs.Lists.{one_longer}
+use Rattle.text_and_lists.proofs.Tree.{insert_same}
+use Rattle.text_and_lists.specs.Order.{text_eq, text_equiv, text_total}
 use Rattle.block_stream.proofs.PartLaws.{get_same, last_stands, numbered_more}
 use Rattle.block_stream.specs.Holds.{AreBlocks, AreLong, Fills, HasParts, HasRoom, Holds, HoldsIn, IsUpload, IsUploadOf, IsWritten}
 use Rattle.block_stream.specs.Holds.{numbered}
@@ -11,8 +11,8 @@ use Rattle.block_stream.specs.Stream.{is_settled, is_small, parted, settled, sta
 use Rattle.block_stream.specs.declared.mode.StreamEnd.{StreamEnd}
 use Rattle.block_stream.specs.declared.mode.StreamEnd.TheVariants.{Done}
 use Rattle.block_stream.specs.declared.mode.StreamMode.{StreamMode}
-use Rattle.block_stream.specs.declared.stage.Stage.{Stage}
-use Rattle.block_stream.specs.declared.stage.Stage.TheVariants.{Beginning, Completing, Putting, Sending}
+use Rattle.block_stream.specs.declared.stage.StreamStage.{StreamStage}
+use Rattle.block_stream.specs.declared.stage.StreamStage.TheVariants.{Beginning, Completing, Putting, Sending}
 use Rattle.s3_types.specs.Answer.{answer, answer_at, answer_in, apply, apply_at, apply_in, bucket_of, part_put}
 use Rattle.s3_types.specs.Multipart.{is_part_number, live, with_key, with_part}
 use Rattle.s3_types.specs.Store.{BucketContent, Content, Scene, Upload}
@@ -33,7 +33,7 @@ use Rattle.std.specs.FinMap as fin
 
 -- ---- what a stage shows
 
-abbrev pub AtStage : Stage → Stream → Type 0
+abbrev pub AtStage : StreamStage → Stream → Type 0
 AtStage Putting m = (m.end ≡ None) × (m.upload ≡ None) × (is_small m ≡ true)
 AtStage Beginning m = (m.end ≡ None) × (m.upload ≡ None) × (has_part m ≡ true)
 AtStage Sending m = (m.end ≡ None) × (m.upload ≡ Some (id_of m)) × (has_part m ≡ true)

@@ -1,5 +1,5 @@
 -- A piece and the close keep what a stream holds.
-use Rattle.basics.proofs.Naturals.{at_most_so}
+use Rattle.text_and_lists.proofs.Naturals.{at_most_so}
 use Rattle.block_stream.proofs.Cuts.{first_part}
 use Rattle.block_stream.proofs.FillingLaws.{Last, Whole, due, held_from, holds_of, settle}
 use Rattle.block_stream.proofs.KeepingLaws.{unsettled}

@@ -10,7 +10,7 @@ use Rattle.block_stream.specs.Stream.{shut, stage, stage_of, wanted, wrote}
 use Rattle.block_stream.specs.declared.mode.StreamEnd.{StreamEnd}
 use Rattle.block_stream.specs.declared.mode.StreamEnd.TheVariants.{Done}
 use Rattle.block_stream.specs.declared.mode.StreamMode.{StreamMode}
-use Rattle.block_stream.specs.declared.stage.Stage.TheVariants.{Beginning, Sending}
+use Rattle.block_stream.specs.declared.stage.StreamStage.TheVariants.{Beginning, Sending}
 use Rattle.s3_types.specs.Tags.{Spelled}
 use Rattle.s3_types.specs.declared.request.Request.{Request}
 use Rattle.std.proofs.Common.{ap, append_assoc, arith, length-append, refl, subst, sym, ◌∙◌}

@@ -1,6 +1,6 @@
 -- Laws of a stream that is driven alone: it holds what was written, whatever the store loses. Contracts cite none of them.
-use Rattle.basics.proofs.Lists.{one_longer}
-use Rattle.basics.specs.Order.{text_total}
+use Rattle.text_and_lists.proofs.Lists.{one_longer}
+use Rattle.text_and_lists.specs.Order.{text_total}
 use Rattle.block_stream.proofs.FillingLaws.{AtStage, Due, IsPlace, IsStoreRequest, Last, Whole, at_stage, direct_written, due, due_number}
 use Rattle.block_stream.proofs.FillingLaws.{full, held_at, held_from, holds_of, is_number, live_is, live_now, nothing_due, place_of}
 use Rattle.block_stream.proofs.FillingLaws.{room_after, room_begun, room_ended, sent_now, sent_to, settle, settled_by, small_parts}
@@ -10,8 +10,8 @@ use Rattle.block_stream.specs.Stream.{Stream, answers, asks, begun, chunk, ended
 use Rattle.block_stream.specs.Stream.{is_settled, is_small, left, left_by, one_if, parted, stage, stage_of, told, wanted}
 use Rattle.block_stream.specs.declared.mode.StreamEnd.{StreamEnd}
 use Rattle.block_stream.specs.declared.mode.StreamEnd.TheVariants.{Done, Gone, StoreFault}
-use Rattle.block_stream.specs.declared.stage.Stage.{Stage}
-use Rattle.block_stream.specs.declared.stage.Stage.TheVariants.{Beginning, Completing, Over, Putting, Sending, Waiting}
+use Rattle.block_stream.specs.declared.stage.StreamStage.{StreamStage}
+use Rattle.block_stream.specs.declared.stage.StreamStage.TheVariants.{Beginning, Completing, Over, Putting, Sending, Waiting}
 use Rattle.s3_types.specs.Answer.{answer, answer_in, apply, apply_in, complete_answer, completed, part_answer}
 use Rattle.s3_types.specs.Blocks.{named_from}
 use Rattle.s3_types.specs.Multipart.{joined, live, with_key}
@@ -205,17 +205,17 @@ module _ (m : Stream) (s : Scene) (repeated : Bool) (bytes : List ℕ) (h : Hold
   after r = apply_in h.content s.content.next s.content.minimum r
 
   -- if the request takes effect and its reply is lost, what was held is kept; its reply fits, and after it less is left
-  record IsSent (g : Stage) (r : Request) : Type 0 where
+  record IsSent (g : StreamStage) (r : Request) : Type 0 where
     hidden : Holds m (apply s r) true bytes
     took : Holds (told g m repeated (answer s r)) (apply s r) false bytes
     fit : answers g (answer s r) ≡ true
     falls : left (told g m repeated (answer s r)) < left m
 
-  abbrev Sent : Stage → Option Request → Type 0
+  abbrev Sent : StreamStage → Option Request → Type 0
   Sent g None = Unit {0}
   Sent g (Some r) = IsSent g r
 
-  sent : (g : Stage) (r : Request) (a : Reply) → IsStoreRequest r m.bucket s → answer_in h.content s.content.next s.content.minimum r ≡ a
+  sent : (g : StreamStage) (r : Request) (a : Reply) → IsStoreRequest r m.bucket s → answer_in h.content s.content.next s.content.minimum r ≡ a
       → HoldsIn m.end m.upload m (after r) true bytes
       → (IsPlace m.bucket m.block (apply s r) (after r) → Holds (told g m repeated a) (apply s r) false bytes) → answers g a ≡ true
       → left (told g m repeated a) < left m
@@ -237,7 +237,7 @@ module _ (m : Stream) (s : Scene) (repeated : Bool) (bytes : List ℕ) (h : Hold
   done_now s' c o d g p = holds_of (ended m Done) s' false bytes c p (room_ended m Done h.room)
       (o, direct_written m.mode (ended m Done) c bytes d g)
 
-  each : (g : Stage) → AtStage g m → Sent g (asks g m)
+  each : (g : StreamStage) → AtStage g m → Sent g (asks g m)
   each Waiting k = tt
   each Over k = tt
   each Putting k =

@@ -1,7 +1,7 @@
 -- Laws of numbered parts and of their completion. Contracts cite none of them.
-use Rattle.basics.proofs.Lists.{one_longer}
-use Rattle.basics.proofs.Naturals.{at_most_so, below_so}
-use Rattle.basics.specs.Order.{text_equiv}
+use Rattle.text_and_lists.proofs.Lists.{one_longer}
+use Rattle.text_and_lists.proofs.Naturals.{at_most_so, below_so}
+use Rattle.text_and_lists.specs.Order.{text_equiv}
 use Rattle.block_stream.specs.Holds.{AreBlocks, AreLong, numbered, numbered_from}
 use Rattle.s3_types.specs.Blocks.{named_from}
 use Rattle.s3_types.specs.Multipart.{bytes_of, has_tag, is_large, is_none_named, is_sent, joined, rises, rises_from, tag_eq}

@@ -4,9 +4,9 @@ use Rattle.block_stream.proofs.KeepingLaws.{asks_alive, falls, fit, gave_up, hid
 use Rattle.block_stream.specs.Holds.{IsReady}
 use Rattle.block_stream.specs.Stream.{Fits, Stream, answers, is_no_upload, left, moved, parted, refused, stage, standing, standing_of, told}
 use Rattle.block_stream.specs.Stream.{wanted}
-use Rattle.block_stream.specs.declared.stage.Stage.{Stage}
-use Rattle.block_stream.specs.declared.stage.Stage.TheVariants.{Beginning, Completing, Putting, Sending}
-use Rattle.machine.specs.Laws.{Laws}
+use Rattle.block_stream.specs.declared.stage.StreamStage.{StreamStage}
+use Rattle.block_stream.specs.declared.stage.StreamStage.TheVariants.{Beginning, Completing, Putting, Sending}
+use Rattle.machine.specs.MachineLaws.{Laws}
 use Rattle.machine.specs.Standing.{Fine}
 use Rattle.s3_types.specs.declared.reply.Refusal.{Refusal}
 use Rattle.s3_types.specs.declared.reply.Reply.{Reply}
@@ -19,7 +19,7 @@ fine_refused : (m : Stream) (b : Bool) (r : Refusal) → standing m ≡ Fine →
 fine_refused m b r h g = grind arith
 
 -- The same at a stage with a request.
-fine_told : (g : Stage) (m : Stream) (b : Bool) (a : Reply) → standing m ≡ Fine → answers g a ≡ true → standing (told g m b a) ≡ Fine
+fine_told : (g : StreamStage) (m : Stream) (b : Bool) (a : Reply) → standing m ≡ Fine → answers g a ≡ true → standing (told g m b a) ≡ Fine
 fine_told Putting m b (Stored t) h k = refl
 fine_told Beginning m b (Upload id) h k = h
 fine_told Sending m b (Part t) h k = settled_by (λ v. standing v ≡ Fine) (parted m t) refl h

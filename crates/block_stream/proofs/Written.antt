@@ -7,8 +7,8 @@ use Rattle.block_stream.specs.Stream.{Stream, added, asks, asks_with, close, clo
 use Rattle.block_stream.specs.Stream.{shut, stage_of, wanted, wrote}
 use Rattle.block_stream.specs.declared.mode.StreamEnd.TheVariants.{Done}
 use Rattle.block_stream.specs.declared.mode.StreamMode.{StreamMode}
-use Rattle.block_stream.specs.declared.stage.Stage.{Stage}
-use Rattle.block_stream.specs.declared.stage.Stage.TheVariants.{Beginning, Sending}
+use Rattle.block_stream.specs.declared.stage.StreamStage.{StreamStage}
+use Rattle.block_stream.specs.declared.stage.StreamStage.TheVariants.{Beginning, Sending}
 use Rattle.s3_types.specs.Store.{BucketContent, Scene}
 use Rattle.s3_types.specs.Tags.{Spelled}
 use Rattle.s3_types.specs.declared.request.Request.{Request}
@@ -62,7 +62,7 @@ pub shut_ended : (m : Stream) → is_some m.end ≡ true → shut m ≡ close m
 shut_ended m h = (elim m.end as (λ e. is_some e ≡ true → shut m ≡ closed_by e m) [ Some e ↦ λ h. refl | None ↦ λ h. absurd (cc) ]) h
 
 -- the stage of a stream with a part to send
-abbrev sends : Option ℕ → Stage
+abbrev sends : Option ℕ → StreamStage
 sends None = Beginning
 sends (Some id) = Sending
 

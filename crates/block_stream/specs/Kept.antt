@@ -5,8 +5,8 @@ use Rattle.block_stream.specs.declared.mode.StreamEnd.{StreamEnd}
 use Rattle.block_stream.specs.declared.mode.StreamEnd.TheVariants.{Done}
 use Rattle.block_stream.specs.declared.mode.StreamMode.{StreamMode}
 use Rattle.block_stream.specs.declared.mode.StreamMode.TheVariants.{Delayed}
-use Rattle.block_stream.specs.declared.stage.Stage.{Stage}
-use Rattle.block_stream.specs.declared.stage.Stage.TheVariants.{Completing, Over, Putting, Sending}
+use Rattle.block_stream.specs.declared.stage.StreamStage.{StreamStage}
+use Rattle.block_stream.specs.declared.stage.StreamStage.TheVariants.{Completing, Over, Putting, Sending}
 use Rattle.s3_types.specs.Tags.{Spelled}
 use Rattle.s3_types.specs.declared.request.Request.{Request}
 use Rattle.std.specs.List.{concat}
@@ -83,17 +83,17 @@ abbrev pub is_short : StreamMode → ℕ → List (List ℕ) → Bool → Bool
 is_short mode n queue closed = is_direct mode && (closed && not (is_whole n queue))
 
 -- The stage of a stream, given the blocks that are cut off.
-abbrev pub stage_by : StreamMode → ℕ → List (List ℕ) → Bool → List Spelled → Option ℕ → Stage
+abbrev pub stage_by : StreamMode → ℕ → List (List ℕ) → Bool → List Spelled → Option ℕ → StreamStage
 stage_by mode n queue closed tags None = cond (is_short mode n queue closed) Putting (begin_or_wait (is_due n queue closed tags))
 stage_by mode n queue closed tags (Some id) = cond (is_due n queue closed tags) Sending (complete_or_wait closed)
 
 -- The stage and maybe the end: a delayed output ends where a direct one would be completed.
-abbrev pub settles : StreamMode → Stage → Stage × Option StreamEnd
+abbrev pub settles : StreamMode → StreamStage → StreamStage × Option StreamEnd
 settles Delayed Completing = (Over, Some Done)
 settles _ g = (g, None)
 
 -- The request or the end at this stage, with these blocks and tags.
-abbrev pub next_at : Stage × Option StreamEnd → List ℕ → List ℕ → List (List ℕ) → List Spelled → Option ℕ → Option Request
+abbrev pub next_at : StreamStage × Option StreamEnd → List ℕ → List ℕ → List (List ℕ) → List Spelled → Option ℕ → Option Request
     × Option StreamEnd
 next_at g bucket key queue tags upload = (asks_with g.0 bucket key (unwrap_or upload 0) tags (first_of queue), g.1)
 

@@ -4,8 +4,8 @@ use Rattle.block_stream.specs.declared.mode.StreamEnd.{StreamEnd}
 use Rattle.block_stream.specs.declared.mode.StreamEnd.TheVariants.{Done, Gone, NoMemory, StoreFault}
 use Rattle.block_stream.specs.declared.mode.StreamMode.{StreamMode}
 use Rattle.block_stream.specs.declared.mode.StreamMode.TheVariants.{Delayed, Direct}
-use Rattle.block_stream.specs.declared.stage.Stage.{Stage}
-use Rattle.block_stream.specs.declared.stage.Stage.TheVariants.{Beginning, Completing, Over, Putting, Sending, Waiting}
+use Rattle.block_stream.specs.declared.stage.StreamStage.{StreamStage}
+use Rattle.block_stream.specs.declared.stage.StreamStage.TheVariants.{Beginning, Completing, Over, Putting, Sending, Waiting}
 use Rattle.machine.specs.Standing.{Broken, Faulted, Fine, Standing}
 use Rattle.retries.specs.Retries.{Got, Item, OutOfMemory, WornOut}
 use Rattle.s3_types.specs.Blocks.{named_from}
@@ -72,23 +72,23 @@ abbrev pub is_small : Stream → Bool
 is_small m = is_direct m.mode && (m.closed && nat_lt (length m.pending) m.block)
 
 -- The stage of a stream without an upload: it begins one if a part is to be sent.
-abbrev pub begin_or_wait : Bool → Stage
+abbrev pub begin_or_wait : Bool → StreamStage
 begin_or_wait true = Beginning
 begin_or_wait false = Waiting
 
 -- The stage of a stream with all parts sent: it completes the upload if it is closed.
-abbrev pub complete_or_wait : Bool → Stage
+abbrev pub complete_or_wait : Bool → StreamStage
 complete_or_wait true = Completing
 complete_or_wait false = Waiting
 
 -- The stage, given the end and the upload.
-abbrev pub stage_of : Option StreamEnd → Option ℕ → Stream → Stage
+abbrev pub stage_of : Option StreamEnd → Option ℕ → Stream → StreamStage
 stage_of (Some e) u m = Over
 stage_of None None m = cond (is_small m) Putting (begin_or_wait (has_part m))
 stage_of None (Some id) m = cond (has_part m) Sending (complete_or_wait m.closed)
 
 -- What the stream does next.
-abbrev pub stage : Stream → Stage
+abbrev pub stage : Stream → StreamStage
 stage m = stage_of m.end m.upload m
 
 -- The bytes of the next part.
@@ -100,7 +100,7 @@ abbrev pub id_of : Stream → ℕ
 id_of m = unwrap_or m.upload 0
 
 -- The request at a stage, with this upload, the tags of its parts and the next part.
-abbrev pub asks_with : Stage → List ℕ → List ℕ → ℕ → List Spelled → List ℕ → Option Request
+abbrev pub asks_with : StreamStage → List ℕ → List ℕ → ℕ → List Spelled → List ℕ → Option Request
 asks_with Putting bucket key id tags next = Some (PutObject bucket key next None)
 asks_with Beginning bucket key id tags next = Some (CreateUpload bucket key)
 asks_with Sending bucket key id tags next = Some (UploadPart bucket key id (length tags + 1) next)
@@ -108,7 +108,7 @@ asks_with Completing bucket key id tags next = Some (CompleteUpload bucket key i
 asks_with _ bucket key id tags next = None
 
 -- The request of a stream at a stage.
-abbrev pub asks : Stage → Stream → Option Request
+abbrev pub asks : StreamStage → Stream → Option Request
 asks g m = asks_with g m.bucket m.key (id_of m) m.tags (chunk m)
 
 -- The stream's next request, or None.
@@ -177,7 +177,7 @@ refused m over NoSuchUpload = ended m (cond over Done Gone)
 refused m over _ = m
 
 -- The stream after a reply.
-abbrev pub told : Stage → Stream → Bool → Reply → Stream
+abbrev pub told : StreamStage → Stream → Bool → Reply → Stream
 told Putting m repeated (Stored tag) = ended m Done
 told Beginning m repeated (Upload id) = begun m id
 told Sending m repeated (Part tag) = settled (parted m tag)
@@ -213,7 +213,7 @@ is_no_upload NoSuchUpload = true
 is_no_upload _ = false
 
 -- True for the replies that answer the request of this stage.
-abbrev pub answers : Stage → Reply → Bool
+abbrev pub answers : StreamStage → Reply → Bool
 answers Putting (Stored tag) = true
 answers Beginning (Upload id) = true
 answers Sending (Part tag) = true

@@ -2,12 +2,12 @@ ghost use Rattle.std.specs.Prelude.{◌≡◌, ℕ, List, [], ◌∷◌, ◌++�
 ghost use Rattle.std.specs.Option.{unwrap_or};
 ghost use Rattle.s3_types.specs.declared.limits.TheConstants.{MOST_PARTS};
 ghost use Rattle.block_stream.specs.Stream.{asks_with, has_some};
-ghost use Rattle.block_stream.specs.declared.stage.Stage.TheVariants.{Putting, Sending, Completing};
+ghost use Rattle.block_stream.specs.declared.stage.StreamStage.TheVariants.{Putting, Sending, Completing};
 ghost use Rattle.block_stream.specs.Kept.{first_of, next_by, stage_by, settles};
 
 use crate::mode::{StreamEnd, StreamMode};
 use crate::queue::Queue;
-use crate::stage::Stage;
+use crate::stage::StreamStage;
 use s3_types::{Bucket, Key, Request, TagList, let_go, named_parts};
 use std::alloc::{AllocError, Global};
 
@@ -28,7 +28,7 @@ pub fn next_stage(
     closed: bool,
     tags: &TagList,
     upload: Option<u64>,
-) -> Stage
+) -> StreamStage
     ensures { result ≡ stage_by output.now.mode output.now.block queue.now closed tags.now upload }
 {
     let whole = queue.is_whole(output.block);
@@ -36,20 +36,20 @@ pub fn next_stage(
     match upload {
         None => {
             if output.mode.is_direct() && closed && !whole {
-                Stage::Putting
+                StreamStage::Putting
             } else if due {
-                Stage::Beginning
+                StreamStage::Beginning
             } else {
-                Stage::Waiting
+                StreamStage::Waiting
             }
         }
         Some(_) => {
             if due {
-                Stage::Sending
+                StreamStage::Sending
             } else if closed {
-                Stage::Completing
+                StreamStage::Completing
             } else {
-                Stage::Waiting
+                StreamStage::Waiting
             }
         }
     }
@@ -57,11 +57,14 @@ pub fn next_stage(
 
 /// The stage and maybe the end: a delayed output ends where a direct one would be completed. Takes
 /// no memory.
-fn settle(mode: StreamMode, stage: Stage) -> (Stage, Option<StreamEnd>)
+fn settle(mode: StreamMode, stage: StreamStage) -> (StreamStage, Option<StreamEnd>)
     ensures { result ≡ settles mode stage }
 {
     match (mode, stage) {
-        (StreamMode::Delayed, Stage::Completing) => (Stage::Over, Some(StreamEnd::Done)),
+        (StreamMode::Delayed, StreamStage::Completing) => (
+            StreamStage::Over,
+            Some(StreamEnd::Done),
+        ),
         (_, stage) => (stage, None),
     }
 }
@@ -110,7 +113,7 @@ fn complete(
 /// The request of a stream at a stage.
 fn ask(
     alloc: Global,
-    stage: Stage,
+    stage: StreamStage,
     output: &Output,
     upload: Option<u64>,
     tags: &TagList,
@@ -122,12 +125,12 @@ fn ask(
 {
     let upload = upload.unwrap_or(0);
     match stage {
-        Stage::Waiting => Ok(None),
-        Stage::Putting => put_first(alloc, output, queue),
-        Stage::Beginning => Ok(Some(Request::create_upload(&output.bucket, &output.key)?)),
-        Stage::Sending => send_first(alloc, output, upload, tags, queue),
-        Stage::Completing => complete(alloc, output, upload, tags),
-        Stage::Over => Ok(None),
+        StreamStage::Waiting => Ok(None),
+        StreamStage::Putting => put_first(alloc, output, queue),
+        StreamStage::Beginning => Ok(Some(Request::create_upload(&output.bucket, &output.key)?)),
+        StreamStage::Sending => send_first(alloc, output, upload, tags, queue),
+        StreamStage::Completing => complete(alloc, output, upload, tags),
+        StreamStage::Over => Ok(None),
     }
 }
 

@@ -1,6 +1,6 @@
 /// What a stream does next.
 #[derive(Clone, Copy)]
-pub enum Stage {
+pub enum StreamStage {
     /// It waits for more to be written, or for the close.
     Waiting,
     /// It puts the whole output as one object.

@@ -9,14 +9,14 @@ ghost use Rattle.block_stream.specs.Holds.{Holds, IsReady};
 ghost use Rattle.block_stream.specs.Kept.{next_by, front_of, last_of};
 ghost use Rattle.block_stream.specs.declared.mode.StreamEnd.TheVariants.{Done};
 ghost use Rattle.block_stream.specs.declared.mode.StreamFault.TheVariants.{TooLong};
-ghost use Rattle.block_stream.specs.declared.stage.Stage.TheVariants.{Beginning, Sending};
+ghost use Rattle.block_stream.specs.declared.stage.StreamStage.TheVariants.{Beginning, Sending};
 
 use crate::asking::{Output, next, next_stage, send_first};
 use crate::cutting::cut;
 use crate::delayed::Delayed;
 use crate::mode::{StreamEnd, StreamFault, StreamMode};
 use crate::queue::Queue;
-use crate::stage::Stage;
+use crate::stage::StreamStage;
 use machine::Machine;
 use s3_types::{
     Bucket, Bytes, Key, MOST_PARTS, Refusal, Reply, Request, Tag, TagList, let_go, put,
@@ -96,11 +96,11 @@ impl BlockStream {
         }
     }
 
-    fn stage(&self) -> Stage
+    fn stage(&self) -> StreamStage
         ensures { result ≡ stage self.now }
     {
         if self.end.is_some() {
-            return Stage::Over;
+            return StreamStage::Over;
         }
         next_stage(
             &self.output,
@@ -239,11 +239,14 @@ impl BlockStream {
         ensures { result ≡ answers (stage self.now) reply.now }
     {
         match (self.stage(), reply) {
-            (Stage::Putting, Reply::Stored(_)) => true,
-            (Stage::Beginning, Reply::Upload(_)) => true,
-            (Stage::Sending, Reply::Part(_)) => true,
-            (Stage::Completing, Reply::Completed(_)) => true,
-            (Stage::Sending | Stage::Completing, Reply::Refused(Refusal::NoSuchUpload)) => true,
+            (StreamStage::Putting, Reply::Stored(_)) => true,
+            (StreamStage::Beginning, Reply::Upload(_)) => true,
+            (StreamStage::Sending, Reply::Part(_)) => true,
+            (StreamStage::Completing, Reply::Completed(_)) => true,
+            (
+                StreamStage::Sending | StreamStage::Completing,
+                Reply::Refused(Refusal::NoSuchUpload),
+            ) => true,
             _ => false,
         }
     }
@@ -311,12 +314,14 @@ impl BlockStream {
         ensures err { OnErr result (broken self.new ≡ broken self.old) }
     {
         match (self.stage(), reply) {
-            (Stage::Putting, Reply::Stored(_)) => self.finish(StreamEnd::Done),
-            (Stage::Beginning, Reply::Upload(upload)) => self.begin(*upload)?,
-            (Stage::Sending, Reply::Part(tag)) => self.part(*tag)?,
-            (Stage::Sending, Reply::Refused(Refusal::NoSuchUpload)) => self.finish(StreamEnd::Gone),
-            (Stage::Completing, Reply::Completed(_)) => self.finish(StreamEnd::Done),
-            (Stage::Completing, Reply::Refused(Refusal::NoSuchUpload)) => {
+            (StreamStage::Putting, Reply::Stored(_)) => self.finish(StreamEnd::Done),
+            (StreamStage::Beginning, Reply::Upload(upload)) => self.begin(*upload)?,
+            (StreamStage::Sending, Reply::Part(tag)) => self.part(*tag)?,
+            (StreamStage::Sending, Reply::Refused(Refusal::NoSuchUpload)) => self.finish(
+                StreamEnd::Gone,
+            ),
+            (StreamStage::Completing, Reply::Completed(_)) => self.finish(StreamEnd::Done),
+            (StreamStage::Completing, Reply::Refused(Refusal::NoSuchUpload)) => {
                 self.finish(if repeated {
                     StreamEnd::Done
                 } else {

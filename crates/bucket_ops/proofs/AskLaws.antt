@@ -1,7 +1,7 @@
 -- The effect of requests on the objects of one bucket.
-use Rattle.basics.proofs.Members.{same_or_other, text_gone, text_here, text_left, text_other}
-use Rattle.basics.proofs.Tree.{insert_same}
-use Rattle.basics.specs.Order.{text_cmp, text_total}
+use Rattle.text_and_lists.proofs.Members.{same_or_other, text_gone, text_here, text_left, text_other}
+use Rattle.text_and_lists.proofs.Tree.{insert_same}
+use Rattle.text_and_lists.specs.Order.{text_cmp, text_total}
 use Rattle.bucket_ops.specs.Asks.{Ask, Copy, Drop, DropAll, Head, Put, edited, objects_at, objects_of, reply_at, reply_in, request_of}
 use Rattle.bucket_ops.specs.Asks.{with_objects, with_objects_if}
 use Rattle.operations.specs.Plans.{Repeats}

@@ -1,5 +1,5 @@
 -- Keys are deleted batch by batch.
-use Rattle.basics.proofs.Naturals.{below_is}
+use Rattle.text_and_lists.proofs.Naturals.{below_is}
 use Rattle.bucket_ops.specs.Asks.{DropAll, edited}
 use Rattle.bucket_ops.specs.Sweeping.{IsDeleted, IsDeleting}
 use Rattle.list_walk.specs.Walks.{deleting}

@@ -1,6 +1,6 @@
 -- The keys below a prefix, and objects without some keys.
-use Rattle.basics.proofs.Members.{same_or_other, text_gone, text_left}
-use Rattle.basics.specs.Members.{IsIn}
+use Rattle.text_and_lists.proofs.Members.{same_or_other, text_gone, text_left}
+use Rattle.text_and_lists.specs.Members.{IsIn}
 use Rattle.bucket_ops.proofs.AskLaws.{gone_still}
 use Rattle.bucket_ops.specs.Walking.{keys_below}
 use Rattle.list_walk.specs.Walks.{keys_on}

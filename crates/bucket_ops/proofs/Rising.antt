@@ -1,7 +1,7 @@
 -- Texts that rise.
-use Rattle.basics.proofs.Less.{less_of, lt, lt_trans}
-use Rattle.basics.specs.Members.{RisesFrom}
-use Rattle.basics.specs.Order.{text_cmp, text_total}
+use Rattle.text_and_lists.proofs.Less.{less_of, lt, lt_trans}
+use Rattle.text_and_lists.specs.Members.{RisesFrom}
+use Rattle.text_and_lists.specs.Order.{text_cmp, text_total}
 use Rattle.std.specs.List.{AllByRecursion}
 use Rattle.std.specs.List.Sorted.{IsStrictlySortedBy}
 use Rattle.std.specs.Prelude.{List, true, ℕ, [], ◌∷◌, ◌≡◌}

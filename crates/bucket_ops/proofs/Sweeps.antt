@@ -1,5 +1,5 @@
 -- A sweep lists all keys and deletes them, and it ends.
-use Rattle.basics.proofs.Tree.{filter_all}
+use Rattle.text_and_lists.proofs.Tree.{filter_all}
 use Rattle.bucket_ops.proofs.Batches.{batch_goes, deleting_all, within}
 use Rattle.bucket_ops.proofs.Walks.{fits_decides, page_fits, walk_falls, walk_goes}
 use Rattle.bucket_ops.specs.Asks.{DropAll, edited, reply_in}

@@ -1,5 +1,5 @@
 -- The walk over live uploads is an operation whose requests may all be made again.
-use Rattle.basics.proofs.Naturals.{below_is, below_not}
+use Rattle.text_and_lists.proofs.Naturals.{below_is, below_not}
 use Rattle.bucket_ops.specs.Uploads.{Begins, Gives, IsListing, IsSame, Pages, asks, goes, led, left, size, uploads_from}
 use Rattle.bucket_ops.specs.declared.uploads.UploadsBelow.{UploadsBelow}
 use Rattle.list_walk.proofs.Uploads.{behind_uploads, refs_append}

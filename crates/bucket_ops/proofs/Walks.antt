@@ -1,5 +1,5 @@
 -- A walk goes on page by page, and it ends.
-use Rattle.basics.proofs.Naturals.{below_is, below_not}
+use Rattle.text_and_lists.proofs.Naturals.{below_is, below_not}
 use Rattle.bucket_ops.specs.Asks.{reply_in}
 use Rattle.bucket_ops.specs.Walking.{IsWalked, IsWalking, LessWalked, fits, is_there, walk_asks, walk_left}
 use Rattle.list_walk.proofs.Fitted.{keys_decide}

@@ -1,6 +1,6 @@
 -- A walk over all keys below a prefix, as a part of an operation on a bucket's objects (Amazon S3 API: ListObjectsV2).
-use Rattle.basics.specs.Members.{IsIn}
-use Rattle.basics.specs.Order.{text_cmp}
+use Rattle.text_and_lists.specs.Members.{IsIn}
+use Rattle.text_and_lists.specs.Order.{text_cmp}
 use Rattle.bucket_ops.specs.Asks.{Ask, Page, reply_in}
 use Rattle.list_walk.specs.Fitting.{is_key}
 use Rattle.list_walk.specs.Walks.{More, Walked, Whole, keys_on, last_of, walked_entries}

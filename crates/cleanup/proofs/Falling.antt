@@ -1,6 +1,6 @@
 -- The bound on the requests that a clean has left falls.
 use Rattle.cleanup.specs.Fits.{FitsClean}
-use Rattle.cleanup.specs.Laws.{CleansEnd}
+use Rattle.cleanup.specs.CleansEnd.{CleansEnd}
 use Rattle.cleanup.specs.Left.{after_left, left_at}
 use Rattle.job_model.specs.Jobs.{Job}
 use Rattle.job_protocol.specs.AtWork.{job_script}
@@ -9,7 +9,7 @@ use Rattle.job_protocol.specs.Cleanups.{removing, sweeping, walking}
 use Rattle.list_walk.proofs.Counting.{one_most}
 use Rattle.list_walk.proofs.Falling.{sweep_laws, upload_laws}
 use Rattle.list_walk.proofs.Growing.{growth}
-use Rattle.list_walk.specs.Laws.{LessUploads}
+use Rattle.list_walk.specs.WalksEnd.{LessUploads}
 use Rattle.list_walk.specs.Left.{adds_key, left_of, one_if, sets_upload, uploads_left}
 use Rattle.list_walk.specs.Walks.{More, Walked, Whole, all_go, sweep_asks, sweep_hears, sweep_start, uploads_after, walked_uploads}
 use Rattle.s3_types.specs.Answer.{answer, apply}

@@ -1,5 +1,5 @@
 -- A page moves keys from those that are to come to those that are known.
-use Rattle.basics.proofs.Naturals.{below_is}
+use Rattle.text_and_lists.proofs.Naturals.{below_is}
 use Rattle.list_walk.proofs.Listing.{behind_page, last_append, last_from}
 use Rattle.list_walk.specs.Fitting.{FitsPage}
 use Rattle.list_walk.specs.Left.{count_in, keys_left}

@@ -1,8 +1,8 @@
 -- Places among uploads and paths.
-use Rattle.basics.proofs.Naturals.{below_is, below_not}
+use Rattle.text_and_lists.proofs.Naturals.{below_is, below_not}
 use Rattle.cleanup.specs.Held.{abort_stage, aborting_from, clean_at, stage_after, within}
 use Rattle.cleanup.specs.Places.{abort_asks, behind, remove_asks}
-use Rattle.cleanup.specs.declared.held.Stage.{Stage}
+use Rattle.cleanup.specs.declared.clean_state.CleanStage.{CleanStage}
 use Rattle.job_model.specs.JobScript.{Script}
 use Rattle.job_model.specs.declared.ends.CleanEnd.{CleanEnd}
 use Rattle.job_protocol.specs.Cleanups.{Clean, aborted, aborting, clean_asks, clean_hears, clean_over, removing}
@@ -14,7 +14,7 @@ use Rattle.s3_types.specs.declared.request.UploadRef.{UploadRef}
 use Rattle.std.proofs.Common.{List, None, Option, Some, ap, arith, cond, drop, false, length, length-drop, nat_lt, refl, sym, true, ℕ, []}
 use Rattle.std.proofs.Common.{◌-◌, ◌<◌, ◌∙◌, ◌∷◌, ◌≡◌}
 use Rattle.std.proofs.lemmas.List.{drop-drop, drop_all}
-use Rattle.cleanup.specs.declared.held.Stage.TheVariants as stages
+use Rattle.cleanup.specs.declared.clean_state.CleanStage.TheVariants as stages
 
 -- A fact about each list with a first item holds for each list that has items.
 pub some_so : {X : Type 0} (P : List X → Type 0) → ((x : X) (xs : List X) → P (x ∷ xs)) → (xs : List X) → 0 < length xs → P xs
@@ -59,11 +59,11 @@ remove_goes w r paths at t = ap removing (drop_behind at 1 paths) ∙ some_at (�
 
 -- ---- none of these is over
 
-abbrev pub end_at : Stage → Option CleanEnd
+abbrev pub end_at : CleanStage → Option CleanEnd
 end_at (stages.Over end) = Some end
 end_at _ = None
 
-pub over_is : (stage : Stage) (found : List UploadRef) (sweep : Sweep) (paths : List (List ℕ)) (at : ℕ)
+pub over_is : (stage : CleanStage) (found : List UploadRef) (sweep : Sweep) (paths : List (List ℕ)) (at : ℕ)
     → within stage at (length found) (length paths) ≡ true → clean_over (clean_at stage found sweep paths at) ≡ end_at stage
 over_is stages.Aborting found sweep paths at t = some_at (λ l. clean_over (aborting_from l) ≡ None) (λ u us. refl) at found t
 over_is stages.Removing found sweep paths at t = some_at (λ l. clean_over (removing l) ≡ None) (λ p ps. refl) at paths t
@@ -80,21 +80,21 @@ asks_removing w l = grind arith
 
 -- ---- the steps, with the stage given by an equation
 
-pub hears_aborting : (w : Script) (r : Reply) (stage : Stage) (found : List UploadRef) (sweep : Sweep) (paths : List (List ℕ)) (at n : ℕ)
+pub hears_aborting : (w : Script) (r : Reply) (stage : CleanStage) (found : List UploadRef) (sweep : Sweep) (paths : List (List ℕ)) (at n : ℕ)
     (c : Committer) (new : Clean)
     → stage ≡ stages.Aborting → within stage at (length found) (length paths) ≡ true → n ≡ behind at 1 (length found) → c ≡ w.committer
     → new ≡ aborting c (drop n found) → new ≡ clean_hears w (clean_at stage found sweep paths at) r
 hears_aborting w r stage found sweep paths at n c new h g e f p = grind (arith, abort_goes)
 
-pub asks_at_aborting : (w : Script) (stage : Stage) (found : List UploadRef) (sweep : Sweep) (paths : List (List ℕ)) (at : ℕ)
+pub asks_at_aborting : (w : Script) (stage : CleanStage) (found : List UploadRef) (sweep : Sweep) (paths : List (List ℕ)) (at : ℕ)
     → stage ≡ stages.Aborting → abort_asks w.dest.bucket (drop at found) ≡ clean_asks w (clean_at stage found sweep paths at)
 asks_at_aborting w stage found sweep paths at h = sym (ap (λ s. clean_asks w (clean_at s found sweep paths at)) h ∙ asks_aborting w
     (drop at found))
 
-pub asks_at_removing : (w : Script) (stage : Stage) (found : List UploadRef) (sweep : Sweep) (paths : List (List ℕ)) (at : ℕ)
+pub asks_at_removing : (w : Script) (stage : CleanStage) (found : List UploadRef) (sweep : Sweep) (paths : List (List ℕ)) (at : ℕ)
     → stage ≡ stages.Removing → remove_asks (drop at paths) ≡ clean_asks w (clean_at stage found sweep paths at)
 asks_at_removing w stage found sweep paths at h = sym (ap (λ s. clean_asks w (clean_at s found sweep paths at)) h ∙ asks_removing w
     (drop at paths))
 
-pub not_over : (stage : Stage) → ((end : CleanEnd) → stage ≡ stages.Over end → ⊥) → end_at stage ≡ None
+pub not_over : (stage : CleanStage) → ((end : CleanEnd) → stage ≡ stages.Over end → ⊥) → end_at stage ≡ None
 not_over stage h = grind arith

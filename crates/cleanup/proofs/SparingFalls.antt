@@ -1,7 +1,7 @@
 -- The bound on the requests that a sparing clean has left falls.
 use Rattle.cleanup.proofs.Falling.{of_some}
 use Rattle.cleanup.proofs.Pages.{Moved, page_moves}
-use Rattle.cleanup.specs.Laws.{SparingsEnd}
+use Rattle.cleanup.specs.CleansEnd.{SparingsEnd}
 use Rattle.cleanup.specs.SparingFits.{FitsSparing, NamesFew, most_commits}
 use Rattle.cleanup.specs.SparingLeft.{listing_left, named_most, reading_left, sparing_left_at, walking_left}
 use Rattle.job_model.specs.JobScript.{Script}

@@ -3,8 +3,8 @@ use Rattle.cleanup.proofs.Places.{drop_behind, some_at, some_so}
 use Rattle.cleanup.specs.Places.{abort_asks, behind, delete_asks, get_asks, get_file_asks, remove_asks}
 use Rattle.cleanup.specs.SparingHeld.{aborting_from, all_of, lists_keys, places_of, read_asks, reading_from, sparing_at, sparing_of, within}
 use Rattle.cleanup.specs.SparingHeld.{within_of}
-use Rattle.cleanup.specs.declared.sparing_held.Held.{Held}
-use Rattle.cleanup.specs.declared.sparing_held.Stage.{Stage}
+use Rattle.cleanup.specs.declared.sparing_state.SparingState.{SparingState}
+use Rattle.cleanup.specs.declared.sparing_state.SparingStage.{SparingStage}
 use Rattle.job_model.specs.JobScript.{Script}
 use Rattle.job_model.specs.declared.ends.CleanEnd.{CleanEnd}
 use Rattle.job_protocol.specs.Sparing.{Sparing, aborting, deleting, names, reading_on, removing, sparing_asks, sparing_hears, sparing_over}
@@ -14,7 +14,7 @@ use Rattle.s3_types.specs.declared.request.Committer.{Committer}
 use Rattle.s3_types.specs.declared.request.Committer.TheVariants.{Magic}
 use Rattle.s3_types.specs.declared.request.UploadRef.{UploadRef}
 use Rattle.std.proofs.Common.{Bool, List, None, Option, Some, ap, arith, drop, length, length-drop, refl, sym, true, ℕ, ◌++◌, ◌<◌, ◌∙◌, ◌≡◌}
-use Rattle.cleanup.specs.declared.sparing_held.Stage.TheVariants as stages
+use Rattle.cleanup.specs.declared.sparing_state.SparingStage.TheVariants as stages
 
 -- ---- a place in range
 
@@ -36,32 +36,32 @@ next_behind at step n len xs e l = ap (λ m. drop m xs) (e ∙ ap (behind at ste
 
 -- ---- the next request
 
-pub reads_key : (w : Script) (c : Committer) (h : Held) → c ≡ Magic
+pub reads_key : (w : Script) (c : Committer) (h : SparingState) → c ≡ Magic
     → get_asks w.dest.bucket (drop h.at h.records) ≡ read_asks c w (drop h.at (places_of c h))
 reads_key w c h g = grind arith
 
-pub reads_file : (w : Script) (c : Committer) (h : Held) → (c ≡ Magic → ⊥)
+pub reads_file : (w : Script) (c : Committer) (h : SparingState) → (c ≡ Magic → ⊥)
     → get_file_asks (drop h.at h.paths) ≡ read_asks c w (drop h.at (places_of c h))
 reads_file w c h g = grind arith
 
 -- ---- by the stage
 
-abbrev pub end_at : Stage → Option CleanEnd
+abbrev pub end_at : SparingStage → Option CleanEnd
 end_at (stages.Over end) = Some end
 end_at _ = None
 
-pub not_over : (stage : Stage) → ((end : CleanEnd) → stage ≡ stages.Over end → ⊥) → end_at stage ≡ None
+pub not_over : (stage : SparingStage) → ((end : CleanEnd) → stage ≡ stages.Over end → ⊥) → end_at stage ≡ None
 not_over stage h = grind arith
 
-module _ (c : Committer) (h : Held) where
+module _ (c : Committer) (h : SparingState) where
   -- The kept values at any stage.
-  abbrev kept : Stage → Sparing
+  abbrev kept : SparingStage → Sparing
   kept s = sparing_at s (keys_on h.walk) (places_of c h) (all_of c h) h.keys h.paths h.named h.at
 
-  abbrev there : Stage → Bool
+  abbrev there : SparingStage → Bool
   there s = within s (lists_keys c) h.at (length (places_of c h)) (length h.named) (length h.keys) (length h.paths)
 
-  over_by : (s : Stage) → there s ≡ true → sparing_over (kept s) ≡ end_at s
+  over_by : (s : SparingStage) → there s ≡ true → sparing_over (kept s) ≡ end_at s
   over_by stages.Reading t = some_at (λ ps. sparing_over (reading_from h.named ps (all_of c h)) ≡ None) (λ p ps. refl) h.at (places_of c h)
       t
   over_by stages.Aborting t = some_at (λ us. sparing_over (aborting_from us (all_of c h)) ≡ None) (λ u us. refl) h.at h.named t

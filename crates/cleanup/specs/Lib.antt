@@ -5,6 +5,6 @@ pub mod Left
 pub mod SparingHeld
 pub mod SparingFits
 pub mod SparingLeft
-pub mod Laws
+pub mod CleansEnd
 pub mod AskingLaws
 pub mod SparingAskingLaws

@@ -1,6 +1,6 @@
 -- A sparing clean in progress, as data.
-use Rattle.cleanup.specs.declared.sparing_held.Held.{Held}
-use Rattle.cleanup.specs.declared.sparing_held.Stage.{Stage}
+use Rattle.cleanup.specs.declared.sparing_state.SparingState.{SparingState}
+use Rattle.cleanup.specs.declared.sparing_state.SparingStage.{SparingStage}
 use Rattle.job_model.specs.JobScript.{Script}
 use Rattle.job_protocol.specs.Sparing.{Aborting, Naming, Reading, Sparing, SparingOver, Walking, deleting, record_request, removing}
 use Rattle.list_walk.specs.Walks.{keys_on}
@@ -10,7 +10,7 @@ use Rattle.s3_types.specs.declared.request.Request.{Request}
 use Rattle.s3_types.specs.declared.request.UploadRef.{UploadRef}
 use Rattle.std.specs.Prelude.{Bool, List, None, Option, Some, drop, false, length, nat_lt, not, true, ℕ, [], ◌∷◌}
 use Rattle.job_model.specs.declared.ends.CleanEnd.TheVariants as ends
-use Rattle.cleanup.specs.declared.sparing_held.Stage.TheVariants as stages
+use Rattle.cleanup.specs.declared.sparing_state.SparingStage.TheVariants as stages
 
 -- True for a magic job, whose clean lists keys of the store; a staging job's clean lists files of the cluster.
 abbrev pub lists_keys : Committer → Bool
@@ -18,7 +18,7 @@ lists_keys Magic = true
 lists_keys _ = false
 
 -- The first stage, which lists the keys or the files.
-abbrev pub start_stage : Committer → Stage
+abbrev pub start_stage : Committer → SparingStage
 start_stage Magic = stages.Walking
 start_stage _ = stages.Naming
 
@@ -28,11 +28,11 @@ by_committer Magic magic staging = magic
 by_committer _ magic staging = staging
 
 -- The places that a clean reads: the keys of a magic job's records, or the paths of a staging job's files.
-abbrev pub places_of : Committer → Held → List (List ℕ)
+abbrev pub places_of : Committer → SparingState → List (List ℕ)
 places_of c h = by_committer c h.records h.paths
 
 -- All keys or files that the clean deletes in the end.
-abbrev pub all_of : Committer → Held → List (List ℕ)
+abbrev pub all_of : Committer → SparingState → List (List ℕ)
 all_of c h = by_committer c h.keys h.paths
 
 -- The clean that reads these places, of which there are some.
@@ -47,7 +47,7 @@ aborting_from (u ∷ us) all = Aborting u us all
 
 -- The sparing clean at a stage. Its arguments are the keys walked, the places to read, all that it deletes, the keys, the paths, the named
 -- uploads, and the place among these.
-abbrev pub sparing_at : Stage → (walked places all keys paths : List (List ℕ)) → List UploadRef → ℕ → Sparing
+abbrev pub sparing_at : SparingStage → (walked places all keys paths : List (List ℕ)) → List UploadRef → ℕ → Sparing
 sparing_at stages.Walking walked places all keys paths named at = Walking walked
 sparing_at stages.Naming walked places all keys paths named at = Naming
 sparing_at stages.Reading walked places all keys paths named at = reading_from named (drop at places) all
@@ -57,11 +57,11 @@ sparing_at stages.Removing walked places all keys paths named at = removing (dro
 sparing_at (stages.Over end) walked places all keys paths named at = SparingOver end
 
 -- The sparing clean of a committer that the kept values represent.
-abbrev pub sparing_of : Committer → Held → Sparing
+abbrev pub sparing_of : Committer → SparingState → Sparing
 sparing_of c h = sparing_at h.stage (keys_on h.walk) (places_of c h) (all_of c h) h.keys h.paths h.named h.at
 
 -- True if the stage lists what the committer lists, and the place is below the number of items.
-abbrev pub within : Stage → Bool → (at places named keys paths : ℕ) → Bool
+abbrev pub within : SparingStage → Bool → (at places named keys paths : ℕ) → Bool
 within stages.Walking by_keys at places named keys paths = by_keys
 within stages.Naming by_keys at places named keys paths = not by_keys
 within stages.Reading by_keys at places named keys paths = nat_lt at places
@@ -71,7 +71,7 @@ within stages.Removing by_keys at places named keys paths = nat_lt at paths
 within (stages.Over end) by_keys at places named keys paths = true
 
 -- True if the stage lists what the committer lists, and the place is that of a kept item.
-abbrev pub within_of : Committer → Held → Bool
+abbrev pub within_of : Committer → SparingState → Bool
 within_of c h = within h.stage (lists_keys c) h.at (length (places_of c h)) (length h.named) (length h.keys) (length h.paths)
 
 -- The read of the first of these places.

@@ -5,9 +5,9 @@ ghost use Rattle.cleanup.specs.Fits.{FitsDriving, standing};
 ghost use Rattle.cleanup.specs.Left.{clean_left};
 ghost use Rattle.cleanup.specs.AskingLaws.{clean_laws};
 
-use crate::held::{Held, Stage};
+use crate::clean_state::{CleanStage, CleanState};
 use job_model::{CleanEnd, JobPlan};
-use machine::{Asked, Asking, Asks};
+use machine::{Asked, PlannedMachine, PlannedOperation};
 use s3_types::{Reply, Request, let_go};
 use std::alloc::{AllocError, Global};
 use std::marker::Model;
@@ -19,7 +19,7 @@ use std::marker::Model;
 #[derive(Drop)]
 pub struct Cleaning {
     plan: JobPlan,
-    held: Held,
+    held: CleanState,
 }
 
 impl Model for Cleaning {
@@ -36,12 +36,12 @@ impl Model for Cleaning {
 }
 
 /// A clean of a job.
-pub type CleanJob = Asking<Cleaning>;
+pub type CleanJob = PlannedMachine<Cleaning>;
 
 /// An abort of a job, which sends the same requests as a clean.
-pub type AbortJob = Asking<Cleaning>;
+pub type AbortJob = PlannedMachine<Cleaning>;
 
-impl Asks for Cleaning {
+impl PlannedOperation for Cleaning {
     type Plan = JobPlan;
 
     type End = CleanEnd;
@@ -69,7 +69,7 @@ impl Asks for Cleaning {
     fn begin(alloc: Global, plan: JobPlan) -> Result<Cleaning, AllocError> {
         Ok(Cleaning {
             plan,
-            held: Held::new(alloc),
+            held: CleanState::new(alloc),
         })
     }
 
@@ -78,7 +78,7 @@ impl Asks for Cleaning {
     }
 
     fn wear(&mut self, _alloc: Global) -> Asked {
-        self.held.stage = Stage::Over(CleanEnd::StoreFault);
+        self.held.stage = CleanStage::Over(CleanEnd::StoreFault);
         Ok(None)
     }
 
@@ -88,7 +88,7 @@ impl Asks for Cleaning {
     }
 
     fn break_off(&mut self) {
-        self.held.stage = Stage::Over(CleanEnd::NoMemory);
+        self.held.stage = CleanStage::Over(CleanEnd::NoMemory);
     }
 
     fn plan(&self) -> &JobPlan {
@@ -103,7 +103,7 @@ impl Asks for Cleaning {
 
     fn end(&self) -> Option<&CleanEnd> {
         match &self.held.stage {
-            Stage::Over(end) => Some(end),
+            CleanStage::Over(end) => Some(end),
             _ => None,
         }
     }

@@ -1,4 +1,4 @@
-ghost use Rattle.cleanup.specs.Laws.{CleansEnd, SparingsEnd};
+ghost use Rattle.cleanup.specs.CleansEnd.{CleansEnd, SparingsEnd};
 
 /// Bounds the replies and exhausted requests that a clean has left while other actors send too.
 pub fn cleans_end()

@@ -23,14 +23,14 @@
 //! Left open: what they do after other replies.
 #![tactic(auto)]
 
+mod clean_state;
 mod cleaning;
-mod held;
 mod laws;
 mod listed;
 mod names;
 mod requests;
 mod sparing;
-mod sparing_held;
+mod sparing_state;
 
 pub use cleaning::{AbortJob, CleanJob, Cleaning};
 pub use laws::{cleans_end, sparings_end};

@@ -5,9 +5,9 @@ ghost use Rattle.cleanup.specs.SparingFits.{FitsSparingDriving, sparing_standing
 ghost use Rattle.cleanup.specs.SparingLeft.{sparing_left};
 ghost use Rattle.cleanup.specs.SparingAskingLaws.{sparing_laws};
 
-use crate::sparing_held::{Held, Stage};
+use crate::sparing_state::{SparingStage, SparingState};
 use job_model::{CleanEnd, JobPlan};
-use machine::{Asked, Asking, Asks};
+use machine::{Asked, PlannedMachine, PlannedOperation};
 use s3_types::{Reply, let_go};
 use std::alloc::{AllocError, Global};
 use std::marker::Model;
@@ -23,7 +23,7 @@ use std::marker::Model;
 #[derive(Drop)]
 pub struct SparingClean {
     plan: JobPlan,
-    held: Held,
+    held: SparingState,
 }
 
 impl Model for SparingClean {
@@ -40,9 +40,9 @@ impl Model for SparingClean {
 }
 
 /// A clean or an abort of a job at a destination that other jobs use too.
-pub type SparingJob = Asking<SparingClean>;
+pub type SparingJob = PlannedMachine<SparingClean>;
 
-impl Asks for SparingClean {
+impl PlannedOperation for SparingClean {
     type Plan = JobPlan;
 
     type End = CleanEnd;
@@ -68,7 +68,7 @@ impl Asks for SparingClean {
     ghost laws = { sparing_laws };
 
     fn begin(alloc: Global, plan: JobPlan) -> Result<SparingClean, AllocError> {
-        let held = Held::new(alloc, plan.committer);
+        let held = SparingState::new(alloc, plan.committer);
         Ok(SparingClean { plan, held })
     }
 
@@ -77,7 +77,7 @@ impl Asks for SparingClean {
     }
 
     fn wear(&mut self, _alloc: Global) -> Asked {
-        self.held.stage = Stage::Over(CleanEnd::StoreFault);
+        self.held.stage = SparingStage::Over(CleanEnd::StoreFault);
         Ok(None)
     }
 
@@ -87,7 +87,7 @@ impl Asks for SparingClean {
     }
 
     fn break_off(&mut self) {
-        self.held.stage = Stage::Over(CleanEnd::NoMemory);
+        self.held.stage = SparingStage::Over(CleanEnd::NoMemory);
     }
 
     fn plan(&self) -> &JobPlan {
@@ -102,7 +102,7 @@ impl Asks for SparingClean {
 
     fn end(&self) -> Option<&CleanEnd> {
         match &self.held.stage {
-            Stage::Over(end) => Some(end),
+            SparingStage::Over(end) => Some(end),
             _ => None,
         }
     }

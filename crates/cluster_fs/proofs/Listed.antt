@@ -1,7 +1,7 @@
 -- The paths that begin with a text are next to one another.
-use Rattle.basics.proofs.Bools.{contrary}
-use Rattle.basics.proofs.Less.{le_le, le_not, lt, lt_not}
-use Rattle.basics.specs.Order.{text_cmp, text_total}
+use Rattle.text_and_lists.proofs.Bools.{contrary}
+use Rattle.text_and_lists.proofs.Less.{le_le, le_not, lt, lt_not}
+use Rattle.text_and_lists.specs.Order.{text_cmp, text_total}
 use Rattle.cluster_fs.specs.Cluster.{Follows}
 use Rattle.s3_types.proofs.Begins.{between, from_prefix}
 use Rattle.s3_types.specs.Pages.{begins}

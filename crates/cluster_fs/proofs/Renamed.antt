@@ -1,6 +1,6 @@
 -- A rename as a put at the target followed by a removal at the source.
-use Rattle.basics.proofs.Tree.{tied}
-use Rattle.basics.specs.Order.{text_cmp, text_eq, text_ties, text_total}
+use Rattle.text_and_lists.proofs.Tree.{tied}
+use Rattle.text_and_lists.specs.Order.{text_cmp, text_eq, text_ties, text_total}
 use Rattle.s3_types.specs.Store.{Files}
 use Rattle.std.proofs.Common.{Bool, List, None, Some, ap, cond, false, refl, sym, true, ℕ, ◌∙◌, ◌≡◌}
 use Rattle.std.proofs.lemmas.Bool.{false≢true}

@@ -1,5 +1,5 @@
 -- The files of a cluster beside a store.
-use Rattle.basics.specs.Order.{text_cmp}
+use Rattle.text_and_lists.specs.Order.{text_cmp}
 use Rattle.s3_types.specs.Store.{Content, Files, Scene}
 use Rattle.std.specs.Ordering.{is_lt}
 use Rattle.std.specs.Prelude.{List, false, ℕ, [], ◌∷◌, ◌≡◌}

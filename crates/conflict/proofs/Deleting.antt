@@ -1,5 +1,5 @@
 -- A deletion after a reply, by its prefixes and the place of the current one.
-use Rattle.basics.proofs.Naturals.{at_most_is, at_most_not}
+use Rattle.text_and_lists.proofs.Naturals.{at_most_is, at_most_not}
 use Rattle.conflict.specs.Checks.{is_none}
 use Rattle.conflict.specs.Deletions.{Deletion, FitsBelow, FitsDeletion, deletion_hears, hears_below, swept_on}
 use Rattle.list_walk.specs.Fitting.{FitsSweep}

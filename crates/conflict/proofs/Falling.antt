@@ -1,7 +1,7 @@
 -- The bound on the requests that a check before a commit has left falls.
-use Rattle.basics.proofs.Members.{false_true}
+use Rattle.text_and_lists.proofs.Members.{false_true}
 use Rattle.conflict.specs.Fits.{FitsLook}
-use Rattle.conflict.specs.Laws.{ChecksFall}
+use Rattle.conflict.specs.ChecksEnd.{ChecksFall}
 use Rattle.conflict.specs.Left.{left_at}
 use Rattle.job_model.specs.Jobs.{Job}
 use Rattle.job_protocol.specs.AtWork.{job_script}
@@ -10,7 +10,7 @@ use Rattle.job_protocol.specs.Setup.{first_shown, lacks_bucket}
 use Rattle.job_setup.proofs.Falling.{never_less, of_some}
 use Rattle.list_walk.proofs.Counting.{one_most}
 use Rattle.list_walk.proofs.Falling.{walk_laws}
-use Rattle.list_walk.specs.Laws.{LessWalk}
+use Rattle.list_walk.specs.WalksEnd.{LessWalk}
 use Rattle.list_walk.specs.Left.{adds_key, walk_left}
 use Rattle.list_walk.specs.Walks.{More, Walked, Whole, keys_on, page_after, walked}
 use Rattle.path_keys.specs.Paths.{below}

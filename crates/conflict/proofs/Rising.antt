@@ -1,7 +1,7 @@
 -- Which texts there are decides their ordered list.
-use Rattle.basics.proofs.Members.{text_exact}
-use Rattle.basics.specs.Members.{IsIn}
-use Rattle.basics.specs.Order.{text_cmp, text_total}
+use Rattle.text_and_lists.proofs.Members.{text_exact}
+use Rattle.text_and_lists.specs.Members.{IsIn}
+use Rattle.text_and_lists.specs.Order.{text_cmp, text_total}
 use Rattle.job_protocol.specs.Outputs.{ordered}
 use Rattle.std.proofs.Common.{List, ap, inl, inr, refl, subst, sym, ℕ, [], ◌∙◌, ◌∷◌, ◌≡◌, ◌⊎◌}
 use Rattle.std.specs.BTreeSet.{insert_key}

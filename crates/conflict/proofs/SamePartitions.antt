@@ -1,5 +1,5 @@
 -- Which paths there are decides their partitions.
-use Rattle.basics.specs.Members.{IsIn}
+use Rattle.text_and_lists.specs.Members.{IsIn}
 use Rattle.conflict.proofs.Rising.{from_ordered, in_ordered, ordered_same}
 use Rattle.job_protocol.specs.Conflicts.{dir_of, dirs_of, partitions, with_dir}
 use Rattle.job_protocol.specs.Outputs.{ordered}

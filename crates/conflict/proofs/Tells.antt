@@ -1,7 +1,7 @@
 -- Checks and deletions go on as the operations that use them do.
 use Rattle.conflict.specs.Checks.{found_below, left_after}
 use Rattle.conflict.specs.Deletions.{swept_on}
-use Rattle.conflict.specs.Laws.{ChecksTell, DeletionsTell, commit_after_check, commit_deleting, deletion_of}
+use Rattle.conflict.specs.ChecksEnd.{ChecksTell, DeletionsTell, commit_after_check, commit_deleting, deletion_of}
 use Rattle.job_model.specs.Attempts.{Who}
 use Rattle.job_model.specs.JobScript.{Script}
 use Rattle.job_protocol.specs.JobCommits.{Sets, is_no_magic, replaced, replacing, swept}

@@ -5,5 +5,5 @@ pub mod Rechecks
 pub mod Held
 pub mod Fits
 pub mod Left
-pub mod Laws
+pub mod ChecksEnd
 pub mod AskingLaws

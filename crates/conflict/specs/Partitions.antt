@@ -1,5 +1,5 @@
 -- Partitions one by one.
-use Rattle.basics.specs.Order.{text_cmp}
+use Rattle.text_and_lists.specs.Order.{text_cmp}
 use Rattle.std.specs.BTreeSet.{insert_key}
 use Rattle.std.specs.Prelude.{List, None, Option, Some, ℕ}
 

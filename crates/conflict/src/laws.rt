@@ -1,4 +1,4 @@
-ghost use Rattle.conflict.specs.Laws.{ChecksFall, ChecksTell, DeletionsTell, PartitionsTell};
+ghost use Rattle.conflict.specs.ChecksEnd.{ChecksFall, ChecksTell, DeletionsTell, PartitionsTell};
 
 /// The partitions of paths do not depend on the order of the paths.
 pub fn partitions_tell()

@@ -27,9 +27,9 @@
 
 mod absent;
 mod check_plan;
+mod check_state;
 mod dirs;
 mod displacing;
-mod held;
 mod keeping;
 mod kept;
 mod laws;

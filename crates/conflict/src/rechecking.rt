@@ -6,9 +6,9 @@ ghost use Rattle.conflict.specs.Left.{check_left};
 ghost use Rattle.conflict.specs.AskingLaws.{check_laws};
 
 use crate::check_plan::CheckPlan;
-use crate::held::Held;
+use crate::check_state::CheckState;
 use job_model::CheckEnd;
-use machine::{Asked, Asking, Asks};
+use machine::{Asked, PlannedMachine, PlannedOperation};
 use s3_types::{Reply, let_go};
 use std::alloc::{AllocError, Global};
 use std::marker::Model;
@@ -23,7 +23,7 @@ use std::marker::Model;
 #[derive(Drop)]
 pub struct Rechecking {
     plan: CheckPlan,
-    held: Held,
+    held: CheckState,
 }
 
 impl Model for Rechecking {
@@ -41,9 +41,9 @@ impl Model for Rechecking {
 ///   has a key;
 /// - StoreFault exactly if a request exhausted its retries;
 /// - else Clear.
-pub type Recheck = Asking<Rechecking>;
+pub type Recheck = PlannedMachine<Rechecking>;
 
-impl Asks for Rechecking {
+impl PlannedOperation for Rechecking {
     type Plan = CheckPlan;
 
     type End = CheckEnd;
@@ -69,7 +69,7 @@ impl Asks for Rechecking {
     ghost laws = { check_laws };
 
     fn begin(alloc: Global, plan: CheckPlan) -> Result<Rechecking, AllocError> {
-        let held = Held::new(alloc, &plan)?;
+        let held = CheckState::new(alloc, &plan)?;
         Ok(Rechecking { plan, held })
     }
 

@@ -1,5 +1,5 @@
 -- The stages of a copy keep what they promise.
-use Rattle.basics.proofs.Members.{none_some}
+use Rattle.text_and_lists.proofs.Members.{none_some}
 use Rattle.bucket_ops.specs.Asks.{edited, reply_in}
 use Rattle.bucket_ops.specs.Phases.{IsPhases, MayAsk}
 use Rattle.copy_tree.proofs.FallLaws.{falls, stays}

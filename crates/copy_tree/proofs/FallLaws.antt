@@ -1,5 +1,5 @@
 -- A copy ends.
-use Rattle.basics.specs.Order.{text_eq}
+use Rattle.text_and_lists.specs.Order.{text_eq}
 use Rattle.bucket_ops.proofs.Sweeps.{length_keys}
 use Rattle.bucket_ops.proofs.Walks.{walk_falls, walk_fits}
 use Rattle.bucket_ops.specs.Asks.{edited, reply_in}

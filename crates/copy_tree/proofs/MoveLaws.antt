@@ -1,8 +1,8 @@
 -- The moves of a directory, in order, and those of them whose new key exists or is absent.
-use Rattle.basics.proofs.Less.{lt}
-use Rattle.basics.proofs.Members.{none_or_some, none_some}
-use Rattle.basics.specs.Members.{IsIn, RisesFrom}
-use Rattle.basics.specs.Order.{text_cmp}
+use Rattle.text_and_lists.proofs.Less.{lt}
+use Rattle.text_and_lists.proofs.Members.{none_or_some, none_some}
+use Rattle.text_and_lists.specs.Members.{IsIn, RisesFrom}
+use Rattle.text_and_lists.specs.Order.{text_cmp}
 use Rattle.bucket_ops.proofs.Below.{below_stands, is_in}
 use Rattle.bucket_ops.proofs.Rising.{sorted}
 use Rattle.bucket_ops.specs.Walking.{all_below, keys_below}

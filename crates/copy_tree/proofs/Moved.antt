@@ -1,6 +1,6 @@
 -- The moves of a directory to a place, if neither path is the other or below it.
-use Rattle.basics.proofs.Members.{in_append, none_or_some, none_some, true_or_false}
-use Rattle.basics.specs.Members.{IsIn}
+use Rattle.text_and_lists.proofs.Members.{in_append, none_or_some, none_some, true_or_false}
+use Rattle.text_and_lists.specs.Members.{IsIn}
 use Rattle.dir_markers.specs.Markers.{keys_above, marker_of}
 use Rattle.fs_tree.proofs.Above.{above_begins}
 use Rattle.fs_tree.proofs.Begins.{begins_length, begins_marker, begins_more, begins_trans, one_begins}

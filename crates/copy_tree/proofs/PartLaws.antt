@@ -1,8 +1,8 @@
 -- Of the moves those are kept whose new key exists, or those whose new key does not.
-use Rattle.basics.proofs.Less.{irrefl, lt, lt_not, lt_trans}
-use Rattle.basics.proofs.Members.{false_true, text_is, text_true}
-use Rattle.basics.specs.Members.{IsIn, RisesFrom}
-use Rattle.basics.specs.Order.{text_cmp, text_total}
+use Rattle.text_and_lists.proofs.Less.{irrefl, lt, lt_not, lt_trans}
+use Rattle.text_and_lists.proofs.Members.{false_true, text_is, text_true}
+use Rattle.text_and_lists.specs.Members.{IsIn, RisesFrom}
+use Rattle.text_and_lists.specs.Order.{text_cmp, text_total}
 use Rattle.bucket_ops.proofs.Below.{below_stands, stands_below}
 use Rattle.bucket_ops.proofs.Rising.{lower}
 use Rattle.bucket_ops.specs.Walking.{all_below}

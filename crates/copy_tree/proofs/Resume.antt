@@ -1,5 +1,5 @@
 -- A copy that was stopped is made again.
-use Rattle.basics.specs.Members.{IsIn}
+use Rattle.text_and_lists.specs.Members.{IsIn}
 use Rattle.copy_tree.proofs.Moved.{begins_rest, is_move, is_new, move_below, moved_rest, not_above, path_not_new, source_not_new}
 use Rattle.dir_markers.specs.Markers.{marker_of}
 use Rattle.fs_tree.specs.Copies.{CopiesResume, CopiesTree, IsCopiedInPart, MayCopy, to_target}

@@ -1,8 +1,8 @@
 -- A copy goes on, stage by stage.
-use Rattle.basics.proofs.Less.{irrefl, lt, lt_not}
-use Rattle.basics.proofs.Members.{false_true, none_or_some, none_some, some_is, text_is, text_true}
-use Rattle.basics.specs.Members.{IsIn, RisesFrom}
-use Rattle.basics.specs.Order.{text_cmp, text_eq, text_total}
+use Rattle.text_and_lists.proofs.Less.{irrefl, lt, lt_not}
+use Rattle.text_and_lists.proofs.Members.{false_true, none_or_some, none_some, some_is, text_is, text_true}
+use Rattle.text_and_lists.specs.Members.{IsIn, RisesFrom}
+use Rattle.text_and_lists.specs.Order.{text_cmp, text_eq, text_total}
 use Rattle.bucket_ops.proofs.Walks.{walk_begins, walk_fits, walk_goes}
 use Rattle.bucket_ops.specs.Asks.{edited, is_look, reply_in}
 use Rattle.bucket_ops.specs.Looks.{look_of}

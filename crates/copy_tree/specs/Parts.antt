@@ -1,5 +1,5 @@
 -- Which new keys exist, according to the listing below their place.
-use Rattle.basics.specs.Order.{text_cmp, text_eq}
+use Rattle.text_and_lists.specs.Order.{text_cmp, text_eq}
 use Rattle.fs_rename.specs.Copies.{Move}
 use Rattle.s3_types.specs.Pages.{text_in}
 use Rattle.s3_types.specs.declared.reply.PageEntry.{PageEntry}

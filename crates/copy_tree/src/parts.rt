@@ -1,6 +1,6 @@
 ghost use Rattle.std.specs.Prelude.{◌≡◌, ◌++◌, ◌∷◌, [], cond, IfOk, OnOk};
 ghost use Rattle.std.specs.Ordering.{is_lt};
-ghost use Rattle.basics.specs.Order.{text_cmp};
+ghost use Rattle.text_and_lists.specs.Order.{text_cmp};
 ghost use Rattle.s3_types.specs.Pages.{text_in};
 ghost use Rattle.copy_tree.specs.Parts.{from_text, is_first, is_wanted, chosen as chosen_of};
 

@@ -1,10 +1,10 @@
 use crate::known::Known;
-use durable_store::{Held, load};
+use devices::CallList;
+use devices::kept::ShelfStop;
+use durable_store::{ShelfState, load};
 use folder_log::{Choice, LogShelf, MemDisk};
 use log_format::{LogFault, read_log};
 use s3_types::{Bytes, let_go};
-use shelf::CallList;
-use shelf::kept::ShelfStop;
 use std::alloc::{AllocError, Global};
 use std::fmt;
 use store_image::encode;
@@ -30,9 +30,12 @@ impl fmt::Display for Left {
     }
 }
 
-fn image_held(alloc: Global, held: &Result<Held, ShelfStop>) -> Result<Option<Bytes>, AllocError> {
+fn image_held(
+    alloc: Global,
+    held: &Result<ShelfState, ShelfStop>,
+) -> Result<Option<Bytes>, AllocError> {
     match held {
-        Ok(Held::Store(service)) => {
+        Ok(ShelfState::Store(service)) => {
             let mut image = Vec::new(alloc);
             encode(alloc, service, &mut image)?;
             Ok(Some(Bytes::new(alloc, image)?))

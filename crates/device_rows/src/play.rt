@@ -1,8 +1,8 @@
 use crate::given::Given;
+use devices::{CallList, MemSink, MemSource};
 use folder_log::{LogShelf, MemDisk};
 use s3_types::Bytes;
 use s3a_top::{Report, run};
-use shelf::{CallList, MemSink, MemSource};
 use std::alloc::{AllocError, Global};
 
 /// What goes wrong in a run: a call of a device fails, numbered from 1, or the disk stops after so

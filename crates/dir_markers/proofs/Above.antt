@@ -1,8 +1,8 @@
 -- The directories above a key.
-use Rattle.basics.proofs.Bools.{all_three}
-use Rattle.basics.proofs.Naturals.{at_most_so}
-use Rattle.basics.proofs.Pieces.{join_parts, one_part}
-use Rattle.basics.specs.Parts.{is_other, parts_from, parts_of}
+use Rattle.text_and_lists.proofs.Bools.{all_three}
+use Rattle.text_and_lists.proofs.Naturals.{at_most_so}
+use Rattle.text_and_lists.proofs.Pieces.{join_parts, one_part}
+use Rattle.text_and_lists.specs.Parts.{is_other, parts_from, parts_of}
 use Rattle.dir_markers.specs.Markers.{fronts, keys_above, marker_of}
 use Rattle.path_keys.proofs.Keys.{key_from, some_key}
 use Rattle.path_keys.proofs.Last.{parts_round}

@@ -1,5 +1,5 @@
 -- The markers of directories (Hadoop, S3A: directory markers; Hadoop FileSystem specification, directories).
-use Rattle.basics.specs.Parts.{parts_of}
+use Rattle.text_and_lists.specs.Parts.{parts_of}
 use Rattle.dir_markers.specs.declared.marker.MarkerPolicy.{MarkerPolicy}
 use Rattle.dir_markers.specs.declared.marker.MarkerPolicy.TheVariants.{Delete, Keep}
 use Rattle.dir_markers.specs.declared.status.Status.{Status}

@@ -7,8 +7,8 @@ use Rattle.journal_log.specs.Kept.{IsMoment}
 use Rattle.s3_types.specs.Moment.{moment}
 use Rattle.s3_types.specs.Store.{Content}
 use Rattle.s3_types.specs.declared.journal.Entry.{Entry}
-use Rattle.shelf.specs.Logged.{CrashesLeave, Sight}
-use Rattle.shelf.specs.declared.kept.ShelfStop.{ShelfStop}
+use Rattle.devices.specs.Logged.{CrashesLeave, Sight}
+use Rattle.devices.specs.declared.kept.ShelfStop.{ShelfStop}
 use Rattle.std.proofs.Common.{List, None, Some, ap, inl, inr, length, subst, [], ◌∙◌, ◌≡◌, ◌⊎◌}
 
 -- The store of a run in which nothing was sent is the opening one.

@@ -16,10 +16,10 @@ use Rattle.journal_log.specs.Kept.{Holds, HoldsPart, IsMoment}
 use Rattle.s3_types.specs.Store.{Content}
 use Rattle.s3_types.specs.declared.journal.Entry.{Entry}
 use Rattle.s3_types.specs.declared.request.Request.{Request}
-use Rattle.shelf.specs.Devices.{Rose}
-use Rattle.shelf.specs.Logged.{CrashesLeave, Holding, IsDurable, IsTimed, Sight, Stored}
-use Rattle.shelf.specs.declared.kept.ShelfStop.{ShelfStop}
-use Rattle.shelf.specs.declared.kept.ShelfStop.TheVariants.{Failed, NoMemory}
+use Rattle.devices.specs.Devices.{Rose}
+use Rattle.devices.specs.Logged.{CrashesLeave, Holding, IsDurable, IsTimed, Sight, Stored}
+use Rattle.devices.specs.declared.kept.ShelfStop.{ShelfStop}
+use Rattle.devices.specs.declared.kept.ShelfStop.TheVariants.{Failed, NoMemory}
 use Rattle.std.proofs.Common.{Bool, Err, IsErrOf, List, None, Ok, OnErr, OnOk, Option, Result, Some, ap, append-nil, append_assoc, arith}
 use Rattle.std.proofs.Common.{drop, false, inl, inr, length, length-append, refl, slice_get, subst, sym, true, ℕ, [], ◌++◌, ◌+◌, ◌-◌, ◌<◌}
 use Rattle.std.proofs.Common.{◌^◌, ◌∙◌, ◌∷◌, ◌≡◌, ◌≤◌, ◌⊎◌}

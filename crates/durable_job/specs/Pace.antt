@@ -6,8 +6,8 @@ use Rattle.journal_log.specs.Kept.{Holds, HoldsPart, IsMoment}
 use Rattle.s3_types.specs.Store.{Content}
 use Rattle.s3_types.specs.declared.journal.Entry.{Entry}
 use Rattle.s3_types.specs.declared.request.Request.{Request}
-use Rattle.shelf.specs.Logged.{CrashesLeave, IsDurable, Sight}
-use Rattle.shelf.specs.Logged.Call.{AppendOutOfMemory, Replace}
+use Rattle.devices.specs.Logged.{CrashesLeave, IsDurable, Sight}
+use Rattle.devices.specs.Logged.Call.{AppendOutOfMemory, Replace}
 use Rattle.std.specs.Prelude.{List, ◌++◌, ◌∷◌, ◌≡◌}
 
 -- Since the first state the shelf has taken all changes of the run, and a crash since then leaves the store of one moment of it.

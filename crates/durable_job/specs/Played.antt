@@ -13,9 +13,9 @@ use Rattle.journal_log.specs.Made.{KeepsImages}
 use Rattle.s3_types.specs.Moment.{moment}
 use Rattle.s3_types.specs.Store.{Content}
 use Rattle.s3_types.specs.declared.journal.Entry.{Entry}
-use Rattle.shelf.specs.Logged.{CrashesLeave, IsDurable, Sight, fresh}
-use Rattle.shelf.specs.declared.kept.ShelfStop.{ShelfStop}
-use Rattle.shelf.specs.declared.kept.ShelfStop.TheVariants.{Failed, NoMemory}
+use Rattle.devices.specs.Logged.{CrashesLeave, IsDurable, Sight, fresh}
+use Rattle.devices.specs.declared.kept.ShelfStop.{ShelfStop}
+use Rattle.devices.specs.declared.kept.ShelfStop.TheVariants.{Failed, NoMemory}
 use Rattle.std.specs.Prelude.{List, None, Option, Some, length, ℕ, ◌+◌, ◌<◌, ◌≡◌, ◌⊎◌}
 use Rattle.store_image.specs.Image.{image}
 use Rattle.twin_script.specs.TwinScripts.{sides_in}

@@ -1,12 +1,12 @@
 ghost use Rattle.std.specs.Prelude.{◌≡◌, ◌<◌, ◌⊎◌, [], OnOk, OnErr, IsErrOf};
-ghost use Rattle.shelf.specs.Devices.{Rose};
-ghost use Rattle.shelf.specs.Logged.{IsDurable};
+ghost use Rattle.devices.specs.Devices.{Rose};
+ghost use Rattle.devices.specs.Logged.{IsDurable};
 ghost use Rattle.journal_log.specs.Kept.{Holds};
 ghost use Rattle.durable_job.specs.Pace.{InPace, Behind, Lacks};
 
 use crate::moves::Moves;
+use devices::kept::{Shelf, ShelfStop};
 use journal_log::append_all;
-use shelf::kept::{Shelf, ShelfStop};
 
 /// Plays all remaining steps, and appends after each one what it changed. It stops early if an
 /// append fails or memory runs out. If memory ran out, a step is left or the shelf lacks a change.

@@ -5,8 +5,8 @@ ghost use Rattle.durable_job.specs.Played.{IsHeld, Survives, Counts};
 
 use crate::events::play_over;
 use crate::moves::Moves;
+use devices::kept::{Shelf, ShelfStop};
 use journal_log::put_image;
-use shelf::kept::{Shelf, ShelfStop};
 use std::alloc::Global;
 
 /// Replaces what the shelf holds by the image of the opening store, and plays all remaining steps.

@@ -8,13 +8,13 @@ ghost use Rattle.durable_job.specs.Played.{IsPlayed, Counts};
 
 use crate::jobs::{Jobs, Told};
 use crate::keeping::keep;
+use devices::kept::{Shelf, ShelfStop};
 use job_actor::Works;
 use job_model::{EndList, PickList, Script};
 use job_world::{Played, World};
 use journal_log::keeps_images;
 use s3_service::Service;
 use s3_types::{Journal, Sequence, let_go};
-use shelf::kept::{Shelf, ShelfStop};
 use std::alloc::{AllocError, Global};
 use twin_jobs::{TwinPlayed, TwinWorld};
 use twin_script::{Side, TurnList, Twins};

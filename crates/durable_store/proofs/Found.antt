@@ -1,9 +1,9 @@
 -- What is found on a shelf, from what was loaded.
-use Rattle.basics.specs.Order.{text_cmp, text_total}
+use Rattle.text_and_lists.specs.Order.{text_cmp, text_total}
 use Rattle.durable_store.specs.Outcomes.{AreAtKeys, IsOf, IsSound}
 use Rattle.durable_store.specs.Stores.{counted, found, read_as, unfolded}
-use Rattle.durable_store.specs.declared.held.Held.{Held}
-use Rattle.durable_store.specs.declared.held.Held.TheVariants.{Faulty, Nothing, Store}
+use Rattle.durable_store.specs.declared.shelf_state.ShelfState.{ShelfState}
+use Rattle.durable_store.specs.declared.shelf_state.ShelfState.TheVariants.{Faulty, Nothing, Store}
 use Rattle.journal_log.proofs.Imaged.{all, at}
 use Rattle.journal_log.specs.Changes.{content_after}
 use Rattle.journal_log.specs.Kept.{kept}
@@ -11,8 +11,8 @@ use Rattle.journal_log.specs.Made.{IsMade}
 use Rattle.s3_types.specs.Names.{is_bucket, is_key}
 use Rattle.s3_types.specs.Store.{Content}
 use Rattle.s3_types.specs.declared.request.Request.{Request}
-use Rattle.shelf.specs.Logged.{IsBad, IsLoaded, IsSmall, IsTooLarge, Stored, most_base, most_file}
-use Rattle.shelf.specs.Logged.Holding.{Stands}
+use Rattle.devices.specs.Logged.{IsBad, IsLoaded, IsSmall, IsTooLarge, Stored, most_base, most_file}
+use Rattle.devices.specs.Logged.Holding.{Stands}
 use Rattle.std.proofs.Common.{Err, IfOk, List, None, Ok, Option, Result, Some, ap, arith, cond, false, inl, inr, length, nat_le, nat_lt}
 use Rattle.std.proofs.Common.{refl, subst, sym, true, ℕ, ◌<◌, ◌^◌, ◌||◌, ◌∙◌, ◌≡◌, ◌≤◌, ◌⊎◌}
 use Rattle.std.proofs.lemmas.Bool.{and_parts, leb-true}
@@ -22,7 +22,7 @@ use Rattle.store_image.specs.Content.{IsBucket, IsContent, IsObject}
 use Rattle.store_image.specs.Image.{image}
 use Rattle.store_image.specs.Reading.{content_in}
 use Rattle.std.specs.FinMap as fin
-use Rattle.log_format.specs.declared.held.Held as logs
+use Rattle.log_format.specs.declared.logged_store.LoggedStore as logs
 use Rattle.store_image.proofs.Whole as images
 
 -- ---- the store from a base and changes
@@ -38,7 +38,7 @@ many d h =
     rw test refl
 
 -- It is what the base and the changes stand for.
-pub stood : (held : logs.Held) (c : Content) → held.base ≡ image c → IsOf (counted (content_after c held.changes)) (Stands held)
+pub stood : (held : logs.LoggedStore) (c : Content) → held.base ≡ image c → IsOf (counted (content_after c held.changes)) (Stands held)
 stood held c is = elim (nat_lt (2 ^ 62) (content_after c held.changes).next) as
     (λ t. IsOf (cond t (Faulty 5 0) (Store (content_after c held.changes))) (Stands held)) [
       | true ↦ tt
@@ -46,9 +46,9 @@ stood held c is = elim (nat_lt (2 ^ 62) (content_after c held.changes).next) as
     ]
 
 -- So a store after its changes is what the shelf's holding stands for.
-pub stand_if : {E : Type 0} (r : Result Held E) (held : logs.Held) (c : Content) (rs : List Request) → rs ≡ held.changes
+pub stand_if : {E : Type 0} (r : Result ShelfState E) (held : logs.LoggedStore) (c : Content) (rs : List Request) → rs ≡ held.changes
     → held.base ≡ image c → IfOk r (λ h. h ≡ counted (content_after c rs)) → IfOk r (λ h. IsOf h (Stands held))
-stand_if (Ok h) held c rs same is e = subst (λ (x : Held). IsOf x (Stands held))
+stand_if (Ok h) held c rs same is e = subst (λ (x : ShelfState). IsOf x (Stands held))
     (sym (e ∙ ap (λ (l : List Request). counted (content_after c l)) same)) (stood held c is)
 stand_if (Err fault) held c rs same is e = tt
 
@@ -61,7 +61,7 @@ pub imaged : (c d : Content) (rs : List Request) → d ≡ content_after c rs �
     → IsContent c → IsSound (Store d)
 imaged c d rs same m few is = subst IsContent (sym same) (all c rs is m few)
 
-pub sound_if : {E : Type 0} (r : Result Held E) (c : Content) → IsContent c → IfOk r (λ h. IsContent c → IsSound h) → IfOk r IsSound
+pub sound_if : {E : Type 0} (r : Result ShelfState E) (c : Content) → IsContent c → IfOk r (λ h. IsContent c → IsSound h) → IfOk r IsSound
 sound_if (Ok h) c is f = f is
 sound_if (Err fault) c is f = tt
 
@@ -92,7 +92,7 @@ found_nothing (Some t) s loaded e =
     subst (λ (x : Stored). Nothing ≡ found x) is (sym (small t loaded.1 ∙ ap read_as loaded.0))
 
 -- A base with changes was loaded.
-pub found_held : (o : Option Stored) (held : logs.Held) (s : Stored) → IsLoaded o (Some held) → o ≡ Some s
+pub found_held : (o : Option Stored) (held : logs.LoggedStore) (s : Stored) → IsLoaded o (Some held) → o ≡ Some s
     → unfolded (content_in held.base) held.changes ≡ found s
 found_held None held s loaded e = cc
 found_held (Some t) held s loaded e =

@@ -11,8 +11,8 @@ use Rattle.journal_log.specs.Kept.{Holds, HoldsGrownBy, HoldsPart, HoldsSome, Is
 use Rattle.s3_types.specs.Store.{Content}
 use Rattle.s3_types.specs.declared.journal.Entry.{Entry}
 use Rattle.s3_types.specs.declared.request.Request.{Request}
-use Rattle.shelf.specs.Logged.{CrashesLeave, Holding, IsDurable, IsTimed, Sight, Stored, fresh}
-use Rattle.shelf.specs.declared.kept.ShelfStop.{ShelfStop}
+use Rattle.devices.specs.Logged.{CrashesLeave, Holding, IsDurable, IsTimed, Sight, Stored, fresh}
+use Rattle.devices.specs.declared.kept.ShelfStop.{ShelfStop}
 use Rattle.std.proofs.Common.{Err, IfErr, List, None, Ok, OnErr, OnOk, Option, Result, Some, inl, inr, refl, subst, sym, [], ◌∙◌, ◌≡◌, ◌⊎◌}
 use Rattle.std.specs.List.{AllByRecursion}
 use Rattle.store_image.specs.Image.{image}

@@ -1,8 +1,8 @@
 -- The outcome of a load and of a command's work.
 use Rattle.durable_store.specs.Stores.{found}
 use Rattle.durable_store.specs.Works.{Saves, Says, Work}
-use Rattle.durable_store.specs.declared.held.Held.{Held}
-use Rattle.durable_store.specs.declared.held.Held.TheVariants.{Faulty, Nothing, Store}
+use Rattle.durable_store.specs.declared.shelf_state.ShelfState.{ShelfState}
+use Rattle.durable_store.specs.declared.shelf_state.ShelfState.TheVariants.{Faulty, Nothing, Store}
 use Rattle.exit_status.specs.declared.statuses.Status.{Status}
 use Rattle.exit_status.specs.declared.statuses.Status.TheVariants.{Done, NoMemory, ShelfFault}
 use Rattle.journal_log.specs.Appends.{AreCalled, AreCut}
@@ -15,19 +15,19 @@ use Rattle.s3_types.specs.Store.{BucketContent, Content}
 use Rattle.s3_types.specs.declared.journal.Entry.{Entry}
 use Rattle.s3_types.specs.declared.object.Object.{Object}
 use Rattle.s3_types.specs.declared.request.Request.{Request}
-use Rattle.shelf.specs.Logged.{Holding, IsDurable, IsSmall, Sight, Stored}
-use Rattle.shelf.specs.Logged.Holding.{Nothing as Absent}
-use Rattle.shelf.specs.declared.kept.ShelfStop.{ShelfStop}
+use Rattle.devices.specs.Logged.{Holding, IsDurable, IsSmall, Sight, Stored}
+use Rattle.devices.specs.Logged.Holding.{Nothing as Absent}
+use Rattle.devices.specs.declared.kept.ShelfStop.{ShelfStop}
 use Rattle.std.specs.Prelude.{Err, List, None, Ok, Option, Result, Some, length, true, ℕ, ◌<◌, ◌^◌, ◌≡◌, ◌≢◌, ◌≤◌, ◌⊎◌}
 use Rattle.store_image.specs.Content.{IsContent}
 use Rattle.store_image.specs.Image.{image}
 use Rattle.std.specs.FinMap as fin
-use Rattle.shelf.specs.declared.kept.ShelfStop.TheVariants as stops
+use Rattle.devices.specs.declared.kept.ShelfStop.TheVariants as stops
 
 -- ---- a load
 
 -- Holds if the store that was found, if one was, can be written as an image.
-abbrev pub IsSound : Held → Type 0
+abbrev pub IsSound : ShelfState → Type 0
 IsSound (Store c) = IsContent c
 IsSound _ = Unit {0}
 
@@ -42,13 +42,13 @@ pub record LoadsAgain : Type 0 where
       → IsContent c → (content_after c rs).next ≤ 2 ^ 62 → found s ≡ Store (content_after c rs)
 
 -- Holds if what was found is what this holding stands for. Says nothing for a fault.
-abbrev pub IsOf : Held → Holding → Type 0
+abbrev pub IsOf : ShelfState → Holding → Type 0
 IsOf Nothing h = h ≡ Absent
 IsOf (Store c) h = StandsFor h c
 IsOf (Faulty number place) h = Unit {0}
 
 -- P, if what was found is no fault.
-abbrev pub WhereSound : Held → Type 0 → Type 0
+abbrev pub WhereSound : ShelfState → Type 0 → Type 0
 WhereSound Nothing P = P
 WhereSound (Store c) P = P
 WhereSound (Faulty number place) P = Unit {0}

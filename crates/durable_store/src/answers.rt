@@ -1,19 +1,19 @@
 ghost use Rattle.std.specs.Prelude.{◌≡◌, ◌<◌, ◌-◌, ◌^◌};
 ghost use Rattle.std.specs.List.{AllByRecursion};
 ghost use Rattle.exit_status.specs.Statuses.{code};
-ghost use Rattle.shelf.specs.Logged.{CrashesLeave};
+ghost use Rattle.devices.specs.Logged.{CrashesLeave};
 ghost use Rattle.journal_log.specs.Made.{KeepsImages};
 ghost use Rattle.durable_store.specs.Works as works;
 ghost use Rattle.durable_store.specs.Doing.{work_in};
 ghost use Rattle.durable_store.specs.Outcomes.{status_of, text_at, IsAnswer, IsHeld, HasImages, MightLeave, IsDurableNow, CallsBy, Tells};
 
 use crate::saving::save;
-use crate::work::{Answer, Work};
+use crate::work::{CommandAnswer, Work};
+use devices::kept::{Shelf, ShelfStop};
 use exit_status::Status;
 use journal_log::keeps_images;
 use s3_service::Service;
 use s3_types::{Bytes, Journal, let_go};
-use shelf::kept::{Shelf, ShelfStop};
 use std::alloc::Global;
 
 /// The status for the result of a save.
@@ -47,7 +47,7 @@ fn keep<F: Shelf>(
     opening: &Service,
     text: Bytes,
     sent: Journal,
-) -> Answer
+) -> CommandAnswer
     requires count { F.faults shelf.old < 2 ^ 64 - 1 }
     requires one_event { AllByRecursion (λ e. e.event ≡ 0) sent.entries }
     ensures answer { IsAnswer (works.Saves opening.now text sent.entries) result.due result.text result.sent.entries }
@@ -65,7 +65,7 @@ fn keep<F: Shelf>(
 {
     keeps_images(&sent);
     let due = status_of(save(alloc, shelf, opening, &sent));
-    Answer {
+    CommandAnswer {
         due,
         text: text_at(due, text),
         sent,
@@ -78,7 +78,7 @@ fn keep<F: Shelf>(
 /// - Work that saves returns `Done` after the shelf has taken all of it, `ShelfFault` if the shelf
 ///   failed, and `NoMemory` if memory ran out. After these two errors the shelf holds what it held,
 ///   or the store with the first of its changes.
-pub fn obey<F: Shelf>(alloc: Global, shelf: &mut F, work: Work) -> Answer
+pub fn obey<F: Shelf>(alloc: Global, shelf: &mut F, work: Work) -> CommandAnswer
     requires count { F.faults shelf.old < 2 ^ 64 - 1 }
     requires plain { works.IsPlain (work_in work) }
     ensures answer { IsAnswer (work_in work) result.due result.text result.sent.entries }

@@ -18,11 +18,11 @@
 
 mod answers;
 mod folding;
-mod held;
 mod saving;
+mod shelf_state;
 mod work;
 
 pub use answers::obey;
-pub use held::{Held, load, loads};
 pub use saving::save;
-pub use work::{Answer, Work, fault_text};
+pub use shelf_state::{ShelfState, load, loads};
+pub use work::{CommandAnswer, Work, fault_text};

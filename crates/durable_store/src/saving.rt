@@ -1,16 +1,16 @@
 ghost use Rattle.std.specs.Prelude.{◌≡◌, ◌⊎◌, ◌<◌, ◌-◌, ◌^◌, OnOk, OnErr};
 ghost use Rattle.std.specs.List.{AllByRecursion};
-ghost use Rattle.shelf.specs.Logged.{IsDurable, CrashesLeave};
+ghost use Rattle.devices.specs.Logged.{IsDurable, CrashesLeave};
 ghost use Rattle.journal_log.specs.Changes.{changes};
 ghost use Rattle.journal_log.specs.Kept.{IsMoment, Holds, HoldsPart};
 ghost use Rattle.journal_log.specs.Crashes.{WhereTold};
 ghost use Rattle.journal_log.specs.Appends.{AreCalled, AreCut};
 ghost use Rattle.journal_log.specs.Images.{Counts};
 
+use devices::kept::{Shelf, ShelfStop};
 use journal_log::{append_all, put_image};
 use s3_service::Service;
 use s3_types::Journal;
-use shelf::kept::{Shelf, ShelfStop};
 use std::alloc::Global;
 
 /// Saves a store with what was sent to it in event 0. First its image replaces what the shelf

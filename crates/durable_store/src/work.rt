@@ -9,7 +9,7 @@ use std::alloc::{AllocError, Global};
 /// The answer to a command: its status, the text to write if that is not the status's own, and what
 /// was sent.
 #[derive(Drop)]
-pub struct Answer {
+pub struct CommandAnswer {
     pub due: Status,
     pub text: Option<Bytes>,
     pub sent: Journal,
@@ -19,7 +19,7 @@ pub struct Answer {
 #[derive(Drop)]
 pub enum Work {
     /// To give this answer.
-    Says(Answer),
+    Says(CommandAnswer),
     /// To save a store with the changes that were sent to it, and then to end with `Done` and a
     /// text.
     Saves {

@@ -6,11 +6,11 @@ use Rattle.folder_log.specs.Kept.{stored, stored_of}
 use Rattle.log_format.proofs.Files.{file_again}
 use Rattle.log_format.specs.Change.{IsChange}
 use Rattle.log_format.specs.Log.{head, headed, log, long, magic, opened, record_of}
-use Rattle.log_format.specs.declared.held.Held.{Held}
+use Rattle.log_format.specs.declared.logged_store.LoggedStore.{LoggedStore}
 use Rattle.s3_types.specs.declared.request.Request.{Request}
-use Rattle.shelf.specs.Logged.{Holding, HoldsFresh, HoldsGrown, HoldsOneOf, IsBeforeOrAfter, IsDurable, LeavesOnly, Stored, fresh, grown}
-use Rattle.shelf.specs.Logged.{most_file, told}
-use Rattle.shelf.specs.Logged.Holding.{Stands}
+use Rattle.devices.specs.Logged.{Holding, HoldsFresh, HoldsGrown, HoldsOneOf, IsBeforeOrAfter, IsDurable, LeavesOnly, Stored, fresh, grown}
+use Rattle.devices.specs.Logged.{most_file, told}
+use Rattle.devices.specs.Logged.Holding.{Stands}
 use Rattle.std.proofs.Common.{List, None, Option, Some, ap, append_assoc, arith, inl, inr, length, length-append, refl, subst, sym}
 use Rattle.std.proofs.Common.{true≢false, ℕ, [], ⊎_elim, ◌++◌, ◌+◌, ◌<◌, ◌^◌, ◌∙◌, ◌∷◌, ◌≡◌, ◌≢◌, ◌≤◌, ◌⊎◌}
 use Rattle.std.proofs.lemmas.Bool.{cases_eq}
@@ -25,7 +25,7 @@ module _ (base : List ℕ) (changes : List Request) (legal : AllByRecursion IsCh
   abbrev front : List ℕ
   front = headed base ++ opened changes
 
-  abbrev here : Held
+  abbrev here : LoggedStore
   here = record { base = base; changes = changes }
 
   -- A file whose gate after the changes is not open stands for these changes.
@@ -114,7 +114,7 @@ module _ (change : Request) (written : List ℕ) (gate end : ℕ) (prepared : Is
     abbrev before : List ℕ
     before = headed rest.base ++ opened rest.changes
 
-    abbrev held_before : Held
+    abbrev held_before : LoggedStore
     held_before = record { base = rest.base; changes = rest.changes }
 
     holds : holding_of (Some bytes) ≡ Stands held_before

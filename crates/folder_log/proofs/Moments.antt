@@ -1,6 +1,6 @@
 -- How a run of calls goes on.
 use Rattle.folder_log.specs.Disk.{Elapses, FewMore, File, more}
-use Rattle.shelf.specs.Logged.{LeavesOnly}
+use Rattle.devices.specs.Logged.{LeavesOnly}
 use Rattle.std.proofs.Common.{ap, arith, inl, ℕ, ◌+◌, ◌∙◌, ◌≡◌, ◌≤◌}
 
 -- m more calls and then n more are m + n more.

@@ -2,7 +2,7 @@
 -- sync.
 use Rattle.std.specs.Prelude.{◌≡◌, ℕ, ◌≤◌, nat_le, Bool, false, cond, List, [], ◌∷◌, ◌++◌, length, replicate, take, Option, Some, None}
 use Rattle.folder_log.specs.Disk.{File, file_after, IsTorn}
-use Rattle.shelf.specs.declared.calls.Calls.{Calls}
+use Rattle.devices.specs.declared.calls.Calls.{Calls}
 use Rattle.folder_log.specs.declared.state.Span.{Span}
 use Rattle.folder_log.specs.declared.state.State.{State}
 use Rattle.folder_log.specs.declared.state.DiskCall.{DiskCall}

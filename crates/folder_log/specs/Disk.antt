@@ -1,6 +1,6 @@
 -- What a disk of one file holds, how its calls change that, and what a crash between two syncs may do.
 use Rattle.std.specs.Prelude.{◌≡◌, ◌⊎◌, ℕ, ◌+◌, ◌-◌, ◌^◌, ◌<◌, ◌≤◌, min, max, List, ◌++◌, length, take, drop, Option, Some, None}
-use Rattle.shelf.specs.Logged.{most_file}
+use Rattle.devices.specs.Logged.{most_file}
 
 -- The bytes of the file, or None if there is no file.
 abbrev pub File : Type 0

@@ -5,16 +5,16 @@ use Rattle.log_format.specs.Log.{headed, log, opened, record_of}
 use Rattle.log_format.specs.Reading.{base_length, held_in}
 use Rattle.log_format.specs.declared.fault.LogFault.{LogFault}
 use Rattle.log_format.specs.declared.fault.LogFault.TheVariants.{Bad, NoMemory}
-use Rattle.log_format.specs.declared.held.Held.{Held}
+use Rattle.log_format.specs.declared.logged_store.LoggedStore.{LoggedStore}
 use Rattle.s3_types.specs.declared.request.Request.{Request}
-use Rattle.shelf.specs.Logged.{Holding, Stored}
-use Rattle.shelf.specs.Logged.Holding.{BadAt, Nothing, Stands}
+use Rattle.devices.specs.Logged.{Holding, Stored}
+use Rattle.devices.specs.Logged.Holding.{BadAt, Nothing, Stands}
 use Rattle.std.specs.List.{AllByRecursion}
 use Rattle.std.specs.Option.{option_map}
 use Rattle.std.specs.Prelude.{Err, List, None, Ok, Option, Result, Some, length, ℕ, [], ◌++◌, ◌+◌, ◌<◌, ◌^◌, ◌∷◌, ◌≡◌, ◌≤◌, ◌⊎◌}
 
 -- What a file holds, from the result of reading it.
-abbrev pub as_holding : Result Held LogFault → Holding
+abbrev pub as_holding : Result LoggedStore LogFault → Holding
 as_holding (Ok held) = Stands held
 as_holding (Err (Bad place)) = BadAt place
 as_holding (Err NoMemory) = Nothing

@@ -1,31 +1,31 @@
 -- The two lengths by which a load of a log file decides what is too large.
-use Rattle.basics.specs.Reading.{◌>>=◌}
+use Rattle.text_and_lists.specs.Reading.{◌>>=◌}
 use Rattle.folder_log.specs.Disk.{File}
 use Rattle.folder_log.specs.Kept.{IsAtRest, TakesAppends, as_holding, stored}
 use Rattle.log_format.proofs.Files.{file_again}
 use Rattle.log_format.specs.Log.{log}
 use Rattle.log_format.specs.Reading.{Read, base_length, block_at, changes_at, held_in, is_log, length_of, logged_in}
 use Rattle.log_format.specs.declared.fault.LogFault.{LogFault}
-use Rattle.log_format.specs.declared.held.Held.{Held}
+use Rattle.log_format.specs.declared.logged_store.LoggedStore.{LoggedStore}
 use Rattle.s3_types.specs.declared.request.Request.{Request}
-use Rattle.shelf.specs.Logged.{HasBaseLength, Holding, IsWithinLog}
-use Rattle.shelf.specs.Logged.Holding.{Stands}
+use Rattle.devices.specs.Logged.{HasBaseLength, Holding, IsWithinLog}
+use Rattle.devices.specs.Logged.Holding.{Stands}
 use Rattle.std.proofs.Common.{ap, arith, inr, rules, subst, sym, ◌∙◌}
 use Rattle.std.specs.Prelude.{Bool, Err, List, None, Ok, Option, Result, Some, drop, false, if◌then◌else◌, length, refl, true, ℕ, [], ◌≡◌}
 
-one_held : (a b : Held) → Stands a ≡ Stands b → a ≡ b
+one_held : (a b : LoggedStore) → Stands a ≡ Stands b → a ≡ b
 one_held a b is = cc
 
 -- A value that the file holds was read.
-read_is : (r : Result Held LogFault) (held : Held) → as_holding r ≡ Stands held → r ≡ Ok held
+read_is : (r : Result LoggedStore LogFault) (held : LoggedStore) → as_holding r ≡ Stands held → r ≡ Ok held
 read_is r held is = grind arith
 
-abbrev base_in : Result Held LogFault → ℕ
+abbrev base_in : Result LoggedStore LogFault → ℕ
 base_in (Ok held) = length held.base
 base_in (Err fault) = 0
 
 -- The base of a log has the length that was read.
-logged_length : (whole : ℕ) (r : Read (List ℕ)) (held : Held)
+logged_length : (whole : ℕ) (r : Read (List ℕ)) (held : LoggedStore)
     → (r >>= λ base. changes_at (length base.1) whole base.1 >>= λ changes. Ok (record { base = base.0; changes = changes })) ≡ Ok held
     → length_of r ≡ length held.base
 logged_length whole (Err fault) held is = cc
@@ -36,7 +36,7 @@ logged_length whole (Ok base) held is = by (changes_at (length base.1) whole bas
     by (Err fault) is = cc
     by (Ok changes) is = ap base_in is
 
-read_length : (bytes : List ℕ) (held : Held) → held_in bytes ≡ Ok held → base_length bytes ≡ length held.base
+read_length : (bytes : List ℕ) (held : LoggedStore) → held_in bytes ≡ Ok held → base_length bytes ≡ length held.base
 unfolding held_in base_length logged_in
 read_length bytes held is = by (is_log bytes) is
   where
@@ -59,10 +59,10 @@ at_rest_held gate bytes rest =
 
 at_rest_within : (gate : ℕ) (bytes : List ℕ) → IsAtRest gate bytes → IsWithinLog (stored (Some (Some bytes)))
 at_rest_within gate bytes rest held is =
-    let here : Held = record { base = rest.base; changes = rest.changes } in
+    let here : LoggedStore = record { base = rest.base; changes = rest.changes } in
     let same : here ≡ held = one_held here held (sym (ap as_holding (at_rest_held gate bytes rest)) ∙ is) in
     let file : length bytes ≡ length (log held.base held.changes) = ap length rest.spelled ∙ ap
-    (λ (h : Held). length (log h.base h.changes)) same in
+    (λ (h : LoggedStore). length (log h.base h.changes)) same in
     omega arith
 
 pub is_within_log : (seen : Option File) (leaves : File → Type 0) (gate : Option ℕ) → TakesAppends seen leaves gate

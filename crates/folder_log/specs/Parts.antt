@@ -1,8 +1,8 @@
 -- The disk of a shelf, and how the shelf's calls change its own counts and those of the disk.
 use Rattle.std.specs.Prelude.{◌≡◌, ℕ, None, IsSome}
-use Rattle.shelf.specs.Calls.{one_more}
-use Rattle.shelf.specs.Logged.{Call}
-use Rattle.shelf.specs.Logged.Call.{Load, Replace, Append, AppendOutOfMemory}
+use Rattle.devices.specs.Calls.{one_more}
+use Rattle.devices.specs.Logged.{Call}
+use Rattle.devices.specs.Logged.Call.{Load, Replace, Append, AppendOutOfMemory}
 use Rattle.folder_log.specs.Disk.{more, FewMore}
 use Rattle.folder_log.specs.declared.log_shelf.LogShelf.{LogShelf}
 

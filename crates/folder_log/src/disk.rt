@@ -1,10 +1,10 @@
 ghost use Rattle.std.specs.Prelude.{◌≡◌, ℕ, ◌≤◌, ◌⊎◌, ◌++◌, List, Option, Some, None, is_some, length, IfOk, OnOk, OnErr, IsErrOf};
-ghost use Rattle.shelf.specs.Devices.{Rose};
-ghost use Rattle.shelf.specs.Calls.{one_more};
+ghost use Rattle.devices.specs.Devices.{Rose};
+ghost use Rattle.devices.specs.Calls.{one_more};
 ghost use Rattle.folder_log.specs.Disk.{File, IsRead, IsTooLong, ShowsNow, IsWithin, Writes, IsTorn, Follows, Only, Settles, Elapses};
 
+use devices::Failed;
 use s3_types::Bytes;
-use shelf::Failed;
 
 /// Why a read of a disk failed.
 #[derive(Clone, Copy, PartialEq, Eq)]

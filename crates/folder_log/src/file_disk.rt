@@ -1,14 +1,14 @@
 ghost use Rattle.std.specs.Prelude.{◌≡◌, ℕ, ◌≤◌, None, IfOk, OnOk, OnErr, vec_len};
-ghost use Rattle.shelf.specs.Devices.{Rose};
-ghost use Rattle.shelf.specs.Calls.{one_more};
-ghost use Rattle.shelf.specs.Logged.{most_file};
+ghost use Rattle.devices.specs.Devices.{Rose};
+ghost use Rattle.devices.specs.Calls.{one_more};
+ghost use Rattle.devices.specs.Logged.{most_file};
 ghost use Rattle.folder_log.specs.Disk.{file_length, untold};
 
 use crate::disk::{DiskFault, LogDisk};
 use crate::folder::{Known, Lockable, Stamp, has_writer, is_missing, lock_folder, stamp_at};
+use devices::Failed;
+use devices::kept::MOST_FILE;
 use s3_types::Bytes;
-use shelf::Failed;
-use shelf::kept::MOST_FILE;
 use std::alloc::{AllocError, Global};
 use std::fs::{OpenFile, OpenOptions};
 use std::io::{Read, Seek, SeekFrom, Write};

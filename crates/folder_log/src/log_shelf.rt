@@ -1,16 +1,16 @@
 ghost use Rattle.std.specs.Prelude.{◌≡◌, ℕ, ◌≤◌, ◌<◌, ◌^◌, ◌+◌, ◌⊎◌, ◌∷◌, ◌++◌, List, Option, Some, None, is_some, length, IfOk, IfSome, OnOk, OnErr, IsErrOf, true};
 ghost use Rattle.log_format.specs.Change.{is_changing};
-ghost use Rattle.shelf.specs.Devices.{Rose};
-ghost use Rattle.shelf.specs.Causes.{IfBadLog};
-ghost use Rattle.shelf.specs.Logged.{LeavesOnly, most_file, IsLoaded, IsTooLarge, IsBad};
+ghost use Rattle.devices.specs.Devices.{Rose};
+ghost use Rattle.devices.specs.Causes.{IfBadLog};
+ghost use Rattle.devices.specs.Logged.{LeavesOnly, most_file, IsLoaded, IsTooLarge, IsBad};
 ghost use Rattle.folder_log.specs.Disk.{File, IsWithin, Writes, IsTorn, Only, Settles, more, FewMore};
 ghost use Rattle.folder_log.specs.Kept.{IsClosed, IsLeftOf, IsPrepared, IsSure, stored_of, stored, Leaves, TakesAppends};
 
 use crate::disk::{DiskFault, LogDisk};
+use devices::Failed;
+use devices::kept::{LoadFault, LoggedStore, MOST_BASE, Shelf, ShelfStop};
 use log_format::{LogFault, base_length, can_write, head_of, read_log, write_record};
 use s3_types::{Bytes, Request};
-use shelf::Failed;
-use shelf::kept::{Held, LoadFault, MOST_BASE, Shelf, ShelfStop};
 use std::alloc::Global;
 
 /// Writes bytes at a place and syncs them. A crash leaves the file as it was, or with any bytes in
@@ -79,7 +79,7 @@ fn prepared(buffer: &mut Vec<u8>, gate: u64, change: &Request) -> Option<u64>
 const MOST_PLACE: u64 = 1 << 63;
 
 /// Returns what a file holds that was read.
-fn loaded(alloc: Global, file: &Bytes) -> Result<Option<Held>, LoadFault>
+fn loaded(alloc: Global, file: &Bytes) -> Result<Option<LoggedStore>, LoadFault>
     requires { length file.now ≤ most_file }
     ensures loaded { IfOk result (λ loaded. IsLoaded (Some (stored_of (Some file.now))) loaded) }
     ensures large { IsErrOf result LoadFault.TooLarge → IsTooLarge (Some (stored_of (Some file.now))) }
@@ -164,7 +164,7 @@ impl<D: LogDisk + Drop> Shelf for LogShelf<D> {
 
     /// Syncs, and then reads the file once: O(bytes), in memory for the file, its base and its
     /// changes.
-    fn load(&mut self) -> Result<Option<Held>, LoadFault> {
+    fn load(&mut self) -> Result<Option<LoggedStore>, LoadFault> {
         self.calls = self.calls.saturating_add(1);
         match self.disk.sync() {
             Ok(()) => {}

@@ -1,5 +1,5 @@
 ghost use Rattle.std.specs.Prelude.{◌≡◌, ℕ, List, [], ◌∷◌, ◌++◌, length, Some, IfOk, OnOk, OnErr};
-ghost use Rattle.shelf.specs.Calls as told;
+ghost use Rattle.devices.specs.Calls as told;
 ghost use Rattle.folder_log.specs.Disk.{IsWithin};
 ghost use Rattle.folder_log.specs.Calls.{IsImage, LeftSince, left_by, state_in, recorded};
 ghost use Rattle.folder_log.specs.declared.state.DiskCall.TheVariants as made;
@@ -9,8 +9,8 @@ use crate::disk::{DiskFault, LogDisk};
 use crate::state::{
     Choice, DiskCall, Span, State, at_rest, joined, read_of, shared, torn_file, written,
 };
+use devices::{CallList, Calls, Failed};
 use s3_types::{Bytes, Sequence};
-use shelf::{CallList, Calls, Failed};
 use std::alloc::{AllocError, Global};
 use std::marker::Model;
 

@@ -5,8 +5,8 @@ ghost use Rattle.folder_log.specs.Calls as laid;
 ghost use Rattle.folder_log.specs.Calls.{filled};
 
 use crate::disk::DiskFault;
+use devices::kept::MOST_FILE;
 use s3_types::{Bytes, Sequence};
-use shelf::kept::MOST_FILE;
 use std::alloc::{AllocError, Global};
 
 /// A call of a disk that succeeded and may have changed what a crash leaves.

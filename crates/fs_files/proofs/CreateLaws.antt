@@ -1,8 +1,8 @@
 -- The making of a file, stage by stage.
 use Rattle.block_stream.specs.Holds.{HasRoom}
 use Rattle.block_stream.specs.Stream.{Stream, answers, told}
-use Rattle.block_stream.specs.declared.stage.Stage.{Stage}
-use Rattle.block_stream.specs.declared.stage.Stage.TheVariants.{Beginning, Completing, Over, Putting, Sending, Waiting}
+use Rattle.block_stream.specs.declared.stage.StreamStage.{StreamStage}
+use Rattle.block_stream.specs.declared.stage.StreamStage.TheVariants.{Beginning, Completing, Over, Putting, Sending, Waiting}
 use Rattle.bucket_ops.proofs.AskLaws.{all_gone, answered, applied_none, are_gone, get_put}
 use Rattle.bucket_ops.specs.Asks.{Ask, Head, objects_at, objects_of, reply_in, request_of}
 use Rattle.bucket_ops.specs.Looks.{look_of}
@@ -17,7 +17,7 @@ use Rattle.fs_files.proofs.WritingLaws.{wanted_is}
 use Rattle.fs_files.specs.Creation.{Creation, IsCreation}
 use Rattle.fs_files.specs.Placed.{InFile, IsBeside, IsFileOrNot, NoneBut, NoneLeft, placed}
 use Rattle.fs_files.specs.Requests.{Cleans, IsWriteOf}
-use Rattle.fs_files.specs.code.Create.{AlwaysFile, Answer, CreateStep, GivesFile, HoldsAt, HoldsIn, IsDue, IsMade, IsOpen, IsSending}
+use Rattle.fs_files.specs.code.Create.{AlwaysFile, CreateAnswer, CreateStep, GivesFile, HoldsAt, HoldsIn, IsDue, IsMade, IsOpen, IsSending}
 use Rattle.fs_files.specs.code.Create.{IsUndone, SomeDue, Writes, always, always_in, asked_or, asks, bucket_at, calm, climb, drop_from}
 use Rattle.fs_files.specs.code.Create.{file_in, gives, goes, heard as heard_in, here as here_at, holds, least, leaves, led, left, left_at}
 use Rattle.fs_files.specs.code.Create.{moved, on, on_below, on_climb, on_here, replace, request, sends, starts, stepped, upload_of}
@@ -80,10 +80,10 @@ step_of o Refusing = End (Err NotFound)
 
 -- The stream goes so, whatever the reply is.
 module _ (o : Creation) (w : Writing) (some : 1 ≤ w.block) where
-  abbrev at_stage : Stage → Reply → Bool → CreateStep
+  abbrev at_stage : StreamStage → Reply → Bool → CreateStep
   at_stage g r repeated = cond (answers g r) (moved o (told g (stream_of o.path.bucket w) repeated r)) (End (Err NotFound))
 
-  stepped_at : (g : Stage) → Known w g → (r : Reply) (repeated : Bool) → at_stage g r repeated ≡ step_of o (heard_at g w r repeated)
+  stepped_at : (g : StreamStage) → Known w g → (r : Reply) (repeated : Bool) → at_stage g r repeated ≡ step_of o (heard_at g w r repeated)
   stepped_at Putting k (Stored t) repeated = refl
   stepped_at Beginning k (Drawn id) repeated = refl
   stepped_at Sending k (Part t) repeated = refl
@@ -452,11 +452,11 @@ module _ (o : Creation) (z : Scene) (ok : IsCreation o) where
       → Goes (λ p s. holds n z p s false) (gives n z) (stepped o y) s
   goes_so y s h n g = grind arith
 
-answered_in : (o : Creation) (z : Objects) (a : Answer) (m : Objects) → Creates o.path o.bytes o.overwrite o.policy z a m → always_in o z m
+answered_in : (o : Creation) (z : Objects) (a : CreateAnswer) (m : Objects) → Creates o.path o.bytes o.overwrite o.policy z a m → always_in o z m
 answered_in o z a m h = grind arith
 
 -- What is given at the end also holds as it does at every point.
-ends_always : (o : Creation) (z : Scene) (a : Answer) (s : Scene) → GivesFile o z a s → AlwaysFile o z s
+ends_always : (o : Creation) (z : Scene) (a : CreateAnswer) (s : Scene) → GivesFile o z a s → AlwaysFile o z s
 ends_always o z a s h l = by (bucket_at z o.path.bucket) refl (h l).0
   where
     by : (v : Option BucketContent) → bucket_at z o.path.bucket ≡ v
@@ -570,11 +570,11 @@ create_laws = record {
 
 -- ---- if each send was answered
 
-abbrev NextOwn : CreateFile → Scene → Step CreateFile Answer → Scene → Type 0
+abbrev NextOwn : CreateFile → Scene → Step CreateFile CreateAnswer → Scene → Type 0
 NextOwn o z (Next p) s = least o.file z → NoneBut (upload_of p.stage) z o.file.path.bucket s
 NextOwn o z (End a) s = least o.file z → NoneLeft z o.file.path.bucket s
 
-both_so : (o : CreateFile) (z : Scene) (y : Step CreateFile Answer) (s : Scene) → Goes (λ p s. holds o z p s false) (gives o z) y s
+both_so : (o : CreateFile) (z : Scene) (y : Step CreateFile CreateAnswer) (s : Scene) → Goes (λ p s. holds o z p s false) (gives o z) y s
     → NextOwn o z y s → Goes (calm o z) (leaves o z) y s
 both_so o z y s h g = grind arith
 

@@ -1,7 +1,7 @@
 -- The making of a file, on the tree. Contracts cite none of these laws.
-use Rattle.basics.proofs.Members.{in_map, none_some, same_or_other, text_here, text_other}
-use Rattle.basics.specs.Members.{IsIn}
-use Rattle.basics.specs.Parts.{parts_of}
+use Rattle.text_and_lists.proofs.Members.{in_map, none_some, same_or_other, text_here, text_other}
+use Rattle.text_and_lists.specs.Members.{IsIn}
+use Rattle.text_and_lists.specs.Parts.{parts_of}
 use Rattle.bucket_ops.proofs.Below.{gone_in, is_in, kept_out}
 use Rattle.dir_markers.specs.Markers.{created, keys_above, marker_of}
 use Rattle.dir_markers.specs.declared.marker.MarkerPolicy.{MarkerPolicy}

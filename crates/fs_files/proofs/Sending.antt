@@ -1,8 +1,8 @@
 -- The requests that make a file send the file: each part, and all parts at the end. Contracts cite none of these laws.
-use Rattle.basics.proofs.Members.{none_some, some_is}
+use Rattle.text_and_lists.proofs.Members.{none_some, some_is}
 use Rattle.block_stream.specs.Stream.{has_some}
-use Rattle.block_stream.specs.declared.stage.Stage.{Stage}
-use Rattle.block_stream.specs.declared.stage.Stage.TheVariants.{Beginning, Completing, Putting, Sending}
+use Rattle.block_stream.specs.declared.stage.StreamStage.{StreamStage}
+use Rattle.block_stream.specs.declared.stage.StreamStage.TheVariants.{Beginning, Completing, Putting, Sending}
 use Rattle.fs_files.proofs.Writing.{Heard, On, asks, asks_at, begun, heard, heard_at, id_in, is_due, is_short, parted, stage_in, unsent}
 use Rattle.fs_files.proofs.WritingLaws.{Known, known}
 use Rattle.fs_files.specs.Creation.{Creation, IsCreation}
@@ -136,7 +136,7 @@ module _ (o : Creation) (z : Scene) (ok : IsCreation o) (w : Writing) (s : Scene
       let all = no_further o.block o.bytes i ok.block n.1 (omega (arith, none, e)) in
       h.tags ∙ ap (map plain_tag) (take_all i (parts_in o) all)
 
-  writes_at : (g : Stage) → Known w g → IsWriteOf o z.content.next (asks_at g B w)
+  writes_at : (g : StreamStage) → Known w g → IsWriteOf o z.content.next (asks_at g B w)
   writes_at Putting k =
       Puts (short_file k.0 k.1) (ap (λ k. PutObject B k w.pending None) key ∙ ap (λ p. PutObject B o.path.key p None) (all_pending k.0))
   writes_at Beginning k = Begins (long_file k.0 k.1) (ap (λ k. CreateUpload B k) key)
@@ -164,7 +164,7 @@ module _ (o : Creation) (z : Scene) (ok : IsCreation o) (w : Writing) (s : Scene
   abbrev r : Request
   r = asks B w
 
-  rises_at : (g : Stage) → s.content.next ≤ (apply s (asks_at g B w)).content.next
+  rises_at : (g : StreamStage) → s.content.next ≤ (apply s (asks_at g B w)).content.next
   rises_at g = grind arith
 
   rises : z.content.next ≤ (apply s r).content.next
@@ -213,7 +213,7 @@ module _ (o : Creation) (z : Scene) (ok : IsCreation o) (w : Writing) (s : Scene
     later = rises;
   }
 
-  goes_at : (g : Stage) → Known w g → (a : Reply) (repeated : Bool)
+  goes_at : (g : StreamStage) → Known w g → (a : Reply) (repeated : Bool)
       → answer s (asks_at g B w) ≡ a → GoesOnSo (heard_at g w a repeated) (apply s r)
   goes_at Beginning k (Drawn id) repeated e = begins_so id k.0 k.1 e
   goes_at Sending k (Part t) repeated e = parts_so t k.0 k.1 e

@@ -1,7 +1,7 @@
 -- How far a file is written, as proofs go through it stage by stage: the requests, and the results of replies.
 use Rattle.block_stream.specs.Stream.{has_some, is_begun, one_if}
-use Rattle.block_stream.specs.declared.stage.Stage.{Stage}
-use Rattle.block_stream.specs.declared.stage.Stage.TheVariants.{Beginning, Completing, Putting, Sending}
+use Rattle.block_stream.specs.declared.stage.StreamStage.{StreamStage}
+use Rattle.block_stream.specs.declared.stage.StreamStage.TheVariants.{Beginning, Completing, Putting, Sending}
 use Rattle.fs_files.specs.code.Writing.{Writing}
 use Rattle.s3_types.specs.Blocks.{named_from}
 use Rattle.s3_types.specs.Tags.{Spelled}
@@ -21,12 +21,12 @@ unsent key block bytes = record { key = key; block = block; pending = bytes; upl
 -- ---- the requests
 
 -- The first stage: a short file is put, and for a longer one an upload is begun.
-abbrev pub first_stage : Bool → Stage
+abbrev pub first_stage : Bool → StreamStage
 first_stage true = Putting
 first_stage false = Beginning
 
 -- A later stage: the next part is sent, or the upload is completed.
-abbrev pub later_stage : Bool → Stage
+abbrev pub later_stage : Bool → StreamStage
 later_stage true = Sending
 later_stage false = Completing
 
@@ -39,12 +39,12 @@ abbrev pub is_due : Writing → Bool
 is_due w = has_some w.pending || not (has_some w.tags)
 
 -- The stage, given the upload.
-abbrev pub stage_by : Option ℕ → Writing → Stage
+abbrev pub stage_by : Option ℕ → Writing → StreamStage
 stage_by None w = first_stage (is_short w)
 stage_by (Some id) w = later_stage (is_due w)
 
 -- The stage of the writing.
-abbrev pub stage_in : Writing → Stage
+abbrev pub stage_in : Writing → StreamStage
 stage_in w = stage_by w.upload w
 
 -- The id of its upload.
@@ -52,7 +52,7 @@ abbrev pub id_in : Writing → ℕ
 id_in w = unwrap_or w.upload 0
 
 -- The request of each stage.
-abbrev pub asks_at : Stage → List ℕ → Writing → Request
+abbrev pub asks_at : StreamStage → List ℕ → Writing → Request
 asks_at Putting bucket w = PutObject bucket w.key w.pending None
 asks_at Beginning bucket w = CreateUpload bucket w.key
 asks_at Sending bucket w = UploadPart bucket w.key (id_in w) (length w.tags + 1) (take w.block w.pending)
@@ -106,7 +106,7 @@ end_heard repeated (Refused r) = refused repeated r
 end_heard repeated _ = Refusing
 
 -- The result of a reply, at each stage.
-abbrev pub heard_at : Stage → Writing → Reply → Bool → Heard
+abbrev pub heard_at : StreamStage → Writing → Reply → Bool → Heard
 heard_at Putting w r repeated = put_heard r
 heard_at Beginning w r repeated = begin_heard w r
 heard_at Sending w r repeated = send_heard w r

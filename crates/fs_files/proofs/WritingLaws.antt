@@ -1,14 +1,14 @@
 -- A file that is written is a closed stream. Its bytes are held, whatever the store loses, and nothing else changes. Contracts cite none of
 -- these laws.
-use Rattle.basics.proofs.Members.{nat_gone, nat_left, nat_other, same_or_not, some_is}
-use Rattle.basics.proofs.Tree.{insert_same}
-use Rattle.basics.specs.Order.{text_total}
+use Rattle.text_and_lists.proofs.Members.{nat_gone, nat_left, nat_other, same_or_not, some_is}
+use Rattle.text_and_lists.proofs.Tree.{insert_same}
+use Rattle.text_and_lists.specs.Order.{text_total}
 use Rattle.block_stream.proofs.FillingLaws.{due, held_at, room_after, room_begun}
 use Rattle.block_stream.specs.Holds.{HasRoom, Holds}
 use Rattle.block_stream.specs.Stream.{Stream, answers, begin_or_wait, ended, has_part, stage, told, wanted}
 use Rattle.block_stream.specs.declared.mode.StreamEnd.TheVariants.{Done as Ended}
-use Rattle.block_stream.specs.declared.stage.Stage.{Stage}
-use Rattle.block_stream.specs.declared.stage.Stage.TheVariants.{Beginning, Completing, Over, Putting, Sending, Waiting}
+use Rattle.block_stream.specs.declared.stage.StreamStage.{StreamStage}
+use Rattle.block_stream.specs.declared.stage.StreamStage.TheVariants.{Beginning, Completing, Over, Putting, Sending, Waiting}
 use Rattle.bucket_ops.proofs.AskLaws.{get_put, put_put}
 use Rattle.bucket_ops.specs.Looks.{look_of}
 use Rattle.bucket_ops.specs.declared.look.Look.TheVariants.{NoBucket}
@@ -41,7 +41,7 @@ use Rattle.block_stream.proofs.KeepingLaws as keeping
 
 -- ---- what a stage shows
 
-abbrev pub Known : Writing → Stage → Type 0
+abbrev pub Known : Writing → StreamStage → Type 0
 Known w Putting = (w.upload ≡ None) × (is_short w ≡ true)
 Known w Beginning = (w.upload ≡ None) × (is_short w ≡ false)
 Known w Sending = (w.upload ≡ Some (id_in w)) × (is_due w ≡ true)
@@ -72,7 +72,7 @@ module _ (b : List ℕ) (w : Writing) (some : 1 ≤ w.block) where
   pub stage_is : stage M ≡ stage_in w
   stage_is = grind (arith, begin_stage, part_due)
 
-  asked : (g : Stage) → Known w g → streams.asks g M ≡ Some (asks_at g b w)
+  asked : (g : StreamStage) → Known w g → streams.asks g M ≡ Some (asks_at g b w)
   asked g h = grind (arith, take_all, is_less)
 
   -- its request is the stream's
@@ -92,7 +92,7 @@ pub placed_by : (z : Scene) (b : List ℕ) (d : BucketContent) (n : ℕ) (r : Re
     placed z b (apply_in d n z.content.minimum r) (cond (draws r) (n + 1) n)
 placed_by z b d n r h = grind (arith, get_put, put_put)
 
-applied_at : (g : Stage) (w : Writing) (z : Scene) (b : List ℕ) (d : BucketContent) (n : ℕ)
+applied_at : (g : StreamStage) (w : Writing) (z : Scene) (b : List ℕ) (d : BucketContent) (n : ℕ)
     → apply (placed z b d n) (asks_at g b w) ≡ placed z b (apply_in d n z.content.minimum (asks_at g b w))
     (cond (draws (asks_at g b w)) (n + 1) n)
 applied_at Putting w z b d n = placed_by z b d n (PutObject b w.key w.pending None) refl
@@ -146,7 +146,7 @@ apart i j n h l e = omega (arith, h, l, e)
 
 module _ (z : Scene) (b bytes : List ℕ) (c : BucketContent) (w : Writing) (drawn : (id : ℕ) → w.upload ≡ Some id → z.content.next ≤ id)
     (d : BucketContent) (n : ℕ) (later : IsLater z c d n) where
-  later_after : (g : Stage) → Known w g → IsLater z c (apply_in d n z.content.minimum (asks_at g b w))
+  later_after : (g : StreamStage) → Known w g → IsLater z c (apply_in d n z.content.minimum (asks_at g b w))
       (cond (draws (asks_at g b w)) (n + 1) n)
   later_after g h = grind (arith, nat_other, apart, part_kept, ended_kept)
 
@@ -177,7 +177,7 @@ HeardSo z b key bytes c (On v) s = Writes z b bytes c v s false
 HeardSo z b key bytes c Refusing s = ⊥
 
 -- The bucket exists.
-not_gone : (g : Stage) (a : Reply) → answers g a ≡ true → look_of a ≡ NoBucket → ⊥
+not_gone : (g : StreamStage) (a : Reply) → answers g a ≡ true → look_of a ≡ NoBucket → ⊥
 not_gone g a h e = grind arith
 
 module _ (z : Scene) (b bytes : List ℕ) (c : BucketContent) (w : Writing) (s : Scene) (repeated : Bool)
@@ -200,7 +200,7 @@ module _ (z : Scene) (b bytes : List ℕ) (c : BucketContent) (w : Writing) (s :
   is_wanted : wanted S ≡ Some r
   is_wanted = wanted_is b w some_block
 
-  scene_after : (g : Stage) → apply s (asks_at g b w) ≡ placed z b (apply_in d n z.content.minimum (asks_at g b w))
+  scene_after : (g : StreamStage) → apply s (asks_at g b w) ≡ placed z b (apply_in d n z.content.minimum (asks_at g b w))
       (next_of n (asks_at g b w))
   scene_after g = ap (λ s. apply s (asks_at g b w)) h.beside.scene ∙ applied_at g w z b d n
 
@@ -238,7 +238,7 @@ module _ (z : Scene) (b bytes : List ℕ) (c : BucketContent) (w : Writing) (s :
   put_is : w.upload ≡ None → bytes ≡ w.pending
   put_is e = (held_at S h.holds.content repeated bytes None None refl e h.holds.held).0
 
-  objects_at : (g : Stage) → Known w g → answers g (answer s (asks_at g b w)) ≡ true
+  objects_at : (g : StreamStage) → Known w g → answers g (answer s (asks_at g b w)) ≡ true
       → Holds (told g S repeated (answer s (asks_at g b w))) (apply s (asks_at g b w)) false bytes
       → IsFileOrNot c.objects w.key bytes (apply_in d n z.content.minimum (asks_at g b w)).objects
   objects_at Putting k f t = inr (ap (λ x. fin.insert d.objects w.key (object_of x)) (sym (put_is k.0)) ∙ twice c.objects d.objects w.key
@@ -288,7 +288,7 @@ module _ (z : Scene) (b bytes : List ℕ) (c : BucketContent) (w : Writing) (s :
             (ap (λ (e : BucketContent). fin.get e.objects w.key) (sym k) ∙ g);
       }
 
-  heard_so : (g : Stage) (a : Reply) → answers g a ≡ true → Holds (told g S repeated a) (apply s r) false bytes
+  heard_so : (g : StreamStage) (a : Reply) → answers g a ≡ true → Holds (told g S repeated a) (apply s r) false bytes
       → ((id : ℕ) → g ≡ Beginning → a ≡ Drawn id → z.content.next ≤ id) → So (heard_at g w a repeated) (apply s r)
   heard_so Putting (Stored t) f k i = let v = stands (apply s r) k in wrote v.0 v.1 v.2
   heard_so Beginning (Drawn id) f k i = record {
@@ -340,7 +340,7 @@ module _ (z : Scene) (b bytes : List ℕ) (c : BucketContent) (w : Writing) (s :
   there : (id : ℕ) → upload_at s.content b id ≡ fin.get dd.uploads id
   there id = ap (λ (s : Scene). upload_at s.content b id) h.beside.scene ∙ ap (λ o. upload_in o id) (get_put z.content.buckets b dd)
 
-  since : (g : Stage) (id : ℕ) → upload_at (apply s (asks_at g b w)).content b id ≡ fin.get
+  since : (g : StreamStage) (id : ℕ) → upload_at (apply s (asks_at g b w)).content b id ≡ fin.get
       (apply_in dd nn z.content.minimum (asks_at g b w)).uploads id
   since g id = grind (arith, applied_at, get_put)
 
@@ -353,7 +353,7 @@ module _ (z : Scene) (b bytes : List ℕ) (c : BucketContent) (w : Writing) (s :
   ended_gone id t (Ok x) f e = nat_gone dd.uploads (id_in w) id f
   ended_gone id t (Err r) f e = absurd (cc)
 
-  own_at : (g : Stage) → Known w g → (a : Reply) → answer s (asks_at g b w) ≡ a
+  own_at : (g : StreamStage) → Known w g → (a : Reply) → answer s (asks_at g b w) ≡ a
       → OwnHeard z b (heard_at g w a false) (apply s (asks_at g b w))
   own_at Putting k (Stored t) e = λ id l f. since Putting id ∙ other id l f (no_own w.upload id k.0)
   own_at Beginning k (Drawn i) e = λ id l f ne.
@@ -407,7 +407,7 @@ parted_room b w t room d = room_after (stream_of b w) t room (due (stream_of b w
 pub goes_further : (b : List ℕ) (w : Writing) → HasRoom (stream_of b w) → (r : Reply) (repeated : Bool) → GoesOn b w (heard w r repeated)
 goes_further b w room r repeated = by (stage_in w) (known w) repeated r
   where
-    by : (g : Stage) → Known w g → (repeated : Bool) (r : Reply) → GoesOn b w (heard_at g w r repeated)
+    by : (g : StreamStage) → Known w g → (repeated : Bool) (r : Reply) → GoesOn b w (heard_at g w r repeated)
     by Putting k repeated (Stored t) = tt
     by Beginning k repeated (Drawn id) = (begun_left w id k.0, room_begun (stream_of b w) id room, refl, refl)
     by Sending k repeated (Part t) = (parted_left w t room.some k.1, parted_room b w t room k.1, refl, refl)

@@ -1,11 +1,11 @@
 -- What a delimited listing shows of a directory's children. Contracts cite none of these laws.
-use Rattle.basics.proofs.Bools.{not_so}
-use Rattle.basics.proofs.Less.{lt}
-use Rattle.basics.proofs.Members.{filter_in, in_filter, in_map, map_in, nat_true, none_some, some_is, text_exact}
-use Rattle.basics.proofs.Tree.{map_sorted, tied}
-use Rattle.basics.specs.Members.{IsIn, RisesFrom}
-use Rattle.basics.specs.Order.{text_cmp}
-use Rattle.basics.specs.Parts.{is_other}
+use Rattle.text_and_lists.proofs.Bools.{not_so}
+use Rattle.text_and_lists.proofs.Less.{lt}
+use Rattle.text_and_lists.proofs.Members.{filter_in, in_filter, in_map, map_in, nat_true, none_some, some_is, text_exact}
+use Rattle.text_and_lists.proofs.Tree.{map_sorted, tied}
+use Rattle.text_and_lists.specs.Members.{IsIn, RisesFrom}
+use Rattle.text_and_lists.specs.Order.{text_cmp}
+use Rattle.text_and_lists.specs.Parts.{is_other}
 use Rattle.dir_markers.specs.declared.status.Status.{Status}
 use Rattle.dir_markers.specs.declared.status.Status.TheVariants.{Directory, File}
 use Rattle.fs_tree.proofs.Begins.{begins_more}

@@ -1,9 +1,9 @@
 -- The deletion of a path, stage by stage.
-use Rattle.basics.proofs.Less.{irrefl}
-use Rattle.basics.proofs.Members.{in_back, in_front, same_or_other, text_gone, text_here, text_is, text_left, text_other, text_true}
-use Rattle.basics.proofs.Members.{true_or_false}
-use Rattle.basics.specs.Members.{IsIn, RisesFrom}
-use Rattle.basics.specs.Order.{text_cmp, text_eq, text_total}
+use Rattle.text_and_lists.proofs.Less.{irrefl}
+use Rattle.text_and_lists.proofs.Members.{in_back, in_front, same_or_other, text_gone, text_here, text_is, text_left, text_other, text_true}
+use Rattle.text_and_lists.proofs.Members.{true_or_false}
+use Rattle.text_and_lists.specs.Members.{IsIn, RisesFrom}
+use Rattle.text_and_lists.specs.Order.{text_cmp, text_eq, text_total}
 use Rattle.bucket_ops.proofs.AskLaws.{gone_still}
 use Rattle.bucket_ops.proofs.Below.{below_stands, gone_in, is_in, kept_out, stands_below}
 use Rattle.bucket_ops.proofs.Sweeps.{sweep_falls, sweep_fits, sweep_goes}
@@ -20,7 +20,7 @@ use Rattle.fs_ops.proofs.Deleting.{deletes}
 use Rattle.fs_ops.proofs.Looks.{at_key, below_key, none_listed}
 use Rattle.fs_ops.proofs.StepLaws.{phases_of}
 use Rattle.fs_ops.specs.Places.{NoFileAt, drop_asks, drop_marker_asks, prefix_of}
-use Rattle.fs_ops.specs.code.Delete.{Answer, Asks, Deletion, GoesWith, InPart, IsBatch, IsDue, IsKept, Removed, always, asks, ends, first}
+use Rattle.fs_ops.specs.code.Delete.{DeleteAnswer, Asks, Deletion, GoesWith, InPart, IsBatch, IsDue, IsKept, Removed, always, asks, ends, first}
 use Rattle.fs_ops.specs.code.Delete.{gives, here as here_at, holds, inside, left, on, on_here, on_inside, on_parent, on_sweep, sends, swept}
 use Rattle.fs_ops.specs.code.Delete.{up, up_to}
 use Rattle.fs_ops.specs.code.Steps.{IsStages, goes_by}
@@ -125,7 +125,7 @@ module _ (recursive : Bool) (z : Objects) where
   abbrev D : List ℕ → Deletion
   D p = record { path = p; recursive = recursive }
 
-  abbrev On : List ℕ → Step DeleteStage Answer → Objects → Type 0
+  abbrev On : List ℕ → Step DeleteStage DeleteAnswer → Objects → Type 0
   On p y m = Goes (holds (D p) z) (ends (D p) z) y m
 
   upward : (p : List ℕ) (m : Objects) → Removed (D p) z m → On p (up (D p)) m
@@ -263,7 +263,7 @@ module _ (o : Deletion) (z : Objects) where
   marked_end key (Some q) n m e h (inr g) k =
       subst (λ m. IsKept o z m k) (sym g.1) (kept_marked q n e (was_free key q n e h g.0) (gone_removed n h) k)
 
-  at_end : (a : Answer) (m : Objects) → ends o z a m → always o z m
+  at_end : (a : DeleteAnswer) (m : Objects) → ends o z a m → always o z m
   at_end (Ok x) m h key = inr (due_removed o z h.0 h.1, marked_end key (marker_if (parent o.path)) h.0 m refl h.1 h.2)
   at_end (Err IsRoot) m h key = inl h.1
   at_end (Err NotFound) m h key = inl h.1
@@ -301,7 +301,7 @@ falls o z x m = grind (arith, still_look, fall_root, fall_up, fall_inside, falls
 stays : (o : Deletion) (x : DeleteStage) (m : Objects) → left o x (edited (asks o x) m) ≡ left o x m
 stays o x m = grind arith
 
-goes : (o : Deletion) (z : Objects) (y : Step DeleteStage Answer) (m : Objects) → Goes (holds o z) (ends o z) y m
+goes : (o : Deletion) (z : Objects) (y : Step DeleteStage DeleteAnswer) (m : Objects) → Goes (holds o z) (ends o z) y m
     → Goes (holds o z) (gives o z) y m
 goes o z (Next x) m h = h
 goes o z (End a) m h = (λ k. deletes o.recursive o.path z a m k h, at_end o z a m h)

@@ -1,7 +1,7 @@
 -- The listing of a directory, stage by stage.
-use Rattle.basics.proofs.Less.{lt}
-use Rattle.basics.specs.Members.{RisesFrom}
-use Rattle.basics.specs.Order.{text_cmp}
+use Rattle.text_and_lists.proofs.Less.{lt}
+use Rattle.text_and_lists.specs.Members.{RisesFrom}
+use Rattle.text_and_lists.specs.Order.{text_cmp}
 use Rattle.bucket_ops.specs.Asks.{edited, is_look, reply_in}
 use Rattle.bucket_ops.specs.Phases.{IsPhases, MayAsk}
 use Rattle.fs_ops.proofs.AtPathLaws.{looks_there, still_look}
@@ -10,7 +10,7 @@ use Rattle.fs_ops.proofs.Deleting.{no_cons}
 use Rattle.fs_ops.proofs.Showing.{shows_children}
 use Rattle.fs_ops.proofs.StepLaws.{phases_of}
 use Rattle.fs_ops.specs.Places.{prefix_of}
-use Rattle.fs_ops.specs.code.List.{Answer, added, all_added, asks, children, first, holds, last_text, left, on, paged, shown, told, whole}
+use Rattle.fs_ops.specs.code.List.{ListAnswer, added, all_added, asks, children, first, holds, last_text, left, on, paged, shown, told, whole}
 use Rattle.fs_ops.specs.code.Stat.{length_in}
 use Rattle.fs_ops.specs.code.Steps.{IsStages, IsStill, OnlyLooks, goes_by}
 use Rattle.fs_ops.specs.declared.list.ListStage.{ListStage}
@@ -68,7 +68,7 @@ no_length : 0 < length {A = ℕ} [] → ⊥
 no_length h = omega (arith, h)
 
 module _ (z : Objects) where
-  abbrev On : List ℕ → Step ListStage Answer → Objects → Type 0
+  abbrev On : List ℕ → Step ListStage ListAnswer → Objects → Type 0
   On o y m = Goes (holds o z) (Lists o z) y m
 
   -- ---- the directory, if something was listed

@@ -10,7 +10,7 @@ use Rattle.fs_ops.proofs.Climbing.{IsClimbed, IsShorter, all_on, climbed_falls, 
 use Rattle.fs_ops.proofs.Looks.{at_key, below_key, head_tells}
 use Rattle.fs_ops.proofs.StepLaws.{phases_of}
 use Rattle.fs_ops.specs.code.Climbs.{climbed, climbing}
-use Rattle.fs_ops.specs.code.Make.{Answer, always, asks, first, here as here_at, holds, left, on, on_below, on_climb, on_here, sends}
+use Rattle.fs_ops.specs.code.Make.{MakeAnswer, always, asks, first, here as here_at, holds, left, on, on_below, on_climb, on_here, sends}
 use Rattle.fs_ops.specs.code.Steps.{IsStages, goes_by}
 use Rattle.fs_ops.specs.declared.climb.Climbed.{Climbed}
 use Rattle.fs_ops.specs.declared.make_dirs.MakeStage.{MakeStage}
@@ -29,7 +29,7 @@ use Rattle.std.specs.Prelude.{Err, List, Ok, length, ℕ, [], ◌+◌, ◌∷◌
 use Rattle.std.specs.FinMap as fin
 
 module _ (z : Objects) where
-  abbrev On : List ℕ → Step MakeStage Answer → Objects → Type 0
+  abbrev On : List ℕ → Step MakeStage MakeAnswer → Objects → Type 0
   On o y m = Goes (holds o z) (Makes o z) y m
 
   made : (o : List ℕ) (m : Objects) → PutsDir o z m → Makes o z (Ok tt) m
@@ -68,7 +68,7 @@ falls o PutMarker r m n = tt
 same : (o : List ℕ) (z : Objects) (x : MakeStage) (m : Objects) → holds o z x m → m ≡ z
 same o z x m h = grind arith
 
-ended : (o : List ℕ) (z : Objects) (a : Answer) (m : Objects) → Makes o z a m → always o z m
+ended : (o : List ℕ) (z : Objects) (a : MakeAnswer) (m : Objects) → Makes o z a m → always o z m
 ended o z a m h = grind arith
 
 stages : IsStages {O = List ℕ} first asks on holds Makes always left

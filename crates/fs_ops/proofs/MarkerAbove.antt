@@ -1,5 +1,5 @@
 -- The marker above a path.
-use Rattle.basics.proofs.Options.{none_some}
+use Rattle.text_and_lists.proofs.Options.{none_some}
 use Rattle.dir_markers.specs.Markers.{deleted, marker_of}
 use Rattle.fs_tree.specs.Changes.{marker_if, parent}
 use Rattle.path_keys.proofs.Last.{before_none}

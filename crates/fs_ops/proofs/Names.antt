@@ -1,6 +1,6 @@
 -- The keys of paths and of the directories above them, and the rests of texts after a prefix.
-use Rattle.basics.proofs.Pieces.{one_part}
-use Rattle.basics.specs.Parts.{is_other, parts_of}
+use Rattle.text_and_lists.proofs.Pieces.{one_part}
+use Rattle.text_and_lists.specs.Parts.{is_other, parts_of}
 use Rattle.dir_markers.proofs.Above.{front_some}
 use Rattle.dir_markers.specs.Markers.{keys_above, marker_of}
 use Rattle.fs_ops.specs.Places.{key_if, prefix_of}

@@ -1,10 +1,10 @@
 -- The children that a listing shows are those of the directory. Contracts cite none of these laws.
-use Rattle.basics.proofs.Less.{irrefl, less_of, lt, lt_not, lt_trans}
-use Rattle.basics.proofs.Members.{eq_nat, false_true, in_append, in_back, in_front, text_is, text_true}
-use Rattle.basics.proofs.Pieces.{one_part, parts_append}
-use Rattle.basics.specs.Members.{IsIn, RisesFrom}
-use Rattle.basics.specs.Order.{text_cmp, text_eq, text_total}
-use Rattle.basics.specs.Parts.{is_other, parts_of}
+use Rattle.text_and_lists.proofs.Less.{irrefl, less_of, lt, lt_not, lt_trans}
+use Rattle.text_and_lists.proofs.Members.{eq_nat, false_true, in_append, in_back, in_front, text_is, text_true}
+use Rattle.text_and_lists.proofs.Pieces.{one_part, parts_append}
+use Rattle.text_and_lists.specs.Members.{IsIn, RisesFrom}
+use Rattle.text_and_lists.specs.Order.{text_cmp, text_eq, text_total}
+use Rattle.text_and_lists.specs.Parts.{is_other, parts_of}
 use Rattle.dir_markers.specs.Markers.{marker_of}
 use Rattle.dir_markers.specs.declared.status.Status.{Status}
 use Rattle.dir_markers.specs.declared.status.Status.TheVariants.{Directory, File}

@@ -4,7 +4,7 @@ use Rattle.dir_markers.specs.declared.status.Status.TheVariants.{Directory}
 use Rattle.fs_ops.proofs.AtPathLaws.{IsQuestion, looks_there, question_asked, question_laws}
 use Rattle.fs_ops.specs.Places.{look_asks}
 use Rattle.fs_ops.specs.code.AtPath.{first, holds, left, told}
-use Rattle.fs_ops.specs.code.Stat.{Answer, asks, on, status_in}
+use Rattle.fs_ops.specs.code.Stat.{StatAnswer, asks, on, status_in}
 use Rattle.fs_ops.specs.code.Steps.{IsStill, OnlyLooks, goes_by}
 use Rattle.fs_tree.specs.Answers.{Stats}
 use Rattle.fs_tree.specs.declared.answers.FsRefusal.TheVariants.{NoSuchBucket}
@@ -20,7 +20,7 @@ here : (x : ℕ) (p : List ℕ) (z : Objects) (v : Option Object) → fin.get z 
     → Goes (holds (x ∷ p) z) (Stats (x ∷ p) z) (told (status_in (head v))) z
 here x p z v h = grind arith
 
-same_end : (p : List ℕ) (z : Objects) (a : Answer) (m : Objects) → Stats p z a m → m ≡ z
+same_end : (p : List ℕ) (z : Objects) (a : StatAnswer) (m : Objects) → Stats p z a m → m ≡ z
 same_end p z a m h = grind arith
 
 question : IsQuestion look_asks status_in (Ok Directory) Stats

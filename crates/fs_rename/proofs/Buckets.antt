@@ -1,6 +1,6 @@
 -- An operation in one bucket, or between two buckets.
-use Rattle.basics.proofs.Members.{none_some, text_is, text_true}
-use Rattle.basics.specs.Order.{text_eq}
+use Rattle.text_and_lists.proofs.Members.{none_some, text_is, text_true}
+use Rattle.text_and_lists.specs.Order.{text_eq}
 use Rattle.bucket_ops.proofs.AskLaws.{with_same}
 use Rattle.bucket_ops.specs.Asks.{objects_at}
 use Rattle.bucket_ops.specs.Phases.{AlwaysIn, GivesIn, InScene}

@@ -1,6 +1,6 @@
 -- Copies of keys, one after another.
-use Rattle.basics.proofs.Members.{none_some, text_here, text_other}
-use Rattle.basics.specs.Members.{IsIn}
+use Rattle.text_and_lists.proofs.Members.{none_some, text_here, text_other}
+use Rattle.text_and_lists.specs.Members.{IsIn}
 use Rattle.bucket_ops.proofs.Below.{is_in}
 use Rattle.bucket_ops.specs.Asks.{Copy as CopyKey, edited}
 use Rattle.fs_rename.specs.Copies.{AreFree, IsCopied, IsCopying, IsOneOf, LessCopies, Move, copied_all, copied_next, copies_left, copy_asks}

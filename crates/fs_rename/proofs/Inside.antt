@@ -1,7 +1,7 @@
 -- The new place inside a directory, and the paths above the target.
-use Rattle.basics.proofs.Members.{none_some}
-use Rattle.basics.proofs.Pieces.{one_part, parts_append}
-use Rattle.basics.specs.Parts.{parts_of}
+use Rattle.text_and_lists.proofs.Members.{none_some}
+use Rattle.text_and_lists.proofs.Pieces.{one_part, parts_append}
+use Rattle.text_and_lists.specs.Parts.{parts_of}
 use Rattle.fs_ops.proofs.MarkerAbove.{above_by, not_zero}
 use Rattle.fs_ops.proofs.Names.{last_end}
 use Rattle.fs_ops.specs.Places.{key_if, prefix_of}

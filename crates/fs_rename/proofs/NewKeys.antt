@@ -1,7 +1,7 @@
 -- New keys are keys.
-use Rattle.basics.proofs.Bools.{all_three}
-use Rattle.basics.proofs.Lists.{some_length}
-use Rattle.basics.proofs.Members.{some_is}
+use Rattle.text_and_lists.proofs.Bools.{all_three}
+use Rattle.text_and_lists.proofs.Lists.{some_length}
+use Rattle.text_and_lists.proofs.Members.{some_is}
 use Rattle.dir_markers.specs.Markers.{marker_of}
 use Rattle.fs_ops.proofs.Showing.{rest_is as rest_follows}
 use Rattle.fs_ops.specs.code.List.{rest_of}

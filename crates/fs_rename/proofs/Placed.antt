@@ -1,8 +1,8 @@
 -- The moves of a file, and of a directory with all that is below it.
-use Rattle.basics.proofs.Less.{irrefl, lt_not}
-use Rattle.basics.proofs.Members.{none_or_some, none_some, true_or_false}
-use Rattle.basics.specs.Members.{IsIn, RisesFrom}
-use Rattle.basics.specs.Order.{text_cmp, text_total}
+use Rattle.text_and_lists.proofs.Less.{irrefl, lt_not}
+use Rattle.text_and_lists.proofs.Members.{none_or_some, none_some, true_or_false}
+use Rattle.text_and_lists.specs.Members.{IsIn, RisesFrom}
+use Rattle.text_and_lists.specs.Order.{text_cmp, text_total}
 use Rattle.bucket_ops.proofs.Below.{below_stands, stands_below}
 use Rattle.bucket_ops.specs.Walking.{keys_below}
 use Rattle.dir_markers.specs.Markers.{marker_of}

@@ -1,5 +1,5 @@
 -- The target as a new place.
-use Rattle.basics.proofs.Members.{none_some}
+use Rattle.text_and_lists.proofs.Members.{none_some}
 use Rattle.fs_ops.specs.Places.{prefix_of}
 use Rattle.fs_rename.specs.Keys.{place_of}
 use Rattle.fs_tree.proofs.Begins.{marker_is}

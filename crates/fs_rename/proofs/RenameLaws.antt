@@ -1,8 +1,8 @@
 -- A rename, stage by stage.
-use Rattle.basics.proofs.Less.{irrefl}
-use Rattle.basics.proofs.Members.{in_back, in_front}
-use Rattle.basics.specs.Members.{IsIn}
-use Rattle.basics.specs.Order.{text_cmp, text_total}
+use Rattle.text_and_lists.proofs.Less.{irrefl}
+use Rattle.text_and_lists.proofs.Members.{in_back, in_front}
+use Rattle.text_and_lists.specs.Members.{IsIn}
+use Rattle.text_and_lists.specs.Order.{text_cmp, text_total}
 use Rattle.bucket_ops.proofs.Batches.{batch_goes, deleting_all}
 use Rattle.bucket_ops.proofs.Below.{stands_below}
 use Rattle.bucket_ops.proofs.Sweeps.{sweep_falls, sweep_fits, sweep_stays}

@@ -1,7 +1,7 @@
 -- What the looks of a rename show.
-use Rattle.basics.proofs.Members.{none_or_some, text_is, text_true}
-use Rattle.basics.specs.Members.{IsIn, RisesFrom}
-use Rattle.basics.specs.Order.{text_cmp, text_eq}
+use Rattle.text_and_lists.proofs.Members.{none_or_some, text_is, text_true}
+use Rattle.text_and_lists.specs.Members.{IsIn, RisesFrom}
+use Rattle.text_and_lists.specs.Order.{text_cmp, text_eq}
 use Rattle.bucket_ops.proofs.Below.{below_stands, stands_below}
 use Rattle.bucket_ops.specs.Asks.{reply_in}
 use Rattle.bucket_ops.specs.Looks.{look_of}

@@ -1,6 +1,6 @@
 -- A rename, on the tree.
-use Rattle.basics.proofs.Members.{in_front, none_some}
-use Rattle.basics.specs.Members.{IsIn}
+use Rattle.text_and_lists.proofs.Members.{in_front, none_some}
+use Rattle.text_and_lists.specs.Members.{IsIn}
 use Rattle.bucket_ops.specs.Asks.{objects_at}
 use Rattle.bucket_ops.specs.Phases.{AlwaysIn, GivesIn}
 use Rattle.bucket_ops.specs.Sweeping.{IsDeleting}

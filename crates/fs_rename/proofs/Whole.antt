@@ -1,8 +1,8 @@
 -- Each object is whole while it is moved.
-use Rattle.basics.proofs.Less.{lt_not}
-use Rattle.basics.proofs.Members.{none_some, same_or_other, text_here, text_other}
-use Rattle.basics.specs.Members.{IsIn, RisesFrom}
-use Rattle.basics.specs.Order.{text_cmp, text_total}
+use Rattle.text_and_lists.proofs.Less.{lt_not}
+use Rattle.text_and_lists.proofs.Members.{none_some, same_or_other, text_here, text_other}
+use Rattle.text_and_lists.specs.Members.{IsIn, RisesFrom}
+use Rattle.text_and_lists.specs.Order.{text_cmp, text_total}
 use Rattle.bucket_ops.proofs.Below.{gone_in, is_in, kept_out}
 use Rattle.fs_rename.proofs.CopyLaws.{all_stand, copied_stand, copies_keep, in_sources, in_targets, is_source, is_target, not_target}
 use Rattle.fs_rename.proofs.CopyLaws.{one_in_take}

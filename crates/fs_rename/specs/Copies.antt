@@ -1,5 +1,5 @@
 -- Keys that are copied one by one, and are deleted after all are copied.
-use Rattle.basics.specs.Members.{RisesFrom}
+use Rattle.text_and_lists.specs.Members.{RisesFrom}
 use Rattle.bucket_ops.specs.Asks.{Ask, Copy}
 use Rattle.bucket_ops.specs.Walking.{keys_below}
 use Rattle.dir_markers.specs.Markers.{marker_of}

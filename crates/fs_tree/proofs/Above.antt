@@ -1,9 +1,9 @@
 -- The paths above a path.
-use Rattle.basics.proofs.Bools.{contrary}
-use Rattle.basics.proofs.Members.{eq_nat, in_append, in_front, in_last, true_or_false}
-use Rattle.basics.proofs.Pieces.{one_part, parts_append}
-use Rattle.basics.specs.Members.{IsIn}
-use Rattle.basics.specs.Parts.{is_other, parts_of}
+use Rattle.text_and_lists.proofs.Bools.{contrary}
+use Rattle.text_and_lists.proofs.Members.{eq_nat, in_append, in_front, in_last, true_or_false}
+use Rattle.text_and_lists.proofs.Pieces.{one_part, parts_append}
+use Rattle.text_and_lists.specs.Members.{IsIn}
+use Rattle.text_and_lists.specs.Parts.{is_other, parts_of}
 use Rattle.dir_markers.proofs.Above.{above_more, trimmed_marker}
 use Rattle.dir_markers.specs.Markers.{fronts, keys_above, marker_of}
 use Rattle.fs_tree.proofs.Begins.{begins_all, begins_marker, begins_more, begins_trans, marker_at, marker_is, no_empty}

@@ -1,5 +1,5 @@
 -- Texts that begin with other texts, and markers.
-use Rattle.basics.proofs.Members.{eq_nat, nat_true}
+use Rattle.text_and_lists.proofs.Members.{eq_nat, nat_true}
 use Rattle.dir_markers.specs.Markers.{marker_of}
 use Rattle.fs_tree.specs.Tree.{is_marker}
 use Rattle.s3_types.specs.Pages.{begins}

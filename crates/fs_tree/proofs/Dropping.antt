@@ -1,5 +1,5 @@
 -- Deleting a file or a directory, in the tree.
-use Rattle.basics.proofs.Members.{false_true, none_some, same_or_other, some_is, text_gone, text_left, text_other, true_or_false}
+use Rattle.text_and_lists.proofs.Members.{false_true, none_some, same_or_other, some_is, text_gone, text_left, text_other, true_or_false}
 use Rattle.dir_markers.specs.Markers.{marker_of}
 use Rattle.fs_tree.proofs.Above.{above_parent, parent_begins}
 use Rattle.fs_tree.proofs.Begins.{begins_all, begins_length, begins_marker, begins_trans, marker_at, marker_is, one_begins}

@@ -1,6 +1,6 @@
 -- Making a directory, seen in the tree.
-use Rattle.basics.proofs.Members.{same_or_other, text_here, text_other}
-use Rattle.basics.specs.Members.{IsIn}
+use Rattle.text_and_lists.proofs.Members.{same_or_other, text_here, text_other}
+use Rattle.text_and_lists.specs.Members.{IsIn}
 use Rattle.dir_markers.specs.Markers.{keys_above, marker_of}
 use Rattle.fs_tree.proofs.Above.{above_begins, above_marker, begins_above}
 use Rattle.fs_tree.proofs.Begins.{begins_all, begins_trans, marker_at, marker_is, no_empty}

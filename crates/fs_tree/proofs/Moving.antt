@@ -1,7 +1,7 @@
 -- Moving a file or a directory, seen in the tree.
-use Rattle.basics.proofs.Members.{eq_nat, none_some, same_or_other, true_or_false}
-use Rattle.basics.proofs.Pieces.{one_part}
-use Rattle.basics.specs.Parts.{parts_of}
+use Rattle.text_and_lists.proofs.Members.{eq_nat, none_some, same_or_other, true_or_false}
+use Rattle.text_and_lists.proofs.Pieces.{one_part}
+use Rattle.text_and_lists.specs.Parts.{parts_of}
 use Rattle.dir_markers.specs.Markers.{marker_of}
 use Rattle.fs_tree.proofs.Above.{NoSlash, above_parent, cut}
 use Rattle.fs_tree.proofs.Begins.{begins_marker, begins_more, begins_trans, marker_at}

@@ -1,8 +1,8 @@
 -- How file operations change the tree, and what a directory contains (Hadoop FileSystem specification: mkdirs, delete, create,
 -- listStatus).
-use Rattle.basics.specs.Members.{IsIn}
-use Rattle.basics.specs.Order.{text_cmp}
-use Rattle.basics.specs.Parts.{is_other, parts_of}
+use Rattle.text_and_lists.specs.Members.{IsIn}
+use Rattle.text_and_lists.specs.Order.{text_cmp}
+use Rattle.text_and_lists.specs.Parts.{is_other, parts_of}
 use Rattle.dir_markers.specs.Markers.{keys_above, marker_of}
 use Rattle.dir_markers.specs.declared.status.Status.{Status}
 use Rattle.dir_markers.specs.declared.status.Status.TheVariants.{Directory, File}

@@ -1,6 +1,6 @@
 -- Copies everything below a directory to another place of its bucket. A copy that was stopped can be started again (Hadoop FileSystem
 -- shell: cp).
-use Rattle.basics.specs.Order.{text_cmp}
+use Rattle.text_and_lists.specs.Order.{text_cmp}
 use Rattle.dir_markers.specs.Markers.{keys_above}
 use Rattle.fs_tree.specs.MarkerTool.{AreAll}
 use Rattle.fs_tree.specs.Moves.{AllFit, IsFirstTooLong, IsMove}

@@ -1,7 +1,7 @@
 -- What the marker tool reports about the markers below a path, and which it removes or puts (Hadoop, S3A: directory markers, the marker
 -- tool).
-use Rattle.basics.specs.Members.{IsIn}
-use Rattle.basics.specs.Order.{text_cmp}
+use Rattle.text_and_lists.specs.Members.{IsIn}
+use Rattle.text_and_lists.specs.Order.{text_cmp}
 use Rattle.fs_tree.specs.Changes.{SameFiles}
 use Rattle.fs_tree.specs.Tree.{HasDir, HasFile, IsAbsent, IsDirectory, SomeBelow, Stands, is_marker, marker}
 use Rattle.fs_tree.specs.declared.answers.FsRefusal.{FsRefusal}

@@ -1,5 +1,5 @@
 -- Moving a file or a directory to another place of its bucket (Hadoop FileSystem specification: rename).
-use Rattle.basics.specs.Order.{text_cmp}
+use Rattle.text_and_lists.specs.Order.{text_cmp}
 use Rattle.dir_markers.specs.Markers.{marker_of}
 use Rattle.fs_tree.specs.Changes.{marker_if, own_name, parent}
 use Rattle.fs_tree.specs.Tree.{HasDir, HasFile, IsAbsent, IsDirectory, Stands, is_marker, marker}

@@ -1,12 +1,12 @@
 -- The picks that the job's commit has are those that the journal shows, after each of its sends.
-use Rattle.basics.proofs.Members.{none_some, same_or_not, some_is}
+use Rattle.text_and_lists.proofs.Members.{none_some, same_or_not, some_is}
 use Rattle.job_actor.proofs.Tallies.{below_more, below_same}
 use Rattle.job_actor.proofs.Unread.{Free, FreeAt, left, next, next_here, next_other, reads_so, unread}
 use Rattle.job_actor.specs.Picks.{ArePicksOf}
-use Rattle.job_facts.proofs.Agreeing.{AgreeBelow, Agrees}
-use Rattle.job_facts.specs.Facts.{Hold}
-use Rattle.job_facts.specs.Filed.{Decides}
-use Rattle.job_facts.specs.Told.{Told, driver_entry}
+use Rattle.job_invariant.proofs.Agreeing.{AgreeBelow, Agrees}
+use Rattle.job_invariant.specs.Facts.{Hold}
+use Rattle.job_invariant.specs.Filed.{Decides}
+use Rattle.job_invariant.specs.Told.{Told, driver_entry}
 use Rattle.job_model.specs.JobScript.{Script}
 use Rattle.job_model.specs.Known.{Known}
 use Rattle.job_model.specs.Legal.{IsLegal}
@@ -17,16 +17,16 @@ use Rattle.job_protocol.specs.Operations.{Setting, TheCommit, wants}
 use Rattle.job_protocol.specs.Seen.{Seen, Times, is_begun, is_picking, is_reading, nothing_seen, see, see_all, see_by}
 use Rattle.job_spec.specs.Promise.{picks_below}
 use Rattle.job_spec.specs.States.{times}
-use Rattle.job_steps.proofs.Running.{carried, number, sent_ahead}
-use Rattle.job_steps.proofs.RunningNumbers.{begun_at}
-use Rattle.job_steps.proofs.RunningStages.{IsTimed}
-use Rattle.job_steps.specs.Running.{operation_of}
-use Rattle.job_steps.specs.Transitions.{MaySend, Play, Reachable, Sends, happen}
-use Rattle.job_traces.proofs.Changes.{moment_scene}
-use Rattle.job_traces.proofs.Entries.{late_now, see_more, sees, take_all}
-use Rattle.job_traces.proofs.Running.{At, InCommit}
-use Rattle.job_traces.proofs.Steps.{commit_picks}
-use Rattle.job_traces.specs.Runs.{IsOpening, is_set}
+use Rattle.script_steps.proofs.Running.{carried, number, sent_ahead}
+use Rattle.script_steps.proofs.RunningNumbers.{begun_at}
+use Rattle.script_steps.proofs.RunningStages.{IsTimed}
+use Rattle.script_steps.specs.Running.{operation_of}
+use Rattle.script_steps.specs.Transitions.{MaySend, Play, Reachable, Sends, happen}
+use Rattle.protocol_runs.proofs.Changes.{moment_scene}
+use Rattle.protocol_runs.proofs.Entries.{late_now, see_more, sees, take_all}
+use Rattle.protocol_runs.proofs.Running.{At, InCommit}
+use Rattle.protocol_runs.proofs.Steps.{commit_picks}
+use Rattle.protocol_runs.specs.Runs.{IsOpening, is_set}
 use Rattle.list_walk.specs.Walks.{Listing}
 use Rattle.pending_json.specs.declared.records.PendingSet.{PendingSet}
 use Rattle.s3_types.specs.Answer.{answer}

@@ -1,7 +1,7 @@
 -- The driver runs the job's commit exactly if it began that last, and nothing is picked before it.
-use Rattle.basics.proofs.Members.{none_some}
+use Rattle.text_and_lists.proofs.Members.{none_some}
 use Rattle.job_actor.specs.Picks.{ArePicksOf, PicksGo, is_committing, is_job_commit}
-use Rattle.job_facts.specs.Told.{Told}
+use Rattle.job_invariant.specs.Told.{Told}
 use Rattle.job_model.specs.Known.{Known}
 use Rattle.job_model.specs.Legal.{IsLegal}
 use Rattle.job_model.specs.declared.events.Event.{Event}
@@ -16,15 +16,15 @@ use Rattle.job_protocol.specs.Rechecks.{check_after}
 use Rattle.job_protocol.specs.Seen.{Seen, nothing_seen, see_all}
 use Rattle.job_spec.specs.Promise.{picked, picks_below}
 use Rattle.job_spec.specs.States.{begins_commit, driver_may, is_commit, open_event, put, refusal, reports, times}
-use Rattle.job_steps.proofs.Running.{carried}
-use Rattle.job_steps.proofs.RunningStages.{DriverAt, begins_so, may_commit_job}
-use Rattle.job_steps.specs.Running.{operation_of}
-use Rattle.job_steps.specs.Transitions.{Closes, Finishes, MayOpen, Opens, Play, Reachable, Refuses, Sends, Strays, begun, happens, hear}
-use Rattle.job_steps.specs.Transitions.{knows_now, nothing_happened, open_running}
-use Rattle.job_traces.proofs.Entries.{late_now, sees, take_all}
-use Rattle.job_traces.proofs.EveryRun.{just_set}
-use Rattle.job_traces.proofs.Running.{At}
-use Rattle.job_traces.specs.Runs.{IsOpening, is_just_set}
+use Rattle.script_steps.proofs.Running.{carried}
+use Rattle.script_steps.proofs.RunningStages.{DriverAt, begins_so, may_commit_job}
+use Rattle.script_steps.specs.Running.{operation_of}
+use Rattle.script_steps.specs.Transitions.{Closes, Finishes, MayOpen, Opens, Play, Reachable, Refuses, Sends, Strays, begun, happens, hear}
+use Rattle.script_steps.specs.Transitions.{knows_now, nothing_happened, open_running}
+use Rattle.protocol_runs.proofs.Entries.{late_now, sees, take_all}
+use Rattle.protocol_runs.proofs.EveryRun.{just_set}
+use Rattle.protocol_runs.proofs.Running.{At}
+use Rattle.protocol_runs.specs.Runs.{IsOpening, is_just_set}
 use Rattle.retries.specs.Retries.{step}
 use Rattle.s3_types.specs.Store.{Content}
 use Rattle.s3_types.specs.declared.journal.Entry.{Entry}

@@ -7,10 +7,10 @@ use Rattle.job_protocol.specs.Operations.{Setting}
 use Rattle.job_protocol.specs.Seen.{Seen, Times, nothing_seen, see, see_all, seen}
 use Rattle.job_spec.specs.Promise.{all_picks, picks_below}
 use Rattle.job_spec.specs.States.{times}
-use Rattle.job_steps.proofs.Parts.{take_whole}
-use Rattle.job_steps.proofs.Running.{sent_ahead}
-use Rattle.job_steps.specs.Transitions.{Play, Sends, happen}
-use Rattle.job_traces.proofs.Entries.{see_more}
+use Rattle.script_steps.proofs.Parts.{take_whole}
+use Rattle.script_steps.proofs.Running.{sent_ahead}
+use Rattle.script_steps.specs.Transitions.{Play, Sends, happen}
+use Rattle.protocol_runs.proofs.Entries.{see_more}
 use Rattle.s3_types.specs.Store.{Content}
 use Rattle.s3_types.specs.declared.journal.Entry.{Entry}
 use Rattle.std.proofs.Common.{List, ap, length, sym, [], ◌++◌, ◌∙◌, ◌∷◌, ◌≡◌}

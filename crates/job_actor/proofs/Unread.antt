@@ -1,15 +1,15 @@
 -- While the job's commit reads, the tasks whose sets it has yet to read have no pick.
-use Rattle.basics.proofs.Members.{none_or_some, none_some, same_or_not, some_is}
-use Rattle.basics.proofs.Options.{both_hold}
+use Rattle.text_and_lists.proofs.Members.{none_or_some, none_some, same_or_not, some_is}
+use Rattle.text_and_lists.proofs.Options.{both_hold}
 use Rattle.job_actor.proofs.Picking.{unpicked}
-use Rattle.job_facts.proofs.Reading.{reads_it, reads_other}
-use Rattle.job_facts.proofs.Replies.{bytes_read, set_reply}
-use Rattle.job_facts.proofs.Sharing.{check_plain}
-use Rattle.job_facts.specs.Facts.{Hold, knowing}
-use Rattle.job_facts.specs.Filed.{Decides}
-use Rattle.job_facts.specs.Laws.{IsSetAnswer}
-use Rattle.job_facts.specs.Stores.{sets_at}
-use Rattle.job_facts.specs.Told.{Told, driver_entry, entry}
+use Rattle.job_invariant.proofs.Reading.{reads_it, reads_other}
+use Rattle.job_invariant.proofs.Replies.{bytes_read, set_reply}
+use Rattle.job_invariant.proofs.Sharing.{check_plain}
+use Rattle.job_invariant.specs.Facts.{Hold, knowing}
+use Rattle.job_invariant.specs.Filed.{Decides}
+use Rattle.job_invariant.specs.FactsKeep.{IsSetAnswer}
+use Rattle.job_invariant.specs.Stores.{sets_at}
+use Rattle.job_invariant.specs.Told.{Told, driver_entry, entry}
 use Rattle.job_model.specs.Attempts.{Who}
 use Rattle.job_model.specs.JobScript.{Script}
 use Rattle.job_model.specs.Legal.{IsLegal}
@@ -25,12 +25,12 @@ use Rattle.job_protocol.specs.Outputs.{Picks, same_path}
 use Rattle.job_protocol.specs.Rechecks.{check_after}
 use Rattle.job_protocol.specs.Records.{files_set}
 use Rattle.job_protocol.specs.Seen.{Seen, Times, is_picking, picks_by, see}
-use Rattle.job_traces.proofs.Entries.{late_now}
-use Rattle.job_traces.proofs.EveryRun.{checked_idle, cleans_is, just_set}
-use Rattle.job_traces.proofs.Running.{At, InCommit}
-use Rattle.job_traces.proofs.Steps.{commit_picks}
-use Rattle.job_traces.specs.Runs.{BeginClean, BeginCommit, BeginSetup, Beginning, IsOpening, IsTimely, MayBegin, Runs, Stand, actor_begins}
-use Rattle.job_traces.specs.Runs.{attempt_sends, begin, driver_sends, is_set, nothing_learnt, run_begins, strays}
+use Rattle.protocol_runs.proofs.Entries.{late_now}
+use Rattle.protocol_runs.proofs.EveryRun.{checked_idle, cleans_is, just_set}
+use Rattle.protocol_runs.proofs.Running.{At, InCommit}
+use Rattle.protocol_runs.proofs.Steps.{commit_picks}
+use Rattle.protocol_runs.specs.Runs.{BeginClean, BeginCommit, BeginSetup, Beginning, IsOpening, IsTimely, MayBegin, Runs, Stand, actor_begins}
+use Rattle.protocol_runs.specs.Runs.{attempt_sends, begin, driver_sends, is_set, nothing_learnt, run_begins, strays}
 use Rattle.list_walk.specs.Walks.{Sweep, sweep_hears}
 use Rattle.pending_json.specs.declared.records.PendingSet.{PendingSet}
 use Rattle.retries.specs.Retries.{step}

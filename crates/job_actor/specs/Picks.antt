@@ -6,9 +6,9 @@ use Rattle.job_model.specs.declared.events.Event.{Event}
 use Rattle.job_protocol.specs.Operations.{Operation, Running, Setting, TheCheck, TheCommit}
 use Rattle.job_spec.specs.Promise.{all_picks}
 use Rattle.job_spec.specs.States.{begins_commit, is_commit}
-use Rattle.job_steps.specs.Running.{Ahead}
-use Rattle.job_steps.specs.Transitions.{MayOpen, Play, Reachable}
-use Rattle.job_traces.specs.Runs.{IsOpening}
+use Rattle.script_steps.specs.Running.{Ahead}
+use Rattle.script_steps.specs.Transitions.{MayOpen, Play, Reachable}
+use Rattle.protocol_runs.specs.Runs.{IsOpening}
 use Rattle.s3_types.specs.Store.{Content}
 use Rattle.s3_types.specs.declared.journal.Entry.{Entry}
 use Rattle.s3_types.specs.declared.request.Actor.TheVariants.{Driver}

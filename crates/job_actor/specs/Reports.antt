@@ -1,5 +1,5 @@
 -- What a driver knows of its tasks as it begins an operation.
-use Rattle.commit_laws.specs.Fitting.{least_missing}
+use Rattle.commit_lanes.specs.Fitting.{least_missing}
 use Rattle.job_actor.specs.declared.reported.Reported.{Reported}
 use Rattle.job_model.specs.Attempts.{Who}
 use Rattle.job_model.specs.JobScript.{Script}

@@ -9,8 +9,8 @@ use Rattle.job_model.specs.declared.ends.Pick.{Pick}
 use Rattle.job_model.specs.declared.events.Op.{Op}
 use Rattle.job_protocol.specs.Operations.{Reports, Running, Setting, advance, over, start_of}
 use Rattle.job_spec.specs.States.{actors}
-use Rattle.job_steps.specs.Transitions.{MaySend, Play, Reachable, Sends, happen, knows_now, scene_of}
-use Rattle.job_traces.specs.Runs.{IsOpening}
+use Rattle.script_steps.specs.Transitions.{MaySend, Play, Reachable, Sends, happen, knows_now, scene_of}
+use Rattle.protocol_runs.specs.Runs.{IsOpening}
 use Rattle.s3_types.specs.Answer.{answer, apply}
 use Rattle.s3_types.specs.Moment.{IsHonestOutcome}
 use Rattle.s3_types.specs.Store.{Content, Scene}

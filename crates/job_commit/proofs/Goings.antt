@@ -1,11 +1,11 @@
 -- A commit after an outcome.
-use Rattle.basics.proofs.Naturals.{below_so, not_below}
-use Rattle.commit_laws.proofs.CommitEnds.{read_more}
-use Rattle.commit_laws.specs.Fitting.{SpellsSet, missed_of}
-use Rattle.commit_parts.specs.ReadSets.{AreRead, IsSetOf}
-use Rattle.commit_parts.specs.Tables.{LaneTable, first_missed}
-use Rattle.commit_parts.specs.Undos.{undo_request}
-use Rattle.commit_parts.specs.declared.places.Place.{Place}
+use Rattle.text_and_lists.proofs.Naturals.{below_so, not_below}
+use Rattle.commit_lanes.proofs.CommitEnds.{read_more}
+use Rattle.commit_lanes.specs.Fitting.{SpellsSet, missed_of}
+use Rattle.commit_lanes.specs.ReadSets.{AreRead, IsSetOf}
+use Rattle.commit_lanes.specs.Tables.{LaneTable, first_missed}
+use Rattle.commit_lanes.specs.Undos.{undo_request}
+use Rattle.commit_lanes.specs.declared.places.Place.{Place}
 use Rattle.conflict.specs.Deletions.{Deletion}
 use Rattle.job_commit.proofs.Steps.{holds_fetching, holds_over, holds_replacing, holds_reverting, some_so}
 use Rattle.job_commit.specs.Holds.{IsNext, PicksHold, Reads, StepHolds, asks, attempts_of, picks_from}
@@ -24,7 +24,7 @@ use Rattle.std.proofs.Common.{Bool, List, None, Option, Some, ap, arith, cond, f
 use Rattle.std.proofs.Common.{true, ℕ, [], ◌++◌, ◌+◌, ◌<◌, ◌^◌, ◌∙◌, ◌∷◌, ◌≡◌, ◌≤◌}
 use Rattle.std.proofs.lemmas.List.{map-append}
 use Rattle.job_model.specs.declared.ends.CommitEnd.TheVariants as ends
-use Rattle.job_model.specs.declared.ends.Stage.TheVariants as stages
+use Rattle.job_model.specs.declared.ends.FaultStage.TheVariants as stages
 use Rattle.job_commit.specs.declared.step.Step.TheVariants as steps
 
 -- ---- a set

@@ -1,5 +1,5 @@
 -- Whether a send of the current completion was lost, by the data that the machine keeps.
-use Rattle.commit_parts.specs.Undos.{undo_request}
+use Rattle.commit_lanes.specs.Undos.{undo_request}
 use Rattle.job_commit.specs.Holds.{attempts_of}
 use Rattle.job_commit.specs.Stages.{first_lost, lost_in, operation_of, replacing_at, reverting_from}
 use Rattle.job_commit.specs.Turns.{lost_of}

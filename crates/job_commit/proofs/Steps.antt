@@ -1,22 +1,22 @@
 -- The next step of a commit.
-use Rattle.basics.proofs.Members.{some_is}
-use Rattle.basics.proofs.Naturals.{below_is, below_so}
-use Rattle.commit_laws.specs.Fitting.{FitsReply}
-use Rattle.commit_parts.proofs.Placing.{places_length}
-use Rattle.commit_parts.proofs.SamePaths.{same_path_is}
-use Rattle.commit_parts.specs.Clashes.{IsBest, items_from}
-use Rattle.commit_parts.specs.Places.{places_from}
-use Rattle.commit_parts.specs.ReadSets.{AreRead, HasAll}
-use Rattle.commit_parts.specs.Relatives.{relative_of}
-use Rattle.commit_parts.specs.Tables.{LaneTable, first_of, listed, next_turn}
-use Rattle.commit_parts.specs.Undos.{IsRevert, undo_request}
-use Rattle.commit_parts.specs.declared.places.Place.{Place}
-use Rattle.commit_parts.specs.declared.sharing.Clash.{Clash}
-use Rattle.commit_parts.specs.declared.undo.Undo.{Undo}
+use Rattle.text_and_lists.proofs.Members.{some_is}
+use Rattle.text_and_lists.proofs.Naturals.{below_is, below_so}
+use Rattle.commit_lanes.specs.Fitting.{FitsReply}
+use Rattle.commit_lanes.proofs.Placing.{places_length}
+use Rattle.commit_lanes.proofs.SamePaths.{same_path_is}
+use Rattle.commit_lanes.specs.Clashes.{IsBest, items_from}
+use Rattle.commit_lanes.specs.Places.{places_from}
+use Rattle.commit_lanes.specs.ReadSets.{AreRead, HasAll}
+use Rattle.commit_lanes.specs.Relatives.{relative_of}
+use Rattle.commit_lanes.specs.Tables.{LaneTable, first_of, listed, next_turn}
+use Rattle.commit_lanes.specs.Undos.{IsRevert, undo_request}
+use Rattle.commit_lanes.specs.declared.places.Place.{Place}
+use Rattle.commit_lanes.specs.declared.sharing.Clash.{Clash}
+use Rattle.commit_lanes.specs.declared.undo.Undo.{Undo}
 use Rattle.conflict.proofs.Tells.{deletions_tell}
 use Rattle.conflict.specs.Deletions.{Deletion, FitsDeletion, asks_below, deleted, deletion_asks, deletion_hears, hears_below, spared}
 use Rattle.conflict.specs.Deletions.{swept_on}
-use Rattle.conflict.specs.Laws.{commit_deleting, deleting_below, deletion_of}
+use Rattle.conflict.specs.ChecksEnd.{commit_deleting, deleting_below, deletion_of}
 use Rattle.job_commit.specs.Holds.{Deletes, Heard, IsNext, LanesWithin, Reads, StepHolds, UndoWithin, asks, attempts_of}
 use Rattle.job_commit.specs.Stages.{answered, operation_of, replacing_at, reverting_from, worn_out}
 use Rattle.job_commit.specs.declared.step.Next.{Next}

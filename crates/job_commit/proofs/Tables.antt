@@ -1,10 +1,10 @@
 -- The lanes after an outcome, with the result of each call.
-use Rattle.commit_parts.proofs.Placing.{places_length}
-use Rattle.commit_parts.specs.Places.{places_from}
-use Rattle.commit_parts.specs.Tables.{LaneTable, first_of, listed, next_turn}
-use Rattle.commit_parts.specs.Undos.{IsRevert, NumbersWithin, undo_request}
-use Rattle.commit_parts.specs.declared.places.Place.{Place}
-use Rattle.commit_parts.specs.declared.undo.Undo.{Undo}
+use Rattle.commit_lanes.proofs.Placing.{places_length}
+use Rattle.commit_lanes.specs.Places.{places_from}
+use Rattle.commit_lanes.specs.Tables.{LaneTable, first_of, listed, next_turn}
+use Rattle.commit_lanes.specs.Undos.{IsRevert, NumbersWithin, undo_request}
+use Rattle.commit_lanes.specs.declared.places.Place.{Place}
+use Rattle.commit_lanes.specs.declared.undo.Undo.{Undo}
 use Rattle.job_commit.proofs.Steps.{again_within, answered_lanes, answered_within, first_within, next_same, worn_next}
 use Rattle.job_commit.specs.Holds.{IsNext, LanesWithin, UndoWithin}
 use Rattle.job_commit.specs.Stages.{answered, reverting_from, worn_out}

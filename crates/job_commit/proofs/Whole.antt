@@ -1,7 +1,7 @@
 -- The machine as a whole.
-use Rattle.commit_laws.specs.Fitting.{missed_of}
-use Rattle.commit_parts.specs.Undos.{undo_request}
-use Rattle.commit_parts.specs.declared.places.Place.{Place}
+use Rattle.commit_lanes.specs.Fitting.{missed_of}
+use Rattle.commit_lanes.specs.Undos.{undo_request}
+use Rattle.commit_lanes.specs.declared.places.Place.{Place}
 use Rattle.job_commit.proofs.Goings.{missed_same}
 use Rattle.job_commit.proofs.Steps.{some_so}
 use Rattle.job_commit.specs.Holds.{Holds, StepHolds, attempts_of}

@@ -1,10 +1,10 @@
 -- What a job's commit keeps true of its parts.
-use Rattle.commit_parts.specs.Places.{places_from}
-use Rattle.commit_parts.specs.ReadSets.{AreRead, HasAll}
-use Rattle.commit_parts.specs.Tables.{LaneTable}
-use Rattle.commit_parts.specs.Undos.{NumbersWithin}
-use Rattle.commit_parts.specs.declared.places.Place.{Place}
-use Rattle.commit_parts.specs.declared.undo.Undo.{Undo}
+use Rattle.commit_lanes.specs.Places.{places_from}
+use Rattle.commit_lanes.specs.ReadSets.{AreRead, HasAll}
+use Rattle.commit_lanes.specs.Tables.{LaneTable}
+use Rattle.commit_lanes.specs.Undos.{NumbersWithin}
+use Rattle.commit_lanes.specs.declared.places.Place.{Place}
+use Rattle.commit_lanes.specs.declared.undo.Undo.{Undo}
 use Rattle.conflict.specs.Deletions.{Deletion, spared}
 use Rattle.job_commit.specs.Stages.{operation_of}
 use Rattle.job_commit.specs.declared.basis.Basis.{Basis}

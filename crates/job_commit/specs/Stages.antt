@@ -1,6 +1,6 @@
 -- The step of a job's commit, as the machine keeps it.
-use Rattle.commit_parts.specs.Tables.{first_missed}
-use Rattle.commit_parts.specs.Undos.{undo_request}
+use Rattle.commit_lanes.specs.Tables.{first_missed}
+use Rattle.commit_lanes.specs.Undos.{undo_request}
 use Rattle.job_commit.specs.declared.step.Next.{Next}
 use Rattle.job_commit.specs.declared.step.Step.{Step}
 use Rattle.job_model.specs.Jobs.{Job}
@@ -11,7 +11,7 @@ use Rattle.list_walk.specs.Walks.{Sweep}
 use Rattle.s3_types.specs.declared.request.Request.{Request}
 use Rattle.std.specs.Prelude.{Bool, List, None, false, length, map, ℕ, [], ◌++◌, ◌+◌, ◌∷◌}
 use Rattle.job_model.specs.declared.ends.CommitEnd.TheVariants as ends
-use Rattle.job_model.specs.declared.ends.Stage.TheVariants as stages
+use Rattle.job_model.specs.declared.ends.FaultStage.TheVariants as stages
 use Rattle.job_commit.specs.declared.step.Step.TheVariants as steps
 
 -- The commit that has these requests of the revert left; `m` sends of the first got no answer.

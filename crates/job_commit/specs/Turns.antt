@@ -1,5 +1,5 @@
 -- What an outcome means for a commit.
-use Rattle.commit_laws.specs.Fitting.{missed_of}
+use Rattle.commit_lanes.specs.Fitting.{missed_of}
 use Rattle.job_protocol.specs.AtWork.{Committing}
 use Rattle.job_protocol.specs.JobCommits.{Commit, Completing}
 use Rattle.machine.specs.declared.retrying.Turn.{Turn}

@@ -1,6 +1,6 @@
 ghost use Rattle.std.specs.Prelude.{◌≡◌, []};
 
-use commit_parts::Place;
+use commit_lanes::Place;
 use job_model::JobPlan;
 use pending_json::PendingSet;
 use s3_types::{Sequence, let_go};

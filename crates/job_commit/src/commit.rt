@@ -2,7 +2,7 @@ ghost use Rattle.std.specs.Prelude.{◌≡◌, ◌<◌, ◌≤◌, [], IfOk, OnO
 ghost use Rattle.std.specs.Option.{option_copied};
 ghost use Rattle.job_protocol.specs.JobCommits.{commit_start, commit_over};
 ghost use Rattle.job_protocol.specs.AtWork.{read_script, commit_wants, commit_told};
-ghost use Rattle.commit_laws.specs.Fitting.{FitsCommit, FitsReply, missed_of, without_memory, least_missing};
+ghost use Rattle.commit_lanes.specs.Fitting.{FitsCommit, FitsReply, missed_of, without_memory, least_missing};
 ghost use Rattle.job_commit.specs.Turns.{turn_of, turn_unanswered, lost_of};
 ghost use Rattle.job_commit.specs.Holds.{picks_from, GoesTo};
 ghost use Rattle.job_commit.specs.Missing.{missed};

@@ -2,19 +2,19 @@ ghost use Rattle.std.specs.Prelude.{◌≡◌, ◌<◌, ◌≤◌, length, map, 
 ghost use Rattle.std.specs.Option.{option_copied};
 ghost use Rattle.pending_json.specs.Fault.{wanting as is_want};
 ghost use Rattle.job_protocol.specs.JobCommits.{set_read, all_commits, Fetching};
-ghost use Rattle.commit_parts.specs.Undos.{undo_request};
+ghost use Rattle.commit_lanes.specs.Undos.{undo_request};
 ghost use Rattle.conflict.specs.Deletions.{FitsDeletion, deletion_hears, spared};
-ghost use Rattle.conflict.specs.Laws.{commit_deleting};
-ghost use Rattle.commit_parts.specs.Tables.{first_missed};
+ghost use Rattle.conflict.specs.ChecksEnd.{commit_deleting};
+ghost use Rattle.commit_lanes.specs.Tables.{first_missed};
 ghost use Rattle.job_commit.specs.Stages.{operation_of, reverting_from, answered, unanswered, worn_out, wanting};
-ghost use Rattle.commit_laws.specs.Fitting.{SpellsSet, FitsReply, missed_of};
+ghost use Rattle.commit_lanes.specs.Fitting.{SpellsSet, FitsReply, missed_of};
 ghost use Rattle.job_commit.specs.Holds.{script_of, HasRead, IsPlaced, IsAt, GoesTo, Hears, Misses, asks, PicksHold, bytes_in, Reads, LanesWithin, UndoWithin};
 
 use crate::basis::Basis;
 use crate::step::{Next, Step};
-use commit_parts::{Lanes, UndoList, next_turn, revert};
+use commit_lanes::{Lanes, UndoList, next_turn, revert};
 use conflict::DeleteKept;
-use job_model::{CommitEnd, JobPlan, Pick, PickList, Stage};
+use job_model::{CommitEnd, FaultStage, JobPlan, Pick, PickList};
 use pending_json::{PendingSet, RecordFault};
 use s3_types::{Bytes, Reply, let_go, put};
 use std::alloc::{AllocError, Global};
@@ -259,15 +259,15 @@ impl Basis {
                 Ok(())
             }
             Step::Fetching(_) => {
-                next.end(CommitEnd::StoreFault(Stage::Read));
+                next.end(CommitEnd::StoreFault(FaultStage::Read));
                 Ok(())
             }
             Step::Replacing(_, _) => {
-                next.end(CommitEnd::StoreFault(Stage::Delete));
+                next.end(CommitEnd::StoreFault(FaultStage::Delete));
                 Ok(())
             }
             Step::Marking(_) => {
-                next.end(CommitEnd::StoreFault(Stage::Success));
+                next.end(CommitEnd::StoreFault(FaultStage::Success));
                 Ok(())
             }
             Step::Completing(lanes) => self.wear_completion(lanes, next),

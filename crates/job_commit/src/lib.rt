@@ -27,5 +27,5 @@ mod stages;
 mod step;
 
 pub use commit::CommitJob;
-pub use commit_laws::{ends_by_entries, falls};
+pub use commit_lanes::{ends_by_entries, falls};
 pub use job_setup::SetupJob;

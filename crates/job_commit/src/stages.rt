@@ -5,20 +5,20 @@ ghost use Rattle.job_protocol.specs.Outputs.{same_path, wanted_paths};
 ghost use Rattle.job_protocol.specs.Conflicts.{partitions};
 ghost use Rattle.list_walk.specs.Walks.{sweep_start};
 ghost use Rattle.conflict.specs.Deletions.{deleted, deletion_asks, spared};
-ghost use Rattle.conflict.specs.Laws.{commit_deleting};
-ghost use Rattle.commit_parts.specs.Undos.{undo_request, number_in};
+ghost use Rattle.conflict.specs.ChecksEnd.{commit_deleting};
+ghost use Rattle.commit_lanes.specs.Undos.{undo_request, number_in};
 ghost use Rattle.job_commit.specs.Stages.{reverting_from};
-ghost use Rattle.commit_parts.specs.ReadSets.{AreRead};
+ghost use Rattle.commit_lanes.specs.ReadSets.{AreRead};
 ghost use Rattle.job_commit.specs.Holds.{script_of, HasRead, IsPlaced, GoesTo, LanesWithin, UndoWithin};
 
 use crate::basis::Basis;
 use crate::step::{Next, Step};
-use commit_parts::{
+use commit_lanes::{
     Lanes, Undo, UndoList, abort, completion, deletion, mark_request, placed, relative,
     set_request, shared, upload, wanted_paths,
 };
 use conflict::{DeleteKept, partitions};
-use job_model::{CommitEnd, Stage};
+use job_model::{CommitEnd, FaultStage};
 use pending_json::PendingUpload;
 use s3_types::{Mode, Request, let_go};
 use std::alloc::AllocError;
@@ -252,7 +252,7 @@ impl Basis {
                 Ok(())
             }
             None => {
-                next.end(CommitEnd::StoreFault(Stage::Complete));
+                next.end(CommitEnd::StoreFault(FaultStage::Complete));
                 Ok(())
             }
         }

@@ -1,7 +1,7 @@
 ghost use Rattle.std.specs.Prelude.{◌≡◌, ◌+◌, ◌<◌, ◌^◌, Some, None};
 ghost use Rattle.job_commit.specs.Stages.{missed_in, lost_in, counted, wanting};
 
-use commit_parts::{Lanes, UndoList};
+use commit_lanes::{Lanes, UndoList};
 use conflict::DeleteKept;
 use job_model::CommitEnd;
 use s3_types::{Request, put};

@@ -1,6 +1,6 @@
 -- A store of one bucket as lists: its replies to requests, and its state after them, computed.
-use Rattle.basics.proofs.Members.{text_exact, text_is}
-use Rattle.basics.specs.Order.{text_cmp, text_eq, text_ties, text_total}
+use Rattle.text_and_lists.proofs.Members.{text_exact, text_is}
+use Rattle.text_and_lists.specs.Order.{text_cmp, text_eq, text_ties, text_total}
 use Rattle.job_examples.proofs.MapLists.{find_map, found_is, get_put, map_of, mapped, others, put_is, put_twice, removed_is, sorted_is}
 use Rattle.job_examples.proofs.Tagged.{told_is, told_tag}
 use Rattle.job_examples.specs.Jobs.{lake}

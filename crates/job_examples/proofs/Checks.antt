@@ -1,7 +1,7 @@
 -- The files that readers see of a store as lists, and the store after a journal.
-use Rattle.basics.proofs.Members.{none_some, some_is, text_exact, text_is, true_or_false}
-use Rattle.basics.proofs.Tree.{tied}
-use Rattle.basics.specs.Order.{text_cmp, text_eq}
+use Rattle.text_and_lists.proofs.Members.{none_some, some_is, text_exact, text_is, true_or_false}
+use Rattle.text_and_lists.proofs.Tree.{tied}
+use Rattle.text_and_lists.specs.Order.{text_cmp, text_eq}
 use Rattle.job_examples.proofs.Books.{Book, after, applies, at_bucket, content_of, is_ours, scene_of, text_found}
 use Rattle.job_examples.proofs.MapLists.{map_of, mapped}
 use Rattle.job_examples.specs.Jobs.{lake}

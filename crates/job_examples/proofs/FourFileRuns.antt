@@ -1,5 +1,5 @@
 -- Runs of four files: killed between completions, reverted, with a lost reply in two lanes, killed in lanes, and aborted after a restart.
-use Rattle.basics.specs.Parts.{parts_from}
+use Rattle.text_and_lists.specs.Parts.{parts_from}
 use Rattle.job_examples.proofs.Kept.{always_kept, files_then, honours, keeps, object_then, upload_then}
 use Rattle.job_examples.proofs.OneSet.{set_by}
 use Rattle.job_examples.proofs.Sights.{nothing}
@@ -20,7 +20,7 @@ use Rattle.std.proofs.Common.{List, None, Ok, Some, codes, drop, refl, ℕ, [], 
 use Rattle.std.specs.Fmt.{digits}
 use Rattle.job_model.specs.declared.events.Op.TheVariants as ops
 use Rattle.job_model.specs.declared.ends.CommitEnd.TheVariants as commits
-use Rattle.job_model.specs.declared.ends.Stage.TheVariants as stages
+use Rattle.job_model.specs.declared.ends.FaultStage.TheVariants as stages
 use Rattle.job_model.specs.declared.ends.OpEnd.TheVariants as ends
 use Rattle.job_examples.specs.FourFileLanes as files
 use Rattle.job_examples.specs.LanesReverted as back

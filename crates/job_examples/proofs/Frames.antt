@@ -1,7 +1,7 @@
 -- The changes and replies of each entry of a run over a store as lists, as tests that compute.
-use Rattle.basics.proofs.Bools.{not_so}
-use Rattle.basics.proofs.Members.{none_some, some_is, text_exact}
-use Rattle.basics.specs.Order.{text_cmp, text_eq}
+use Rattle.text_and_lists.proofs.Bools.{not_so}
+use Rattle.text_and_lists.proofs.Members.{none_some, some_is, text_exact}
+use Rattle.text_and_lists.specs.Order.{text_cmp, text_eq}
 use Rattle.job_examples.proofs.Books.{Book, Draft, answers, at_bucket, content_of, is_ordered, is_ours, no_other, reply, scene_of}
 use Rattle.job_examples.proofs.Books.{upload_found, upload_of}
 use Rattle.job_examples.proofs.Checks.{are_ours, book_after, dest, effect_is, effect_on, files_are, implied, moment_is, objects_at}

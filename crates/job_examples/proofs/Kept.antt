@@ -1,6 +1,6 @@
 -- What whole runs over a store as lists keep and what readers see, by tests that compute.
-use Rattle.basics.proofs.Members.{text_is, true_or_false}
-use Rattle.basics.specs.Order.{text_cmp, text_eq, text_ties}
+use Rattle.text_and_lists.proofs.Members.{text_is, true_or_false}
+use Rattle.text_and_lists.specs.Order.{text_cmp, text_eq, text_ties}
 use Rattle.job_examples.proofs.Books.{Book, at_bucket, scene_of, upload_found, upload_of}
 use Rattle.job_examples.proofs.Checks.{Listed, are_ours, book_after, dest, effect_on, files_are, moment_is, objects_at, same_files, views}
 use Rattle.job_examples.proofs.Checks.{visible, without_files}

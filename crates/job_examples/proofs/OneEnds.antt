@@ -1,5 +1,5 @@
 -- The operations of the run of one attempt with one file have the resulting ends, and the run is finished.
-use Rattle.basics.proofs.Members.{none_some, some_is}
+use Rattle.text_and_lists.proofs.Members.{none_some, some_is}
 use Rattle.job_examples.proofs.Books.{at_bucket}
 use Rattle.job_examples.proofs.Checks.{objects_at}
 use Rattle.job_examples.proofs.Kept.{keeps}
@@ -45,7 +45,7 @@ use Rattle.job_model.specs.declared.events.Op.TheVariants as ops
 use Rattle.job_model.specs.declared.ends.SetupEnd.TheVariants as setups
 use Rattle.job_model.specs.declared.ends.TaskEnd.TheVariants as tasks
 use Rattle.job_model.specs.declared.ends.CommitEnd.TheVariants as commits
-use Rattle.job_model.specs.declared.ends.Stage.TheVariants as stages
+use Rattle.job_model.specs.declared.ends.FaultStage.TheVariants as stages
 use Rattle.job_model.specs.declared.ends.OpEnd.TheVariants as ends
 
 -- ---- the operations that ended

@@ -1,5 +1,5 @@
 -- The run of one attempt with one file follows its script.
-use Rattle.basics.proofs.Members.{false_true, none_some, some_is}
+use Rattle.text_and_lists.proofs.Members.{false_true, none_some, some_is}
 use Rattle.job_examples.proofs.OneSet.{set_is_read}
 use Rattle.job_examples.specs.Jobs.{doing, worker}
 use Rattle.job_examples.specs.OneFile.{OneFileRuns, journal, script, setting}

@@ -1,6 +1,6 @@
 -- Sets are read as they were put.
-use Rattle.basics.proofs.Naturals.{below_is}
-use Rattle.basics.specs.Parts.{parts_from}
+use Rattle.text_and_lists.proofs.Naturals.{below_is}
+use Rattle.text_and_lists.specs.Parts.{parts_from}
 use Rattle.job_examples.specs.Modes.{staged_set, staged_text}
 use Rattle.job_examples.specs.OneFile.{the_set}
 use Rattle.json.specs.Print.{escape_byte}

@@ -1,8 +1,8 @@
 -- What must hold after each entry of a run over a store as lists, as tests that compute.
-use Rattle.basics.proofs.Bools.{not_so}
-use Rattle.basics.proofs.Members.{some_is, text_exact, text_is, true_or_false}
-use Rattle.basics.proofs.Tree.{tied}
-use Rattle.basics.specs.Order.{text_cmp, text_eq, text_ties, text_total}
+use Rattle.text_and_lists.proofs.Bools.{not_so}
+use Rattle.text_and_lists.proofs.Members.{some_is, text_exact, text_is, true_or_false}
+use Rattle.text_and_lists.proofs.Tree.{tied}
+use Rattle.text_and_lists.specs.Order.{text_cmp, text_eq, text_ties, text_total}
 use Rattle.job_examples.proofs.Books.{Book, content_of, is_ours}
 use Rattle.job_examples.proofs.Checks.{Listed, dest, files_are, implied, objects_at, same_files, views, visible, without_files}
 use Rattle.job_examples.proofs.Sights.{Saw, opens, opens_is, saw, seen_of, sees_by}

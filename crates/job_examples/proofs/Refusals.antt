@@ -1,5 +1,5 @@
 -- Journals after which readers see the wrong files.
-use Rattle.basics.proofs.Members.{none_some}
+use Rattle.text_and_lists.proofs.Members.{none_some}
 use Rattle.job_examples.proofs.Books.{Book, content_of}
 use Rattle.job_examples.proofs.Checks.{are_ours, objects_at, views, without_files}
 use Rattle.job_examples.proofs.MapLists.{map_of}

@@ -1,6 +1,6 @@
 -- Wrong ends of operations.
-use Rattle.basics.proofs.Members.{none_some, some_is}
-use Rattle.basics.specs.Order.{text_eq}
+use Rattle.text_and_lists.proofs.Members.{none_some, some_is}
+use Rattle.text_and_lists.specs.Order.{text_eq}
 use Rattle.job_examples.proofs.Checks.{objects_at, views}
 use Rattle.job_examples.proofs.Kept.{files_then}
 use Rattle.job_examples.proofs.OnePlays.{commit_doing}
@@ -34,7 +34,7 @@ use Rattle.std.specs.List.{slice_get}
 use Rattle.job_model.specs.declared.events.Op.TheVariants as ops
 use Rattle.job_model.specs.declared.ends.CommitEnd.TheVariants as commits
 use Rattle.job_model.specs.declared.ends.CleanEnd.TheVariants as cleans
-use Rattle.job_model.specs.declared.ends.Stage.TheVariants as stages
+use Rattle.job_model.specs.declared.ends.FaultStage.TheVariants as stages
 use Rattle.job_model.specs.declared.ends.OpEnd.TheVariants as ends
 
 -- ---- two attempts of one task

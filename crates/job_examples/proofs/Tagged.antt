@@ -1,6 +1,6 @@
 -- Tags of short contents, computed.
-use Rattle.basics.proofs.Members.{text_is}
-use Rattle.basics.specs.Order.{text_eq}
+use Rattle.text_and_lists.proofs.Members.{text_is}
+use Rattle.text_and_lists.specs.Order.{text_eq}
 use Rattle.hex.specs.Hex.{encode_lower, encode_with}
 use Rattle.job_examples.specs.Jobs.{hello_tag}
 use Rattle.job_examples.specs.TwoAttempts.{world}

@@ -1,8 +1,8 @@
 -- Runs in which the last put or a set's put runs out of retries, and runs in which two tasks share a path, a partition has a file, or a
 -- task has two attempts.
-use Rattle.basics.proofs.Bools.{not_so}
-use Rattle.basics.proofs.Members.{none_some}
-use Rattle.basics.specs.Parts.{parts_from}
+use Rattle.text_and_lists.proofs.Bools.{not_so}
+use Rattle.text_and_lists.proofs.Members.{none_some}
+use Rattle.text_and_lists.specs.Parts.{parts_from}
 use Rattle.job_examples.proofs.Books.{content_of}
 use Rattle.job_examples.proofs.Checks.{visible}
 use Rattle.job_examples.proofs.Kept.{always_kept, book_at, files_then, honours, keeps, key_found, object_then, shows_as, upload_then}

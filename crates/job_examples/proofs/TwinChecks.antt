@@ -1,8 +1,8 @@
 -- What the definitions for two jobs say about a journal, by tests that compute.
-use Rattle.basics.proofs.Bools.{not_so}
-use Rattle.basics.proofs.Members.{none_some, text_is}
-use Rattle.basics.specs.Members.{IsIn}
-use Rattle.basics.specs.Order.{text_cmp, text_eq}
+use Rattle.text_and_lists.proofs.Bools.{not_so}
+use Rattle.text_and_lists.proofs.Members.{none_some, text_is}
+use Rattle.text_and_lists.specs.Members.{IsIn}
+use Rattle.text_and_lists.specs.Order.{text_cmp, text_eq}
 use Rattle.job_examples.proofs.Checks.{are_ours, dest, implied, visible}
 use Rattle.job_examples.proofs.Kept.{book_at, file_then, lookup_is, object_then}
 use Rattle.job_examples.proofs.Owed.{at_is, found_in, is_at}

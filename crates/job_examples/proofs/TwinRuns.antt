@@ -1,6 +1,6 @@
 -- Runs of two jobs of the magic committer, as each of them sees it and by events, and a run whose check finds the other job's file.
-use Rattle.basics.proofs.Members.{false_true, none_some}
-use Rattle.basics.specs.Parts.{parts_from}
+use Rattle.text_and_lists.proofs.Members.{false_true, none_some}
+use Rattle.text_and_lists.specs.Parts.{parts_from}
 use Rattle.job_examples.proofs.Kept.{files_then, honours, object_then}
 use Rattle.job_examples.proofs.OneSet.{record_by, set_by}
 use Rattle.job_examples.proofs.Sights.{nothing}

@@ -10,7 +10,7 @@ use Rattle.job_model.specs.declared.ends.CheckEnd.TheVariants.{Conflict}
 use Rattle.job_model.specs.declared.ends.OpEnd.{OpEnd}
 use Rattle.job_model.specs.declared.events.Event.TheVariants.{Do}
 use Rattle.job_protocol.specs.Operations.{Operation, Setting, asks, commit_of, over, tells, who}
-use Rattle.job_traces.specs.Runs.{nothing_learnt}
+use Rattle.protocol_runs.specs.Runs.{nothing_learnt}
 use Rattle.pending_json.specs.Trees.{set_tree}
 use Rattle.pending_json.specs.declared.records.PendingSet.{PendingSet}
 use Rattle.s3_types.specs.Moment.{IsHonest}

@@ -1,5 +1,5 @@
 -- A job of one attempt with four files in lanes: its scripts, the entries of its commits, and the claims about its runs.
-use Rattle.basics.specs.Order.{text_eq}
+use Rattle.text_and_lists.specs.Order.{text_eq}
 use Rattle.job_examples.specs.FourFiles.{attempt_entries, of_file, the_set}
 use Rattle.job_examples.specs.Jobs.{attempt, directory, doing, entry, hello_tag, job, lake, said, set_key, setting, worker}
 use Rattle.job_examples.specs.OneFile.{opening}

@@ -24,7 +24,7 @@ use Rattle.std.specs.Prelude.{List, None, Some, codes, false, length, true, ℕ,
 use Rattle.std.specs.FinMap as fin
 use Rattle.job_model.specs.declared.events.Op.TheVariants as ops
 use Rattle.job_model.specs.declared.ends.CommitEnd.TheVariants as commits
-use Rattle.job_model.specs.declared.ends.Stage.TheVariants as stages
+use Rattle.job_model.specs.declared.ends.FaultStage.TheVariants as stages
 use Rattle.job_model.specs.declared.ends.OpEnd.TheVariants as ends
 use Rattle.job_examples.specs.FourFileLanes as files
 

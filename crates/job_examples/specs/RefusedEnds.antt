@@ -28,7 +28,7 @@ use Rattle.std.specs.Prelude.{List, None, codes, ℕ, [], ◌++◌, ◌∷◌}
 use Rattle.job_model.specs.declared.events.Op.TheVariants as ops
 use Rattle.job_model.specs.declared.ends.CommitEnd.TheVariants as commits
 use Rattle.job_model.specs.declared.ends.CleanEnd.TheVariants as cleans
-use Rattle.job_model.specs.declared.ends.Stage.TheVariants as stages
+use Rattle.job_model.specs.declared.ends.FaultStage.TheVariants as stages
 use Rattle.job_model.specs.declared.ends.OpEnd.TheVariants as ends
 
 -- The creation of an upload of `hello` by an attempt, and its part.

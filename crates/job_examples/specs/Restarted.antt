@@ -1,5 +1,5 @@
 -- Four files. The driver is killed in its commit after two whole files and restarted. Its abort leaves these two files and no live upload.
-use Rattle.basics.specs.Order.{text_eq}
+use Rattle.text_and_lists.specs.Order.{text_eq}
 use Rattle.job_examples.specs.FourFileLanes.{Goes, Prepared, Shows, below_attempt, completes, hellos, out, pending, read_entries}
 use Rattle.job_examples.specs.FourFiles.{the_set}
 use Rattle.job_examples.specs.Jobs.{before_commit, commits_at, lake, said, set_key, worker}

@@ -1,5 +1,5 @@
 -- The events of a made job.
-use Rattle.basics.proofs.Members.{true_or_false}
+use Rattle.text_and_lists.proofs.Members.{true_or_false}
 use Rattle.job_gen.specs.Made.{attempt_of, below, committer_of, is_twice, made_events, mix_by, second_writes, start_commit, start_write}
 use Rattle.job_model.specs.Attempts.{Declared, declares, is_known}
 use Rattle.job_model.specs.Legal.{AreEvents, IsEvent}

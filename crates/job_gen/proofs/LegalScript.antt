@@ -1,6 +1,6 @@
 -- A made script keeps the bounds of a script.
-use Rattle.basics.proofs.Members.{none_some}
-use Rattle.basics.specs.Parts.{parts_from}
+use Rattle.text_and_lists.proofs.Members.{none_some}
+use Rattle.text_and_lists.specs.Parts.{parts_from}
 use Rattle.job_gen.proofs.Declaring.{attempts_fit, attempts_from, has_first, has_second, known, one_or_two}
 use Rattle.job_gen.proofs.Happening.{events_count, events_fit}
 use Rattle.job_gen.proofs.PartFiles.{files_bytes, files_fit}

@@ -1,5 +1,5 @@
 -- The files of a made job's task.
-use Rattle.basics.proofs.Naturals.{below_so}
+use Rattle.text_and_lists.proofs.Naturals.{below_so}
 use Rattle.job_gen.proofs.PartPaths.{path_free, path_given}
 use Rattle.job_gen.proofs.Ranges.{map_more}
 use Rattle.job_gen.specs.Made.{below, content, number, part_file, part_files, part_path}

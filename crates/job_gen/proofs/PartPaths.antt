@@ -1,10 +1,10 @@
 -- The paths of a made job's files.
-use Rattle.basics.proofs.Members.{text_false}
-use Rattle.basics.proofs.Naturals.{below_is}
-use Rattle.basics.proofs.Pieces.{one_part}
-use Rattle.basics.specs.Order.{text_eq}
-use Rattle.basics.specs.Parts.{is_other}
-use Rattle.basics.specs.Words.{is_bare}
+use Rattle.text_and_lists.proofs.Members.{text_false}
+use Rattle.text_and_lists.proofs.Naturals.{below_is}
+use Rattle.text_and_lists.proofs.Pieces.{one_part}
+use Rattle.text_and_lists.specs.Order.{text_eq}
+use Rattle.text_and_lists.specs.Parts.{is_other}
+use Rattle.text_and_lists.specs.Words.{is_bare}
 use Rattle.job_gen.specs.Made.{part_path}
 use Rattle.job_model.specs.Files.{File, has_path}
 use Rattle.job_model.specs.Legal.{IsGiven}

@@ -1,5 +1,5 @@
 -- New entries of an IndexMap, and its last entry.
-use Rattle.basics.proofs.Options.{none_is}
+use Rattle.text_and_lists.proofs.Options.{none_is}
 use Rattle.indexmap.proofs.CallerLemmas.{insert_entry-new}
 use Rattle.indexmap.specs.IndexMap.{IndexMap, insert_entry, set_value_at}
 use Rattle.job_model.specs.Attempts.{Declared, last_files, with_file}

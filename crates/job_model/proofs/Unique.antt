@@ -1,8 +1,8 @@
 -- A path that is made unique to a job determines the original path.
-use Rattle.basics.proofs.Counts.{some_part}
-use Rattle.basics.proofs.Cuts.{cut_once}
-use Rattle.basics.proofs.Pieces.{join_parts, one_part, parts_append}
-use Rattle.basics.specs.Parts.{is_other, parts_from, parts_of}
+use Rattle.text_and_lists.proofs.Counts.{some_part}
+use Rattle.text_and_lists.proofs.Cuts.{cut_once}
+use Rattle.text_and_lists.proofs.Pieces.{join_parts, one_part, parts_append}
+use Rattle.text_and_lists.specs.Parts.{is_other, parts_from, parts_of}
 use Rattle.job_model.specs.Placed.{path_of, unique_name, with_id, with_id_last}
 use Rattle.s3_types.specs.Names.{is_id_byte, is_job_id}
 use Rattle.std.proofs.Common.{Bool, List, ap, false, inl, inr, not, refl, subst, sym, true, ℕ, [], ◌++◌, ◌==◌, ◌∙◌, ◌∷◌, ◌≡◌, ◌⊎◌}

@@ -1,5 +1,5 @@
 -- The files of an attempt: paths with their bytes.
-use Rattle.basics.specs.Order.{text_eq}
+use Rattle.text_and_lists.specs.Order.{text_eq}
 use Rattle.std.specs.Map.{lookup}
 use Rattle.std.specs.Prelude.{Bool, List, is_some, ℕ}
 

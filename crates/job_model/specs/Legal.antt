@@ -1,5 +1,5 @@
 -- The bounds of a script.
-use Rattle.basics.specs.Words.{IsBare}
+use Rattle.text_and_lists.specs.Words.{IsBare}
 use Rattle.job_model.specs.Attempts.{Declared, declares, is_known}
 use Rattle.job_model.specs.Files.{File, has_path}
 use Rattle.job_model.specs.JobScript.{Script}

@@ -1,5 +1,5 @@
 -- The paths of files, and the keys of destinations.
-use Rattle.basics.specs.Parts.{parts_of}
+use Rattle.text_and_lists.specs.Parts.{parts_of}
 use Rattle.std.specs.List.{ends_with, list_all, list_any}
 use Rattle.std.specs.Prelude.{Bool, List, bytes_eq, codes, false, length, nat_eq, nat_le, nat_lt, not, ℕ, [], ◌&&◌, ◌||◌, ◌∷◌}
 

@@ -1,5 +1,5 @@
 -- The files of an attempt at their paths below the destination.
-use Rattle.basics.specs.Parts.{parts_of}
+use Rattle.text_and_lists.specs.Parts.{parts_of}
 use Rattle.job_model.specs.Attempts.{Who, same_name}
 use Rattle.job_model.specs.Files.{File}
 use Rattle.job_model.specs.JobScript.{Script}

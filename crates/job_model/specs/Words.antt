@@ -5,7 +5,7 @@ use Rattle.job_model.specs.declared.ends.CommitEnd.{CommitEnd}
 use Rattle.job_model.specs.declared.ends.EventFault.{EventFault}
 use Rattle.job_model.specs.declared.ends.OpEnd.{OpEnd}
 use Rattle.job_model.specs.declared.ends.SetupEnd.{SetupEnd}
-use Rattle.job_model.specs.declared.ends.Stage.{Stage}
+use Rattle.job_model.specs.declared.ends.FaultStage.{FaultStage}
 use Rattle.job_model.specs.declared.ends.TaskEnd.{TaskEnd}
 use Rattle.job_model.specs.declared.events.Event.{Event}
 use Rattle.job_model.specs.declared.events.Event.TheVariants.{Do, Kill, Mix, Recover, Restart, Run, Start, Step}
@@ -20,7 +20,7 @@ use Rattle.job_model.specs.declared.events.Op.TheVariants as ops
 use Rattle.job_model.specs.declared.ends.SetupEnd.TheVariants as setups
 use Rattle.job_model.specs.declared.ends.CheckEnd.TheVariants as checks
 use Rattle.job_model.specs.declared.ends.TaskEnd.TheVariants as tasks
-use Rattle.job_model.specs.declared.ends.Stage.TheVariants as parts
+use Rattle.job_model.specs.declared.ends.FaultStage.TheVariants as parts
 use Rattle.job_model.specs.declared.ends.CommitEnd.TheVariants as commits
 use Rattle.job_model.specs.declared.ends.CleanEnd.TheVariants as cleans
 use Rattle.job_model.specs.declared.ends.OpEnd.TheVariants as ends
@@ -81,7 +81,7 @@ task_text tasks.StoreFault = codes "store-fault"
 task_text tasks.NoMemory = codes "no-memory"
 
 -- The word for the stage of a job's commit in which a request ran out of retries.
-abbrev pub part_word : Stage → List ℕ
+abbrev pub part_word : FaultStage → List ℕ
 part_word parts.Read = codes "read"
 part_word parts.Delete = codes "delete"
 part_word parts.Complete = codes "complete"

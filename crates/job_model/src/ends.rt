@@ -104,7 +104,7 @@ impl fmt::Display for TaskEnd {
 
 /// The stage of a job's commit that a request belongs to.
 #[derive(Clone, Copy, PartialEq, Eq)]
-pub enum Stage {
+pub enum FaultStage {
     /// Reads of the tasks' sets of pending commits.
     Read,
     /// Deletion of the files that the conflict mode does not keep.
@@ -115,15 +115,15 @@ pub enum Stage {
     Success,
 }
 
-impl fmt::Display for Stage {
+impl fmt::Display for FaultStage {
     ghost output = { λ stage. Some (part_word stage) };
 
     fn fmt<W: fmt::Write>(&self, f: &mut fmt::Formatter<W>) -> fmt::Result {
         let word = match self {
-            Stage::Read => "read",
-            Stage::Delete => "delete",
-            Stage::Complete => "complete",
-            Stage::Success => "success",
+            FaultStage::Read => "read",
+            FaultStage::Delete => "delete",
+            FaultStage::Complete => "complete",
+            FaultStage::Success => "success",
         };
         f.write_str(word)
     }
@@ -138,7 +138,7 @@ pub enum CommitEnd {
     /// Two tasks write the same path: the least such path, with the two lowest tasks that write it.
     SamePath { path: Text, first: u32, second: u32 },
     /// A request of this stage ran out of retries.
-    StoreFault(Stage),
+    StoreFault(FaultStage),
     NoMemory,
 }
 

@@ -21,8 +21,8 @@ mod states;
 pub use attempts::{AttemptName, Attempts};
 pub use displaced::Displaced;
 pub use ends::{
-    ActorEnd, ActorEndList, CheckEnd, CleanEnd, CommitEnd, EndList, EventEnd, EventFault, OpEnd,
-    Pick, PickList, SetupEnd, Stage, TaskEnd,
+    ActorEnd, ActorEndList, CheckEnd, CleanEnd, CommitEnd, EndList, EventEnd, EventFault,
+    FaultStage, OpEnd, Pick, PickList, SetupEnd, TaskEnd,
 };
 pub use events::{Event, EventList, Op};
 pub use files::FileList;

@@ -1,10 +1,10 @@
 -- How the driver's abort or clean of the job ends, by its own entries.
-use Rattle.basics.proofs.Members.{none_some, some_is}
-use Rattle.job_facts.proofs.Aborting.{taken_in}
-use Rattle.job_facts.proofs.Clearing.{clean_clears}
-use Rattle.job_facts.proofs.Going.{step_so}
-use Rattle.job_facts.proofs.Shows.{HidesAll, hidden_shows}
-use Rattle.job_facts.specs.Clearing.{Clears}
+use Rattle.text_and_lists.proofs.Members.{none_some, some_is}
+use Rattle.job_invariant.proofs.Aborting.{taken_in}
+use Rattle.job_invariant.proofs.Clearing.{clean_clears}
+use Rattle.job_invariant.proofs.Going.{step_so}
+use Rattle.job_invariant.proofs.Shows.{HidesAll, hidden_shows}
+use Rattle.job_invariant.specs.Clearing.{Clears}
 use Rattle.job_model.specs.JobScript.{Script}
 use Rattle.job_model.specs.Known.{Known}
 use Rattle.job_model.specs.Legal.{IsLegal}
@@ -16,7 +16,7 @@ use Rattle.job_protocol.proofs.Faults.{faults}
 use Rattle.job_protocol.proofs.Wearing.{first_spent}
 use Rattle.job_protocol.specs.Cleanups.{Clean, CleanOver, Naming, Removing, Sweeping, Walking, aborting, clean_after, clean_asks}
 use Rattle.job_protocol.specs.Cleanups.{clean_hears, clean_over, clean_start, naming}
-use Rattle.job_protocol.specs.Laws.{is_fault, spare_of}
+use Rattle.job_protocol.specs.OperationLaws.{is_fault, spare_of}
 use Rattle.job_protocol.specs.Operations.{Setting, advance, over, wants}
 use Rattle.job_protocol.specs.View.{Same, view}
 use Rattle.job_spec.specs.OperationEnds.{CleanIs, Cleaned}

@@ -1,8 +1,8 @@
 -- The picks at each moment of a run.
-use Rattle.basics.proofs.Members.{false_true, true_or_false}
-use Rattle.job_facts.proofs.Sharing.{check_plain}
-use Rattle.job_facts.proofs.Wanted.{same_picked}
-use Rattle.job_facts.specs.Told.{Told, driver_entry, entry, strange_entry}
+use Rattle.text_and_lists.proofs.Members.{false_true, true_or_false}
+use Rattle.job_invariant.proofs.Sharing.{check_plain}
+use Rattle.job_invariant.proofs.Wanted.{same_picked}
+use Rattle.job_invariant.specs.Told.{Told, driver_entry, entry, strange_entry}
 use Rattle.job_model.specs.JobScript.{Script}
 use Rattle.job_model.specs.Legal.{IsLegal}
 use Rattle.job_model.specs.declared.ends.CommitEnd.{CommitEnd}
@@ -18,12 +18,12 @@ use Rattle.job_protocol.specs.Seen.{Seen, Times, is_begun, nothing_seen, see, se
 use Rattle.job_protocol.specs.View.{Same, view}
 use Rattle.job_spec.specs.Ends.{commit_due, end_or}
 use Rattle.job_spec.specs.Headline.{Always}
-use Rattle.job_traces.proofs.Entries.{see_more, sees, take_all}
-use Rattle.job_traces.proofs.EveryRun.{good}
-use Rattle.job_traces.proofs.Folds.{each_run}
-use Rattle.job_traces.proofs.Plain.{clean_plain, closed_picks, entry_picks, one_scene, plain_picks, setup_plain}
-use Rattle.job_traces.proofs.Running.{At}
-use Rattle.job_traces.specs.Runs.{IsOpening, IsTimely, Runs, Stand, nothing_learnt}
+use Rattle.protocol_runs.proofs.Entries.{see_more, sees, take_all}
+use Rattle.protocol_runs.proofs.EveryRun.{good}
+use Rattle.protocol_runs.proofs.Folds.{each_run}
+use Rattle.protocol_runs.proofs.Plain.{clean_plain, closed_picks, entry_picks, one_scene, plain_picks, setup_plain}
+use Rattle.protocol_runs.proofs.Running.{At}
+use Rattle.protocol_runs.specs.Runs.{IsOpening, IsTimely, Runs, Stand, nothing_learnt}
 use Rattle.pending_json.specs.declared.records.PendingSet.{PendingSet}
 use Rattle.s3_types.specs.Answer.{answer}
 use Rattle.s3_types.specs.Moment.{IsHonestOutcome, after_all, moment}
@@ -41,7 +41,7 @@ use Rattle.std.proofs.lemmas.List.{take-append-le}
 use Rattle.std.proofs.lemmas.Option.{slice_get_past}
 use Rattle.std.specs.Option.{is_some, option_map}
 use Rattle.job_model.specs.declared.ends.CommitEnd.TheVariants as commits
-use Rattle.job_model.specs.declared.ends.Stage.TheVariants as stages
+use Rattle.job_model.specs.declared.ends.FaultStage.TheVariants as stages
 
 -- ---- the scene that the journal shows
 

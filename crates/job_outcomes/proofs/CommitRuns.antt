@@ -1,10 +1,10 @@
 -- The driver's commit in every run.
-use Rattle.basics.proofs.Members.{false_true, none_or_some, none_some, same_or_not}
-use Rattle.job_facts.proofs.Legal.{some_dest}
-use Rattle.job_facts.proofs.Owning.{operation_own}
-use Rattle.job_facts.proofs.Sharing.{check_plain}
-use Rattle.job_facts.specs.Stores.{at_key}
-use Rattle.job_facts.specs.Told.{driver_entry, entry}
+use Rattle.text_and_lists.proofs.Members.{false_true, none_or_some, none_some, same_or_not}
+use Rattle.job_invariant.proofs.Legal.{some_dest}
+use Rattle.job_invariant.proofs.Owning.{operation_own}
+use Rattle.job_invariant.proofs.Sharing.{check_plain}
+use Rattle.job_invariant.specs.Stores.{at_key}
+use Rattle.job_invariant.specs.Told.{driver_entry, entry}
 use Rattle.job_model.specs.Attempts.{Who}
 use Rattle.job_model.specs.JobScript.{Script}
 use Rattle.job_model.specs.Legal.{IsLegal}
@@ -17,7 +17,7 @@ use Rattle.job_protocol.proofs.Begun.{after_check_so, clean_of_so, commit_of_so}
 use Rattle.job_protocol.proofs.LaneEnds.{ends_by_worn}
 use Rattle.job_protocol.specs.JobCommits.{Commit, CommitOver, commit_asks, commit_over, commit_start, commit_tells, picks_of}
 use Rattle.job_protocol.specs.LaneTable.{AllSound, Sound}
-use Rattle.job_protocol.specs.Laws.{EndIs}
+use Rattle.job_protocol.specs.OperationLaws.{EndIs}
 use Rattle.job_protocol.specs.Operations.{Operation, Setting, TheCheck, TheCommit, tells, who}
 use Rattle.job_protocol.specs.Outputs.{Picks}
 use Rattle.job_protocol.specs.Rechecks.{check_after}
@@ -25,15 +25,15 @@ use Rattle.job_protocol.specs.Seen.{Seen, Times, is_marked, see}
 use Rattle.job_spec.specs.Ends.{CommitEnded, commit_due, end_or, is_mark_answered}
 use Rattle.job_spec.specs.Entries.{AreOwn}
 use Rattle.job_spec.specs.Promise.{picked, picks_below}
-use Rattle.job_traces.proofs.Entries.{in_commit}
-use Rattle.job_traces.proofs.EveryRun.{check_unsent, checked_idle, cleans_is, good, just_idle, just_set, late, own_front, own_last}
-use Rattle.job_traces.proofs.Folds.{BeginKeeps, DriverKeeps, commit_is, each_run}
-use Rattle.job_traces.proofs.Keeping.{attempt_quiet}
-use Rattle.job_traces.proofs.Plain.{clean_plain, entry_picks, plain_picks, setup_plain}
-use Rattle.job_traces.proofs.Running.{At}
-use Rattle.job_traces.proofs.Steps.{commit_picks}
-use Rattle.job_traces.specs.Runs.{BeginClean, BeginCommit, BeginSetup, Beginning, IsOpening, IsTimely, Runs, Stand, begin, is_just_set}
-use Rattle.job_traces.specs.Runs.{is_set, saw, with_commit, with_driver}
+use Rattle.protocol_runs.proofs.Entries.{in_commit}
+use Rattle.protocol_runs.proofs.EveryRun.{check_unsent, checked_idle, cleans_is, good, just_idle, just_set, late, own_front, own_last}
+use Rattle.protocol_runs.proofs.Folds.{BeginKeeps, DriverKeeps, commit_is, each_run}
+use Rattle.protocol_runs.proofs.Keeping.{attempt_quiet}
+use Rattle.protocol_runs.proofs.Plain.{clean_plain, entry_picks, plain_picks, setup_plain}
+use Rattle.protocol_runs.proofs.Running.{At}
+use Rattle.protocol_runs.proofs.Steps.{commit_picks}
+use Rattle.protocol_runs.specs.Runs.{BeginClean, BeginCommit, BeginSetup, Beginning, IsOpening, IsTimely, Runs, Stand, begin, is_just_set}
+use Rattle.protocol_runs.specs.Runs.{is_set, saw, with_commit, with_driver}
 use Rattle.magic_paths.proofs.Tails.{key_magic}
 use Rattle.magic_paths.specs.Layout.{success_key}
 use Rattle.magic_paths.specs.Places.{SuccessPlace}

@@ -1,16 +1,16 @@
 -- One entry of the driver's commit, and where it leads with the sets that the commit has read.
-use Rattle.basics.proofs.Members.{none_some, some_is, text_true}
-use Rattle.job_facts.proofs.Shapes.{puts}
-use Rattle.job_facts.proofs.Turning.{uploads_apart}
-use Rattle.job_facts.specs.Driver.{FitsJobCommit}
-use Rattle.job_facts.specs.Facts.{Hold}
-use Rattle.job_facts.specs.Filed.{Decides}
-use Rattle.job_facts.specs.Stores.{at_key}
-use Rattle.job_facts.specs.Told.{Told, driver_entry}
+use Rattle.text_and_lists.proofs.Members.{none_some, some_is, text_true}
+use Rattle.job_invariant.proofs.Shapes.{puts}
+use Rattle.job_invariant.proofs.Turning.{uploads_apart}
+use Rattle.job_invariant.specs.Driver.{FitsJobCommit}
+use Rattle.job_invariant.specs.Facts.{Hold}
+use Rattle.job_invariant.specs.Filed.{Decides}
+use Rattle.job_invariant.specs.Stores.{at_key}
+use Rattle.job_invariant.specs.Told.{Told, driver_entry}
 use Rattle.job_model.specs.JobScript.{Script}
 use Rattle.job_model.specs.Legal.{IsLegal}
 use Rattle.job_model.specs.declared.ends.CommitEnd.{CommitEnd}
-use Rattle.job_model.specs.declared.ends.Stage.{Stage}
+use Rattle.job_model.specs.declared.ends.FaultStage.{FaultStage}
 use Rattle.job_outcomes.specs.CommitRuns.{IsAt, WhereCommitted}
 use Rattle.job_protocol.specs.JobCommits.{Commit, CommitOver, Completing, Fetching, Marking, Sets, all_commits, commit_asks, commit_start}
 use Rattle.job_protocol.specs.JobCommits.{commit_tells, fetching, picks_of}
@@ -20,8 +20,8 @@ use Rattle.job_protocol.specs.Outputs.{same_path}
 use Rattle.job_protocol.specs.Records.{mark_text}
 use Rattle.job_protocol.specs.Seen.{Seen, Times, is_marked, is_marking, see}
 use Rattle.job_spec.specs.Ends.{commit_due, end_or, is_driver, is_mark_answered}
-use Rattle.job_traces.proofs.Leads.{Enters, Leads, enters, fetches, is_marked as marked_now, is_reverted, leads, mark_worn, none_reverts}
-use Rattle.job_traces.proofs.Leads.{read_worn, reads_none, reverts, stays_over, sweep_worn}
+use Rattle.protocol_runs.proofs.Leads.{Enters, Leads, enters, fetches, is_marked as marked_now, is_reverted, leads, mark_worn, none_reverts}
+use Rattle.protocol_runs.proofs.Leads.{read_worn, reads_none, reverts, stays_over, sweep_worn}
 use Rattle.retries.proofs.SameRequest.{same_is}
 use Rattle.retries.specs.Operation.{run}
 use Rattle.s3_types.specs.Answer.{apply}
@@ -40,7 +40,7 @@ use Rattle.std.specs.Option.{is_some}
 use Rattle.store_frame.specs.Held.{HasBucket}
 use Rattle.magic_paths.specs.Layout as layout
 use Rattle.job_model.specs.declared.ends.CommitEnd.TheVariants as commits
-use Rattle.job_model.specs.declared.ends.Stage.TheVariants as stages
+use Rattle.job_model.specs.declared.ends.FaultStage.TheVariants as stages
 
 -- ---- where outcomes lead with the sets
 
@@ -97,7 +97,7 @@ abbrev pub IsMarkAnswer : Commit → Outcome → Type 0
 IsMarkAnswer (Marking s n) (Answered x) = Unit {0}
 IsMarkAnswer _ _ = ⊥
 
-module _ (w : Script) (P : CommitEnd → Type 0) (fault : (t : Stage) → P (commits.StoreFault t))
+module _ (w : Script) (P : CommitEnd → Type 0) (fault : (t : FaultStage) → P (commits.StoreFault t))
     (shared : (p : List ℕ) (t u : ℕ) → P (commits.SamePath p t u)) where
   by_enters : {sets : Sets} {d : Commit} → Enters w sets d → EndsBy P d
   by_enters h = grind arith

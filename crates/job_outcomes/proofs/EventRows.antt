@@ -1,10 +1,10 @@
 -- Entries whose event numbers never fall, cut before an event and after one.
-use Rattle.basics.proofs.Members.{true_or_false}
-use Rattle.basics.proofs.Naturals.{above_so, at_most_so, below_is, below_not}
+use Rattle.text_and_lists.proofs.Members.{true_or_false}
+use Rattle.text_and_lists.proofs.Naturals.{above_so, at_most_so, below_is, below_not}
 use Rattle.job_outcomes.specs.EventRows.{EventRows}
 use Rattle.job_spec.specs.States.{same_actor}
 use Rattle.job_spec.specs.Turns.{AllBy, AllFrom, IsRising, before, by_actor, since, until}
-use Rattle.job_traces.proofs.Changes.{after_parts}
+use Rattle.protocol_runs.proofs.Changes.{after_parts}
 use Rattle.s3_types.specs.Moment.{AreHonest, IsHonest, after_all, effect, moment}
 use Rattle.s3_types.specs.Store.{Content, Scene, opening as opening_scene}
 use Rattle.s3_types.specs.declared.journal.Entry.{Entry}

@@ -1,8 +1,8 @@
 -- In a run, an attempt's write or commit finds nothing gone until the driver's abort or clean has begun, and a commit that is done has
 -- published.
-use Rattle.basics.proofs.Members.{false_true, none_some, some_is, true_or_false}
-use Rattle.job_facts.specs.Standing.{CommitStandsBy}
-use Rattle.job_facts.specs.Told.{Told, nothing_told}
+use Rattle.text_and_lists.proofs.Members.{false_true, none_some, some_is, true_or_false}
+use Rattle.job_invariant.specs.Standing.{CommitStandsBy}
+use Rattle.job_invariant.specs.Told.{Told, nothing_told}
 use Rattle.job_model.specs.Attempts.{Who, actor_of}
 use Rattle.job_model.specs.Files.{File}
 use Rattle.job_model.specs.Known.{Known}
@@ -18,10 +18,10 @@ use Rattle.job_protocol.specs.Seen.{Seen, Times}
 use Rattle.job_spec.specs.Ends.{has_cleaned}
 use Rattle.job_spec.specs.OperationEnds.{WasPublished}
 use Rattle.job_spec.specs.Turns.{until_last}
-use Rattle.job_traces.proofs.Entries.{tells_so}
-use Rattle.job_traces.proofs.Learnt.{cleaned_is}
-use Rattle.job_traces.proofs.Published.{Own, StandsBy, has_published, longer_published, standing}
-use Rattle.job_traces.specs.Runs.{IsOpening, Runs, Stand}
+use Rattle.protocol_runs.proofs.Entries.{tells_so}
+use Rattle.protocol_runs.proofs.Learnt.{cleaned_is}
+use Rattle.protocol_runs.proofs.Published.{Own, StandsBy, has_published, longer_published, standing}
+use Rattle.protocol_runs.specs.Runs.{IsOpening, Runs, Stand}
 use Rattle.retries.specs.Retries.{fresh}
 use Rattle.s3_types.specs.Store.{Content}
 use Rattle.s3_types.specs.declared.journal.Entry.{Entry}

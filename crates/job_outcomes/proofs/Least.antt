@@ -1,9 +1,9 @@
 -- The first visible file among the keys below a destination, as they are listed page by page.
-use Rattle.basics.proofs.Less.{equal_self, irrefl, le_lt, lt_not}
-use Rattle.basics.proofs.Members.{false_true, none_some, some_is, true_or_false}
-use Rattle.basics.specs.Members.{IsIn, RisesFrom, last_from}
-use Rattle.basics.specs.Order.{text_cmp, text_total}
-use Rattle.job_facts.proofs.Legal.{some_dest}
+use Rattle.text_and_lists.proofs.Less.{equal_self, irrefl, le_lt, lt_not}
+use Rattle.text_and_lists.proofs.Members.{false_true, none_some, some_is, true_or_false}
+use Rattle.text_and_lists.specs.Members.{IsIn, RisesFrom, last_from}
+use Rattle.text_and_lists.specs.Order.{text_cmp, text_total}
+use Rattle.job_invariant.proofs.Legal.{some_dest}
 use Rattle.job_model.specs.JobScript.{Script}
 use Rattle.job_model.specs.Legal.{IsLegal}
 use Rattle.job_protocol.specs.Setup.{dest_prefix, first_shown, or_next, shown_path}

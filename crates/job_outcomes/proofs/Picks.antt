@@ -1,13 +1,13 @@
 -- The picks that the journal shows after one more entry of the driver's commit.
-use Rattle.basics.proofs.Lists.{slice_last}
-use Rattle.basics.proofs.Members.{none_or_some, none_some, same_or_not, some_is}
-use Rattle.job_facts.proofs.Reading.{reads_it, reads_other}
-use Rattle.job_facts.proofs.Replies.{set_answered}
-use Rattle.job_facts.proofs.Shapes.{answer_is, key_before}
-use Rattle.job_facts.specs.Facts.{Hold, knowing}
-use Rattle.job_facts.specs.Filed.{Decides}
-use Rattle.job_facts.specs.Stores.{at_place, set_at, sets_at}
-use Rattle.job_facts.specs.Told.{Told, driver_entry}
+use Rattle.text_and_lists.proofs.Lists.{slice_last}
+use Rattle.text_and_lists.proofs.Members.{none_or_some, none_some, same_or_not, some_is}
+use Rattle.job_invariant.proofs.Reading.{reads_it, reads_other}
+use Rattle.job_invariant.proofs.Replies.{set_answered}
+use Rattle.job_invariant.proofs.Shapes.{answer_is, key_before}
+use Rattle.job_invariant.specs.Facts.{Hold, knowing}
+use Rattle.job_invariant.specs.Filed.{Decides}
+use Rattle.job_invariant.specs.Stores.{at_place, set_at, sets_at}
+use Rattle.job_invariant.specs.Told.{Told, driver_entry}
 use Rattle.job_model.specs.JobScript.{Script}
 use Rattle.job_model.specs.Legal.{IsLegal}
 use Rattle.job_outcomes.proofs.CommitSteps.{IsRead, at_fetching, at_tells}
@@ -18,7 +18,7 @@ use Rattle.job_protocol.specs.Operations.{Setting}
 use Rattle.job_protocol.specs.Outputs.{Picks}
 use Rattle.job_protocol.specs.Records.{files_set}
 use Rattle.job_protocol.specs.Seen.{Seen, Times, is_picking, picks_by, see}
-use Rattle.job_traces.proofs.Plain.{commit_unread, plain_picks}
+use Rattle.protocol_runs.proofs.Plain.{commit_unread, plain_picks}
 use Rattle.magic_paths.specs.Places.{SetPlace, key_at}
 use Rattle.pending_json.specs.declared.records.PendingSet.{PendingSet}
 use Rattle.s3_types.specs.Answer.{answer, found, read_answer}

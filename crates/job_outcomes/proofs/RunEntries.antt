@@ -1,7 +1,7 @@
 -- Which entries of a run belong to which actor and operation.
-use Rattle.basics.proofs.Members.{false_true, none_some, some_is}
-use Rattle.job_facts.proofs.Whose.{same_or_another, who_false, who_here, who_other, who_true}
-use Rattle.job_facts.specs.Told.{driver_entry, entry, known, put_who, strange_entry}
+use Rattle.text_and_lists.proofs.Members.{false_true, none_some, some_is}
+use Rattle.job_invariant.proofs.Whose.{same_or_another, who_false, who_here, who_other, who_true}
+use Rattle.job_invariant.specs.Told.{driver_entry, entry, known, put_who, strange_entry}
 use Rattle.job_model.specs.Attempts.{Who, actor_of}
 use Rattle.job_model.specs.JobScript.{Script}
 use Rattle.job_model.specs.Known.{Known}
@@ -14,10 +14,10 @@ use Rattle.job_protocol.specs.Seen.{Times, is_begun}
 use Rattle.job_protocol.specs.Setup.{Setup, setup_asks}
 use Rattle.job_spec.specs.States.{same_actor}
 use Rattle.job_spec.specs.Turns.{AllBy, AllUpTo, by_actor, is_own, own, until_last}
-use Rattle.job_traces.proofs.Folds.{each_run}
-use Rattle.job_traces.proofs.Published.{longer_published}
-use Rattle.job_traces.specs.Runs.{BeginAbort, BeginClean, BeginCommit, BeginPublish, BeginSetup, BeginWrite, Beginning, IsTimely, MayBegin}
-use Rattle.job_traces.specs.Runs.{Runs, Stand, attempt_sends, begin, commit_with, is_done, is_set, nothing_learnt}
+use Rattle.protocol_runs.proofs.Folds.{each_run}
+use Rattle.protocol_runs.proofs.Published.{longer_published}
+use Rattle.protocol_runs.specs.Runs.{BeginAbort, BeginClean, BeginCommit, BeginPublish, BeginSetup, BeginWrite, Beginning, IsTimely, MayBegin}
+use Rattle.protocol_runs.specs.Runs.{Runs, Stand, attempt_sends, begin, commit_with, is_done, is_set, nothing_learnt}
 use Rattle.s3_types.specs.Store.{Content}
 use Rattle.s3_types.specs.declared.journal.Entry.{Entry}
 use Rattle.s3_types.specs.declared.journal.Outcome.{Outcome}

@@ -1,17 +1,17 @@
 -- How the requests of the driver's commit are answered in every run. A completion finds no upload only if an earlier send of it was lost,
 -- and a read finds the set of each task that was published.
-use Rattle.basics.proofs.Members.{false_true, none_some, some_is, true_or_false}
-use Rattle.job_facts.proofs.Held.{nth_of, of_sets}
-use Rattle.job_facts.proofs.Reading.{reads_it}
-use Rattle.job_facts.proofs.Replies.{completed}
-use Rattle.job_facts.proofs.Shapes.{answer_is, id_before}
-use Rattle.job_facts.proofs.Sharing.{check_plain}
-use Rattle.job_facts.proofs.Turning.{turn_answered}
-use Rattle.job_facts.specs.Driver.{Reads}
-use Rattle.job_facts.specs.Facts.{Hold}
-use Rattle.job_facts.specs.Filed.{Gone}
-use Rattle.job_facts.specs.Told.{Told, driver_entry, entry, strange_entry}
-use Rattle.job_facts.specs.Turning.{Turns}
+use Rattle.text_and_lists.proofs.Members.{false_true, none_some, some_is, true_or_false}
+use Rattle.job_invariant.proofs.Held.{nth_of, of_sets}
+use Rattle.job_invariant.proofs.Reading.{reads_it}
+use Rattle.job_invariant.proofs.Replies.{completed}
+use Rattle.job_invariant.proofs.Shapes.{answer_is, id_before}
+use Rattle.job_invariant.proofs.Sharing.{check_plain}
+use Rattle.job_invariant.proofs.Turning.{turn_answered}
+use Rattle.job_invariant.specs.Driver.{Reads}
+use Rattle.job_invariant.specs.Facts.{Hold}
+use Rattle.job_invariant.specs.Filed.{Gone}
+use Rattle.job_invariant.specs.Told.{Told, driver_entry, entry, strange_entry}
+use Rattle.job_invariant.specs.Turning.{Turns}
 use Rattle.job_model.specs.JobScript.{Script}
 use Rattle.job_model.specs.Legal.{IsLegal}
 use Rattle.job_outcomes.proofs.CommitMoments.{no_driver}
@@ -30,13 +30,13 @@ use Rattle.job_protocol.specs.Operations.{Operation, Setting, TheCheck, TheClean
 use Rattle.job_protocol.specs.Rechecks.{check_after}
 use Rattle.job_protocol.specs.Seen.{Seen, Times, is_begun, is_reading}
 use Rattle.job_spec.specs.OperationEnds.{is_lost, was_lost}
-use Rattle.job_traces.proofs.Entries.{in_commit, sees}
-use Rattle.job_traces.proofs.EveryRun.{check_unsent}
-use Rattle.job_traces.proofs.Folds.{DriverKeeps, commit_is, each_run}
-use Rattle.job_traces.proofs.Leads.{Enters, Leads, completes, completes_again, deals, deals_then, fetches, leads}
-use Rattle.job_traces.proofs.Plain.{clean_plain, commit_unread, setup_plain}
-use Rattle.job_traces.proofs.Steps.{commit_picks}
-use Rattle.job_traces.specs.Runs.{BeginClean, BeginCommit, BeginSetup, Beginning, IsOpening, IsTimely, Runs, Stand, begin, nothing_learnt}
+use Rattle.protocol_runs.proofs.Entries.{in_commit, sees}
+use Rattle.protocol_runs.proofs.EveryRun.{check_unsent}
+use Rattle.protocol_runs.proofs.Folds.{DriverKeeps, commit_is, each_run}
+use Rattle.protocol_runs.proofs.Leads.{Enters, Leads, completes, completes_again, deals, deals_then, fetches, leads}
+use Rattle.protocol_runs.proofs.Plain.{clean_plain, commit_unread, setup_plain}
+use Rattle.protocol_runs.proofs.Steps.{commit_picks}
+use Rattle.protocol_runs.specs.Runs.{BeginClean, BeginCommit, BeginSetup, Beginning, IsOpening, IsTimely, Runs, Stand, begin, nothing_learnt}
 use Rattle.list_walk.specs.Walks.{Listing}
 use Rattle.pending_json.specs.Pending.{Pending}
 use Rattle.retries.proofs.SameRequest.{same_self}
@@ -61,7 +61,7 @@ use Rattle.std.proofs.Common.{◌&&◌, ◌++◌, ◌^◌, ◌||◌, ◌∙◌, 
 use Rattle.std.proofs.Math.Bool.{or-true}
 use Rattle.std.proofs.lemmas.List.Folds.{list_any-append}
 use Rattle.std.specs.List.{list_any}
-use Rattle.job_model.specs.declared.ends.Stage.TheVariants as stages
+use Rattle.job_model.specs.declared.ends.FaultStage.TheVariants as stages
 
 -- ---- a fact about each member of a list, by those before it
 

@@ -1,14 +1,14 @@
 -- How the driver's set-up ends, by its entries alone.
-use Rattle.basics.proofs.Less.{le_lt, lt_not}
-use Rattle.basics.proofs.Members.{in_back, in_front, none_or_some, none_some, some_is}
-use Rattle.basics.proofs.Options.{some_of}
-use Rattle.basics.specs.Members.{last_from}
-use Rattle.basics.specs.Order.{text_cmp, text_total}
-use Rattle.job_facts.proofs.Emptying.{still_there}
-use Rattle.job_facts.proofs.JobCommitting.{dest_below}
-use Rattle.job_facts.proofs.Shapes.{answer_is, key_before, last_so}
-use Rattle.job_facts.specs.Emptying.{ThoseOrBehind}
-use Rattle.job_facts.specs.Stores.{at_key}
+use Rattle.text_and_lists.proofs.Less.{le_lt, lt_not}
+use Rattle.text_and_lists.proofs.Members.{in_back, in_front, none_or_some, none_some, some_is}
+use Rattle.text_and_lists.proofs.Options.{some_of}
+use Rattle.text_and_lists.specs.Members.{last_from}
+use Rattle.text_and_lists.specs.Order.{text_cmp, text_total}
+use Rattle.job_invariant.proofs.Emptying.{still_there}
+use Rattle.job_invariant.proofs.JobCommitting.{dest_below}
+use Rattle.job_invariant.proofs.Shapes.{answer_is, key_before, last_so}
+use Rattle.job_invariant.specs.Emptying.{ThoseOrBehind}
+use Rattle.job_invariant.specs.Stores.{at_key}
 use Rattle.job_model.specs.JobScript.{Script}
 use Rattle.job_model.specs.Legal.{IsLegal}
 use Rattle.job_model.specs.declared.ends.SetupEnd.{SetupEnd}
@@ -23,7 +23,7 @@ use Rattle.job_protocol.specs.Setup.{dest_prefix, first_shown, headed, if_bucket
 use Rattle.job_protocol.specs.Setup.{setup_over, setup_start, sweeping}
 use Rattle.job_protocol.specs.View.{is_file_path, view}
 use Rattle.job_spec.specs.OperationEnds.{IsFree, IsLeastShown, SetupIs}
-use Rattle.job_traces.proofs.Replacing.{some_behind}
+use Rattle.protocol_runs.proofs.Replacing.{some_behind}
 use Rattle.list_walk.specs.Walks.{Sweep, all_go, keys_on, last_of, page_after, sweep_asks, sweep_hears, walked_by}
 use Rattle.magic_paths.specs.Layout.{magic_prefix, success_key}
 use Rattle.path_keys.specs.Paths.{below}

@@ -1,5 +1,5 @@
 -- How the driver's set-up ends by what its pages listed, whoever else sends.
-use Rattle.basics.proofs.Members.{none_some, some_is}
+use Rattle.text_and_lists.proofs.Members.{none_some, some_is}
 use Rattle.job_model.specs.JobScript.{Script}
 use Rattle.job_model.specs.declared.ends.SetupEnd.{SetupEnd}
 use Rattle.job_outcomes.proofs.Least.{shown_later}

@@ -1,5 +1,5 @@
 -- Picks that are the same for all tasks have the same shared path.
-use Rattle.job_facts.proofs.Wanted.{same_wanted}
+use Rattle.job_invariant.proofs.Wanted.{same_wanted}
 use Rattle.job_model.specs.Files.{has_path}
 use Rattle.job_model.specs.JobScript.{Script}
 use Rattle.job_protocol.specs.Outputs.{Picks, files_picked, first_shared, first_where, paths_of, same_path, second_where, shared_by}

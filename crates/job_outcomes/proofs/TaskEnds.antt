@@ -1,6 +1,6 @@
 -- How an attempt's operations end, by its own entries alone.
-use Rattle.basics.proofs.Members.{none_some, some_is}
-use Rattle.job_facts.proofs.Going.{step_so}
+use Rattle.text_and_lists.proofs.Members.{none_some, some_is}
+use Rattle.job_invariant.proofs.Going.{step_so}
 use Rattle.job_model.specs.Attempts.{Who, actor_of}
 use Rattle.job_model.specs.Files.{File}
 use Rattle.job_model.specs.JobScript.{Script}
@@ -10,7 +10,7 @@ use Rattle.job_model.specs.declared.events.Op.{Op}
 use Rattle.job_protocol.proofs.Faults.{faults}
 use Rattle.job_protocol.proofs.Wearing.{first_spent}
 use Rattle.job_protocol.specs.Conflicts.{checks_partitions, partitions}
-use Rattle.job_protocol.specs.Laws.{is_fault, is_serial, spare_of}
+use Rattle.job_protocol.specs.OperationLaws.{is_fault, is_serial, spare_of}
 use Rattle.job_protocol.specs.Operations.{Operation, Reports, Running, Setting, TheTaskAbort, TheTaskCommit, TheWrite, advance, asks, over}
 use Rattle.job_protocol.specs.Operations.{start_of, tells, wants, who}
 use Rattle.job_protocol.specs.Outputs.{files, paths_of}

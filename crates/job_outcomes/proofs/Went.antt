@@ -1,5 +1,5 @@
 -- An operation of replies, by entries in a row: what holds when it begins holds at its end, or a request of it ran out of retries.
-use Rattle.basics.proofs.Members.{none_some}
+use Rattle.text_and_lists.proofs.Members.{none_some}
 use Rattle.retries.specs.Operation.{Follows, run}
 use Rattle.retries.specs.Retries.{Got, Item, Retried, WornOut, is_zero, step, unanswered_by, wants_of, wears, worn_in}
 use Rattle.s3_types.specs.Answer.{answer, apply}

@@ -8,7 +8,7 @@ use Rattle.job_protocol.specs.Operations.{Setting, TheCommit}
 use Rattle.job_protocol.specs.Seen.{Seen, Times, is_reading, see_all, seen}
 use Rattle.job_protocol.specs.View.{Same, view}
 use Rattle.job_spec.specs.Headline.{Always}
-use Rattle.job_traces.specs.Runs.{IsOpening, Runs, Stand}
+use Rattle.protocol_runs.specs.Runs.{IsOpening, Runs, Stand}
 use Rattle.s3_types.specs.Moment.{moment}
 use Rattle.s3_types.specs.Store.{Content}
 use Rattle.s3_types.specs.declared.journal.Entry.{Entry}

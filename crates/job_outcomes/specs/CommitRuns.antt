@@ -1,6 +1,6 @@
 -- The driver's commit in a run: how its own entries led it to its state, how the sets that it has read fit the picks that the journal
 -- shows, and how it ends.
-use Rattle.job_facts.specs.Told.{driver_entry, entry}
+use Rattle.job_invariant.specs.Told.{driver_entry, entry}
 use Rattle.job_model.specs.Attempts.{Who}
 use Rattle.job_model.specs.JobScript.{Script}
 use Rattle.job_model.specs.Legal.{IsLegal}
@@ -17,7 +17,7 @@ use Rattle.job_spec.specs.Ends.{CommitEnded, commit_due, is_mark_answered}
 use Rattle.job_spec.specs.Entries.{AreOwn}
 use Rattle.job_spec.specs.OperationEnds.{was_lost}
 use Rattle.job_spec.specs.Promise.{picked, picks_below}
-use Rattle.job_traces.specs.Runs.{IsOpening, IsTimely, Runs, Stand}
+use Rattle.protocol_runs.specs.Runs.{IsOpening, IsTimely, Runs, Stand}
 use Rattle.pending_json.specs.declared.records.PendingSet.{PendingSet}
 use Rattle.retries.specs.Operation.{Follows, run}
 use Rattle.retries.specs.Worn.{WornFirst}
@@ -35,7 +35,7 @@ use Rattle.s3_types.specs.declared.request.Actor.TheVariants.{Driver}
 use Rattle.s3_types.specs.declared.request.Request.{Request}
 use Rattle.std.specs.Prelude.{IsSome, List, None, Option, Some, false, length, true, ℕ, [], ◌++◌, ◌<◌, ◌^◌, ◌∷◌, ◌≡◌, ◌≤◌, ◌⊎◌}
 use Rattle.job_model.specs.declared.ends.CommitEnd.TheVariants as commits
-use Rattle.job_model.specs.declared.ends.Stage.TheVariants as stages
+use Rattle.job_model.specs.declared.ends.FaultStage.TheVariants as stages
 
 -- The end that is due with these sets, apart from requests that ran out of retries. If a read ran out of retries, not all sets were read.
 abbrev pub IsDue : Script → Option ℕ → Sets → CommitEnd → Type 0

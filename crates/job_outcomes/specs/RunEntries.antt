@@ -9,7 +9,7 @@ use Rattle.job_protocol.specs.Seen.{Times, is_begun}
 use Rattle.job_protocol.specs.Setup.{Setup}
 use Rattle.job_spec.specs.OperationEnds.{WasPublished}
 use Rattle.job_spec.specs.Turns.{AllBy, AllUpTo, by_actor, own, until_last}
-use Rattle.job_traces.specs.Runs.{Runs, Stand, is_done}
+use Rattle.protocol_runs.specs.Runs.{Runs, Stand, is_done}
 use Rattle.retries.specs.Retries.{Retried}
 use Rattle.s3_types.specs.Store.{Content}
 use Rattle.s3_types.specs.declared.journal.Entry.{Entry}

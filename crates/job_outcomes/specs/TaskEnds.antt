@@ -11,7 +11,7 @@ use Rattle.job_protocol.specs.TaskCommits.{TaskCommitOver}
 use Rattle.job_spec.specs.Ends.{has_cleaned}
 use Rattle.job_spec.specs.OperationEnds.{TaskIs, WasPublished}
 use Rattle.job_spec.specs.Turns.{until_last}
-use Rattle.job_traces.specs.Runs.{IsOpening, Runs, Stand}
+use Rattle.protocol_runs.specs.Runs.{IsOpening, Runs, Stand}
 use Rattle.retries.specs.Operation.{Follows, run}
 use Rattle.retries.specs.Worn.{WornFirst}
 use Rattle.s3_types.specs.Store.{Content}

@@ -1,7 +1,7 @@
 -- A name with a job's id, by the place where it is cut, and a path by its last element.
-use Rattle.basics.proofs.Counts.{some_part}
-use Rattle.basics.proofs.Pieces.{join_parts, one_part, parts_append}
-use Rattle.basics.specs.Parts.{is_other, parts_of}
+use Rattle.text_and_lists.proofs.Counts.{some_part}
+use Rattle.text_and_lists.proofs.Pieces.{join_parts, one_part, parts_append}
+use Rattle.text_and_lists.specs.Parts.{is_other, parts_of}
 use Rattle.job_model.specs.Placed.{unique_name, with_id, with_id_last}
 use Rattle.std.proofs.Common.{Bool, List, ap, append_assoc, false, not, refl, sym, true, ℕ, [], ◌++◌, ◌==◌, ◌∙◌, ◌∷◌, ◌≡◌}
 use Rattle.std.proofs.lemmas.Bool.{and_parts, true≢false}

@@ -1,6 +1,6 @@
 -- The files of a legal script at their paths below the destination: each path occurs once.
-use Rattle.basics.proofs.Members.{false_true, text_is, text_true}
-use Rattle.basics.specs.Order.{text_eq}
+use Rattle.text_and_lists.proofs.Members.{false_true, text_is, text_true}
+use Rattle.text_and_lists.specs.Order.{text_eq}
 use Rattle.job_model.proofs.Unique.{path_same}
 use Rattle.job_model.specs.Files.{File, has_path}
 use Rattle.job_model.specs.Legal.{AreFiles, IsGiven, bytes_of}

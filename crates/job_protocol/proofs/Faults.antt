@@ -4,7 +4,7 @@ use Rattle.job_model.specs.JobScript.{Script}
 use Rattle.job_model.specs.declared.ends.OpEnd.{OpEnd}
 use Rattle.job_protocol.proofs.Tabled.{goes_on}
 use Rattle.job_protocol.proofs.Wearing.{stays_serial}
-use Rattle.job_protocol.specs.Laws.{OneOf, is_fault, is_serial, spare_of}
+use Rattle.job_protocol.specs.OperationLaws.{OneOf, is_fault, is_serial, spare_of}
 use Rattle.job_protocol.specs.Operations.{Operation, Running, Setting, advance, over, tells, wants, who}
 use Rattle.list_walk.specs.Walks.{Walked, all_go, sweep_hears, walked}
 use Rattle.retries.specs.Operation.{Follows, run}

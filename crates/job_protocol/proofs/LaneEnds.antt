@@ -1,9 +1,9 @@
 -- The counters of a job's commit agree with its entries, and it ends by its first request that ran out of retries.
-use Rattle.basics.proofs.Members.{none_some, some_is, true_or_false}
+use Rattle.text_and_lists.proofs.Members.{none_some, some_is, true_or_false}
 use Rattle.job_model.specs.JobScript.{Script}
 use Rattle.job_model.specs.declared.ends.CommitEnd.{CommitEnd}
-use Rattle.job_model.specs.declared.ends.Stage.{Stage}
-use Rattle.job_protocol.proofs.Hands.{Counted, Held, Quiet, hand_heard, hand_missed, hand_worn, quiet_at_first, quiet_counted, quiet_heard}
+use Rattle.job_model.specs.declared.ends.FaultStage.{FaultStage}
+use Rattle.job_protocol.proofs.Hands.{Counted, HeldRequest, Quiet, hand_heard, hand_missed, hand_worn, quiet_at_first, quiet_counted, quiet_heard}
 use Rattle.job_protocol.proofs.Hands.{worn_first_still}
 use Rattle.job_protocol.proofs.LaneTables.{Begins, either_so, fetched_so, fetching_so, swept_so, tabled_start, tabled_tells}
 use Rattle.job_protocol.proofs.Members.{in_map}
@@ -13,7 +13,7 @@ use Rattle.job_protocol.specs.JobCommits.{commit_asks, commit_hears, commit_miss
 use Rattle.job_protocol.specs.JobCommits.{is_no_magic, picks_of, reverting, set_read, set_request, stage_of, worn_completion}
 use Rattle.job_protocol.specs.LaneTable.{AllSound, In, RequestsApart, Sound, Table, Tabled}
 use Rattle.job_protocol.specs.Lanes.{Turn, again, completion, follow, fresh_turn, nth, revert}
-use Rattle.job_protocol.specs.Laws.{EndIs}
+use Rattle.job_protocol.specs.OperationLaws.{EndIs}
 use Rattle.job_protocol.specs.Records.{mark_text}
 use Rattle.list_walk.specs.Walks.{Sweep, sweep_asks, sweep_hears}
 use Rattle.retries.proofs.SameRequest.{same_is, same_self}
@@ -31,20 +31,20 @@ use Rattle.std.proofs.Common.{nat_lt, refl, subst, sym, true, ℕ, [], ◌++◌,
 use Rattle.std.proofs.lemmas.List.{map-append}
 use Rattle.magic_paths.specs.Layout as layout
 use Rattle.job_model.specs.declared.ends.CommitEnd.TheVariants as commits
-use Rattle.job_model.specs.declared.ends.Stage.TheVariants as stages
+use Rattle.job_model.specs.declared.ends.FaultStage.TheVariants as stages
 
 -- ---- the requests in progress
 
 abbrev mark_request : Script → Sets → Request
 mark_request w sets = PutObject w.dest.bucket (layout.success_key w.dest.key) (mark_text w (picks_of sets)) None
 
-abbrev in_lane : Sets → Turn → Held
+abbrev in_lane : Sets → Turn → HeldRequest
 in_lane sets x = record { request = completion (nth (all_commits sets) x.number); missed = x.missed }
 
-abbrev one : Request → ℕ → List Held
+abbrev one : Request → ℕ → List HeldRequest
 one r m = record { request = r; missed = m } ∷ []
 
-abbrev hand : Script → Commit → List Held
+abbrev hand : Script → Commit → List HeldRequest
 hand w (Fetching sets m) = one (set_request w.committer w (length sets)) m
 hand w (Replacing sets p ps s m) = one (sweep_asks w.dest.bucket p s) m
 hand w (Completing sets x xs finished) = map (in_lane sets) (x ∷ xs)
@@ -52,7 +52,7 @@ hand w (Marking sets m) = one (mark_request w sets) m
 hand w _ = []
 
 -- Holds if a request of this stage is the first that ran out of retries.
-abbrev WornAt : ℕ → List Entry → Stage → Type 0
+abbrev WornAt : ℕ → List Entry → FaultStage → Type 0
 WornAt retries es stage = (q : Request) × IsFirstWorn retries es q × (stage_of q ≡ stage)
 
 abbrev EndsAs : ℕ → List Entry → CommitEnd → Type 0
@@ -76,24 +76,24 @@ delete_stage bucket p s = grind arith
 
 -- ---- stages that begin without a missed send
 
-zero_once : (r : Request) (k : Held) → In k (one r 0) → k.missed ≡ 0
-zero_once r k i = elim i [ inl e ↦ sym (ap (λ (v : Held). v.missed) e) | inr n ↦ absurd n ]
+zero_once : (r : Request) (k : HeldRequest) → In k (one r 0) → k.missed ≡ 0
+zero_once r k i = elim i [ inl e ↦ sym (ap (λ (v : HeldRequest). v.missed) e) | inr n ↦ absurd n ]
 
 agreed_completing : (w : Script) (es : List Entry) (sets : Sets) (xs : List Turn) (done : List ℕ)
     → Counted w.retries es (map (in_lane sets) xs) → Agreed w es (completing sets xs done)
 agreed_completing w es sets xs done h = grind arith
 
 begins : (w : Script) (es : List Entry) → Quiet w.retries es → Begins w (Agreed w es)
-begins w es h = grind (arith, quiet_counted, zero_once, agreed_completing, in_map, Held, dealt_fresh)
+begins w es h = grind (arith, quiet_counted, zero_once, agreed_completing, in_map, HeldRequest, dealt_fresh)
 
 -- ---- the other turns have other requests
 
 lane_apart : (w : Script) (sets : Sets) {x : Turn} {xs : List Turn} {done : List ℕ} → RequestsApart sets
-    → Table w.lanes w.retries (length (all_commits sets)) (x ∷ xs) done → (k : Held) → In k (map (in_lane sets) xs)
+    → Table w.lanes w.retries (length (all_commits sets)) (x ∷ xs) done → (k : HeldRequest) → In k (map (in_lane sets) xs)
     → same_request k.request (in_lane sets x).request ≡ false
 lane_apart w sets {x = x} {xs = xs} apart t k i =
     let r = in_map (in_lane sets) xs k i in
-    let S : Held → Type 0 = λ v. same_request v.request (in_lane sets x).request ≡ false in
+    let S : HeldRequest → Type 0 = λ v. same_request v.request (in_lane sets x).request ≡ false in
     subst S r.2 (elim (true_or_false (same_request (in_lane sets r.0).request (in_lane sets x).request)) [
       | inl e ↦ absurd (numbers_apart x r.0 t r.1 (sym (apart r.0.number x.number (t.within r.0 (inr r.1)) (t.within x (inl refl)) e)))
       | inr e ↦ e
@@ -104,7 +104,7 @@ lane_apart w sets {x = x} {xs = xs} apart t k i =
 agreed_reverting : (w : Script) (es : List Entry) (qs : List Request) → WornAt w.retries es stages.Complete → Agreed w es (reverting qs)
 agreed_reverting w es qs h = grind arith
 
-worn_still : {r : ℕ} {es : List Entry} {stage : Stage} (e : Entry) → WornAt r es stage → WornAt r (es ++ e ∷ []) stage
+worn_still : {r : ℕ} {es : List Entry} {stage : FaultStage} (e : Entry) → WornAt r es stage → WornAt r (es ++ e ∷ []) stage
 worn_still e h = (h.0, worn_first_still e h.1, h.2)
 
 agreed_answered : (w : Script) (sets : Sets) (es : List Entry) (x : Turn) (xs : List Turn) (done : List ℕ) (e : Entry)
@@ -114,22 +114,22 @@ agreed_answered : (w : Script) (sets : Sets) (es : List Entry) (x : Turn) (xs : 
     → Counted w.retries (es ++ e ∷ []) (map (in_lane sets) (xs ++ follow w.lanes (length (all_commits sets)) x.number))
 agreed_answered w sets es x xs done e told is t apart c =
     let all = all_commits sets in
-    let C : List Held → Type 0 = λ v. Counted w.retries (es ++ e ∷ []) v in
+    let C : List HeldRequest → Type 0 = λ v. Counted w.retries (es ++ e ∷ []) v in
     let F : List Turn → Type 0 = λ v. Counted w.retries (es ++ e ∷ []) (map (in_lane sets) xs ++ map (in_lane sets) v) in
     let next : Turn = fresh_turn (x.number + w.lanes) in
     subst C (sym (map-append (in_lane sets) xs (follow w.lanes (length all) x.number)))
     (elim (follow_cases w.lanes (length all) x.number) [
       | inl h ↦ subst F (sym h.1) (hand_heard (in_lane sets next ∷ []) (in_lane sets x) e c is (same_self (in_lane sets x).request) told
           (lane_apart w sets apart t) (λ k i. elim i [
-            | inl f ↦ let N : Held → Type 0 = λ v. (v.missed ≡ 0)
-                × ((l : Held) → In l (map (in_lane sets) xs) → l.request ≡ v.request → ⊥) in
+            | inl f ↦ let N : HeldRequest → Type 0 = λ v. (v.missed ≡ 0)
+                × ((l : HeldRequest) → In l (map (in_lane sets) xs) → l.request ≡ v.request → ⊥) in
                 subst N f (
                   refl,
                   λ l at eq.
                       let r = in_map (in_lane sets) xs l at in
                       let S : Request → Type 0 = λ v. same_request (in_lane sets next).request v ≡ true in
                       let same : same_request (in_lane sets next).request (in_lane sets r.0).request ≡ true = subst S
-                      (sym (ap (λ (v : Held). v.request) r.2 ∙ eq)) (same_self (in_lane sets next).request) in
+                      (sym (ap (λ (v : HeldRequest). v.request) r.2 ∙ eq)) (same_self (in_lane sets next).request) in
                       next_apart x r.0 t r.1 (apart (x.number + w.lanes) r.0.number h.0 (t.within r.0 (inr r.1)) same),
                 )
             | inr n ↦ absurd n
@@ -155,12 +155,12 @@ agreed_heard w es (Marking sets m) e r told asked apart h a = (quiet_one w es (m
 agreed_heard w es (Reverting q qs m) e r told asked apart h a = agreed_reverting w (es ++ e ∷ []) qs (worn_still e a)
 agreed_heard w es (CommitOver end) e r told asked apart h a = absurd (none_some refl asked)
 
-missed_one : (w : Script) (es : List Entry) (r : Request) (m : ℕ) (e : Entry) (next : Commit) (stage : Stage)
+missed_one : (w : Script) (es : List Entry) (r : Request) (m : ℕ) (e : Entry) (next : Commit) (stage : FaultStage)
     → Counted w.retries es (one r m) → Some r ≡ Some e.request → was_answered e.outcome ≡ false → stage_of r ≡ stage
     → (Counted w.retries (es ++ e ∷ []) (one r (m + 1)) → Agreed w (es ++ e ∷ []) next)
     → Agreed w (es ++ e ∷ []) (cond (nat_lt m w.retries) next (CommitOver (commits.StoreFault stage)))
 missed_one w es r m e next stage c asked missed of more =
-    let k : Held = record { request = r; missed = m } in
+    let k : HeldRequest = record { request = r; missed = m } in
     let P : Bool → Type 0 = λ b. Agreed w (es ++ e ∷ []) (cond b next (CommitOver (commits.StoreFault stage))) in
     elim (lt_or_not m w.retries) [
       | inl b ↦ subst P (sym b.0) (more (hand_missed k e c (sym (some_is asked)) (same_self r) missed b.1 (λ l i. absurd i)))
@@ -176,7 +176,7 @@ agreed_missed w es (Replacing sets p ps s m) e lost missed asked apart h a = mis
 agreed_missed w es (Completing sets x xs done) e lost missed asked apart h a =
     let P : Bool → Type 0 = λ b. Agreed w (es ++ e ∷ []) (cond b (completing sets (xs ++ again x lost ∷ []) done)
     (worn_completion sets x xs done)) in
-    let C : List Held → Type 0 = λ v. Counted w.retries (es ++ e ∷ []) v in
+    let C : List HeldRequest → Type 0 = λ v. Counted w.retries (es ++ e ∷ []) v in
     elim (lt_or_not x.missed w.retries) [
       | inl b ↦ subst P (sym b.0) (agreed_completing w (es ++ e ∷ []) sets (xs ++ again x lost ∷ []) done (
           subst C (sym (map-append (in_lane sets) xs (again x lost ∷ []))) (hand_missed (in_lane sets x) e a (sym (some_is asked))

@@ -1,5 +1,5 @@
 -- Members of lists, their places, and appended lists.
-use Rattle.basics.proofs.Members.{false_true, none_some, some_is, true_or_false}
+use Rattle.text_and_lists.proofs.Members.{false_true, none_some, some_is, true_or_false}
 use Rattle.job_protocol.specs.LaneTable.{In}
 use Rattle.std.proofs.Common.{List, ap, inl, inr, map, refl, [], ◌++◌, ◌∷◌, ◌≡◌, ◌⊎◌}
 use Rattle.std.proofs.lemmas.List.{map-append}

@@ -1,5 +1,5 @@
 -- The paths of files that scripts give keep the bounds of places.
-use Rattle.basics.specs.Parts.{parts_from, parts_of}
+use Rattle.text_and_lists.specs.Parts.{parts_from, parts_of}
 use Rattle.job_model.specs.Legal.{IsGiven}
 use Rattle.job_model.specs.Paths.{begins_hidden, is_full, is_hidden, is_path}
 use Rattle.job_model.specs.Placed.{unique_name, with_id_last}

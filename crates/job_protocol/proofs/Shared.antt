@@ -1,14 +1,14 @@
 -- The least path that two chosen attempts write, with the two lowest tasks that write it.
-use Rattle.basics.proofs.Less.{irrefl, lt_not}
-use Rattle.basics.proofs.Members.{false_true, true_or_false}
-use Rattle.basics.specs.Order.{text_cmp, text_eq, text_total}
+use Rattle.text_and_lists.proofs.Less.{irrefl, lt_not}
+use Rattle.text_and_lists.proofs.Members.{false_true, true_or_false}
+use Rattle.text_and_lists.specs.Order.{text_cmp, text_eq, text_total}
 use Rattle.job_model.specs.Files.{File, has_path}
 use Rattle.job_model.specs.JobScript.{Script}
 use Rattle.job_model.specs.declared.ends.CommitEnd.{CommitEnd}
 use Rattle.job_model.specs.declared.ends.CommitEnd.TheVariants.{SamePath}
 use Rattle.job_protocol.proofs.Members.{in_left, in_right}
 use Rattle.job_protocol.specs.LaneTable.{In}
-use Rattle.job_protocol.specs.Laws.{IsShared}
+use Rattle.job_protocol.specs.OperationLaws.{IsShared}
 use Rattle.job_protocol.specs.Outputs.{Picks, files_picked, first_shared, first_where, ordered, same_path, second_where, shared_by}
 use Rattle.job_protocol.specs.Outputs.{two_where, wanted, wanted_below, wanted_paths, writes}
 use Rattle.std.proofs.Common.{Bool, List, None, Option, Some, ap, arith, cond, false, inl, inr, map, refl, subst, suc, sym, true, zero, ℕ}

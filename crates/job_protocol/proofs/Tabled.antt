@@ -2,7 +2,7 @@
 use Rattle.job_model.specs.Attempts.{Who}
 use Rattle.job_model.specs.Known.{Known}
 use Rattle.job_model.specs.declared.events.Op.{Op}
-use Rattle.job_protocol.specs.Laws.{OneOf, has_op}
+use Rattle.job_protocol.specs.OperationLaws.{OneOf, has_op}
 use Rattle.job_protocol.specs.Operations.{Operation, Reports, Setting, asks, over, start_of}
 use Rattle.s3_types.specs.declared.request.Actor.{Actor}
 use Rattle.std.proofs.Common.{arith, is_some, ◌≡◌}

@@ -4,7 +4,7 @@ use Rattle.job_model.specs.Files.{File}
 use Rattle.job_model.specs.JobScript.{Script}
 use Rattle.job_model.specs.Known.{Drawn, Known}
 use Rattle.job_protocol.specs.Knowledge.{drawn_in}
-use Rattle.job_protocol.specs.Laws.{is_serial, spare_of}
+use Rattle.job_protocol.specs.OperationLaws.{is_serial, spare_of}
 use Rattle.job_protocol.specs.Operations.{Operation, Running, Setting, advance, asks, learn_of, tells, wants, who}
 use Rattle.job_protocol.specs.Outputs.{files}
 use Rattle.job_protocol.specs.Records.{file_key, file_record}

@@ -1,7 +1,7 @@
 -- The driver's commit of a job (Hadoop, S3A committer architecture: job commit; fs.s3a.committer.staging.conflict-mode).
 use Rattle.job_model.specs.JobScript.{Script}
 use Rattle.job_model.specs.declared.ends.CommitEnd.{CommitEnd}
-use Rattle.job_model.specs.declared.ends.Stage.{Stage}
+use Rattle.job_model.specs.declared.ends.FaultStage.{FaultStage}
 use Rattle.job_protocol.specs.Conflicts.{displaced, emptied, partitions}
 use Rattle.job_protocol.specs.Lanes.{Turn, again, completion, dealt, follow, nth, revert}
 use Rattle.job_protocol.specs.Outputs.{Picks, same_path, wanted_paths}
@@ -29,7 +29,7 @@ use Rattle.std.specs.Prelude.{[], ◌++◌, ◌+◌, ◌∷◌, ◌≡◌}
 use Rattle.magic_paths.specs.Layout as layout
 use Rattle.pending_json.specs.Reading as reading
 use Rattle.job_model.specs.declared.ends.CommitEnd.TheVariants as ends
-use Rattle.job_model.specs.declared.ends.Stage.TheVariants as stages
+use Rattle.job_model.specs.declared.ends.FaultStage.TheVariants as stages
 
 -- ---- the sets that the driver reads
 
@@ -187,7 +187,7 @@ is_untouched (ends.StoreFault stages.Read) = true
 is_untouched _ = false
 
 -- The stage of a commit that a request belongs to.
-abbrev pub stage_of : Request → Stage
+abbrev pub stage_of : Request → FaultStage
 stage_of (GetObject bucket key) = stages.Read
 stage_of (ClusterGet path) = stages.Read
 stage_of (ListPage bucket prefix delimited after limit) = stages.Delete

@@ -22,4 +22,4 @@ pub mod Operations
 pub mod AtWork
 pub mod Measures
 pub mod PlanLaws
-pub mod Laws
+pub mod OperationLaws

@@ -1,5 +1,5 @@
 -- The files that the chosen attempts of a job write below its destination.
-use Rattle.basics.specs.Order.{text_cmp, text_eq}
+use Rattle.text_and_lists.specs.Order.{text_cmp, text_eq}
 use Rattle.job_model.specs.Attempts.{Who}
 use Rattle.job_model.specs.Files.{File, has_path}
 use Rattle.job_model.specs.JobScript.{Script}

@@ -1,5 +1,5 @@
 -- Which parts of a store belong to a job, and what one request of the job may change.
-use Rattle.basics.specs.Order.{text_eq}
+use Rattle.text_and_lists.specs.Order.{text_eq}
 use Rattle.job_model.specs.JobScript.{Script}
 use Rattle.job_protocol.specs.Setup.{dest_prefix}
 use Rattle.job_protocol.specs.View.{Same, object_at, view}

@@ -1,5 +1,5 @@
 -- What a journal shows of a job, read entry by entry from the first one on.
-use Rattle.basics.specs.Order.{text_eq}
+use Rattle.text_and_lists.specs.Order.{text_eq}
 use Rattle.job_model.specs.JobScript.{Script}
 use Rattle.job_protocol.specs.Knowledge.{is_set_key, is_set_path}
 use Rattle.job_protocol.specs.Outputs.{Picks}

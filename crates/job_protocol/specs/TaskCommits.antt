@@ -1,5 +1,5 @@
 -- An attempt's commit of its task, which publishes a set of its uploads (Hadoop, S3A committer architecture: task commit).
-use Rattle.basics.specs.Order.{text_cmp, text_eq}
+use Rattle.text_and_lists.specs.Order.{text_cmp, text_eq}
 use Rattle.job_model.specs.Attempts.{Who}
 use Rattle.job_model.specs.Files.{File}
 use Rattle.job_model.specs.JobScript.{Script}

@@ -16,7 +16,7 @@
 //!   same way as by the script itself.
 #![tactic(auto)]
 
-ghost use Rattle.job_protocol.specs.Laws.{OperationTable, FaultsAreWorn, SharedPaths, LanesKeep, CommitsInLanes};
+ghost use Rattle.job_protocol.specs.OperationLaws.{OperationTable, FaultsAreWorn, SharedPaths, LanesKeep, CommitsInLanes};
 ghost use Rattle.job_protocol.specs.PathLaws.{ArePlaces};
 ghost use Rattle.job_protocol.specs.PlanLaws.{TasksTell, JobsTell};
 

@@ -1,14 +1,14 @@
 -- The answers that S3 must give to an attempt's machines.
-use Rattle.basics.proofs.Members.{nat_false, some_is}
-use Rattle.basics.specs.Members.{IsIn, RisesFrom}
-use Rattle.job_facts.proofs.Cut.{parts_few}
-use Rattle.job_facts.proofs.Legible.{drawn_is, legal_record, plain_so, written_sizes}
-use Rattle.job_facts.proofs.Replies.{record_there}
-use Rattle.job_facts.proofs.Shapes.{answer_is, last_so}
-use Rattle.job_facts.proofs.Uploads.{drop_more, number_fits}
-use Rattle.job_facts.specs.Facts.{AreCommits, Facts}
-use Rattle.job_facts.specs.Fits.{Begun, FitsCommit, FitsWrite}
-use Rattle.job_facts.specs.Told.{Told, known}
+use Rattle.text_and_lists.proofs.Members.{nat_false, some_is}
+use Rattle.text_and_lists.specs.Members.{IsIn, RisesFrom}
+use Rattle.job_invariant.proofs.Cut.{parts_few}
+use Rattle.job_invariant.proofs.Legible.{drawn_is, legal_record, plain_so, written_sizes}
+use Rattle.job_invariant.proofs.Replies.{record_there}
+use Rattle.job_invariant.proofs.Shapes.{answer_is, last_so}
+use Rattle.job_invariant.proofs.Uploads.{drop_more, number_fits}
+use Rattle.job_invariant.specs.Facts.{AreCommits, Facts}
+use Rattle.job_invariant.specs.Fits.{Begun, FitsCommit, FitsWrite}
+use Rattle.job_invariant.specs.Told.{Told, known}
 use Rattle.job_model.specs.Attempts.{Who}
 use Rattle.job_model.specs.Files.{File}
 use Rattle.job_model.specs.JobScript.{Script}
@@ -40,14 +40,14 @@ use Rattle.std.proofs.Common.{List, None, Option, Some, ap, arith, false, inl, i
 use Rattle.std.proofs.Common.{true, ℕ, [], ◌++◌, ◌+◌, ◌<◌, ◌^◌, ◌∙◌, ◌∷◌, ◌≡◌, ◌≤◌}
 use Rattle.store_frame.proofs.Flat.{joins, page_rises}
 use Rattle.store_frame.specs.Held.{HasBucket}
-use Rattle.task_machines.specs.Aborts.{abort_fits}
-use Rattle.task_machines.specs.Commits.{FitsListing, commit_fits}
+use Rattle.task_operation.specs.Aborts.{abort_fits}
+use Rattle.task_operation.specs.Commits.{FitsListing, commit_fits}
 use Rattle.task_requests.specs.Publishing.{FitsRecord, IsPending}
 use Rattle.task_requests.specs.Writing.{FitsCreate, FitsPart, is_new, write_fits}
 use Rattle.list_walk.specs.Walks as walks
 use Rattle.job_protocol.specs.Writes as writes
 use Rattle.job_protocol.specs.TaskCommits as commits
-use Rattle.task_machines.specs.Aborts as undoing
+use Rattle.task_operation.specs.Aborts as undoing
 
 -- ---- an upload
 

@@ -1,20 +1,20 @@
 -- The facts of the driver's commit hold on, whoever sends.
-use Rattle.job_facts.proofs.Acting.{operation_goes}
-use Rattle.job_facts.proofs.Beside.{beside, job_commit_begins}
-use Rattle.job_facts.proofs.Deciding.{d_start, decides_goes}
-use Rattle.job_facts.proofs.Driving.{driving_keeps}
-use Rattle.job_facts.proofs.EndedGone.{commit_gone, others_gone}
-use Rattle.job_facts.proofs.FilingLaws.{decides_beside}
-use Rattle.job_facts.proofs.Foreign.{foreign_keeps}
-use Rattle.job_facts.proofs.JobCommitting.{commit_drives, commit_fits}
-use Rattle.job_facts.proofs.Turning.{commit_turns}
-use Rattle.job_facts.specs.Facts.{Hold, IsAttempt}
-use Rattle.job_facts.specs.Filed.{Gone}
-use Rattle.job_facts.specs.FiledLaws.{Commits}
-use Rattle.job_facts.specs.Fits.{Fits}
-use Rattle.job_facts.specs.Foreign.{IsForeign}
-use Rattle.job_facts.specs.Told.{Told, driver_entry, entry, known, strange_entry, tell}
-use Rattle.job_facts.specs.Turning.{NoneEnded, Turns}
+use Rattle.job_invariant.proofs.Acting.{operation_goes}
+use Rattle.job_invariant.proofs.Beside.{beside, job_commit_begins}
+use Rattle.job_invariant.proofs.Deciding.{d_start, decides_goes}
+use Rattle.job_invariant.proofs.Driving.{driving_keeps}
+use Rattle.job_invariant.proofs.EndedGone.{commit_gone, others_gone}
+use Rattle.job_invariant.proofs.FilingLaws.{decides_beside}
+use Rattle.job_invariant.proofs.Foreign.{foreign_keeps}
+use Rattle.job_invariant.proofs.JobCommitting.{commit_drives, commit_fits}
+use Rattle.job_invariant.proofs.Turning.{commit_turns}
+use Rattle.job_invariant.specs.Facts.{Hold, IsAttempt}
+use Rattle.job_invariant.specs.Filed.{Gone}
+use Rattle.job_invariant.specs.FiledLaws.{Commits}
+use Rattle.job_invariant.specs.Fits.{Fits}
+use Rattle.job_invariant.specs.Foreign.{IsForeign}
+use Rattle.job_invariant.specs.Told.{Told, driver_entry, entry, known, strange_entry, tell}
+use Rattle.job_invariant.specs.Turning.{NoneEnded, Turns}
 use Rattle.job_model.specs.Attempts.{Who}
 use Rattle.job_model.specs.JobScript.{Script}
 use Rattle.job_model.specs.Legal.{IsLegal}

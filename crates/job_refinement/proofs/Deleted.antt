@@ -1,13 +1,13 @@
 -- A replace mode's deletion leaves nothing below its prefixes but the keys that it spares.
-use Rattle.basics.proofs.Members.{in_map, none_or_some, none_some, some_is}
-use Rattle.basics.specs.Members.{IsIn}
-use Rattle.basics.specs.Order.{text_cmp}
+use Rattle.text_and_lists.proofs.Members.{in_map, none_or_some, none_some, some_is}
+use Rattle.text_and_lists.specs.Members.{IsIn}
+use Rattle.text_and_lists.specs.Order.{text_cmp}
 use Rattle.conflict.specs.Deletions.{Deletion, asks_below, deleted, deletion_asks, deletion_hears, hears_below, spared, swept_on}
-use Rattle.job_facts.proofs.Emptying.{EmptiedBy, still_by, still_there, swept_by}
-use Rattle.job_facts.proofs.Undone.{deletes_drop}
-use Rattle.job_facts.specs.Driver.{SweepsUnder}
-use Rattle.job_facts.specs.Emptying.{EmptiesBy}
-use Rattle.job_facts.specs.Stores.{at_key}
+use Rattle.job_invariant.proofs.Emptying.{EmptiedBy, still_by, still_there, swept_by}
+use Rattle.job_invariant.proofs.Undone.{deletes_drop}
+use Rattle.job_invariant.specs.Driver.{SweepsUnder}
+use Rattle.job_invariant.specs.Emptying.{EmptiesBy}
+use Rattle.job_invariant.specs.Stores.{at_key}
 use Rattle.job_model.specs.JobScript.{Script}
 use Rattle.job_protocol.specs.Conflicts.{prefix_below}
 use Rattle.job_refinement.specs.Deleted.{Deletes, DeletionsLeave, deleting, had_answer, had_none, nothing_sent}

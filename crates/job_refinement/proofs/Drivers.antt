@@ -1,20 +1,20 @@
 -- The answers that S3 must give to the driver's machines.
-use Rattle.basics.proofs.Members.{none_some, some_is, true_or_false}
-use Rattle.commit_laws.specs.Fitting.{FitsCommit, FitsReply, SpellsSet}
+use Rattle.text_and_lists.proofs.Members.{none_some, some_is, true_or_false}
+use Rattle.commit_lanes.specs.Fitting.{FitsCommit, FitsReply, SpellsSet}
 use Rattle.conflict.specs.Fits.{FitsCheck, FitsLook}
 use Rattle.conflict.specs.Rechecks.{check_wants}
-use Rattle.job_facts.proofs.Held.{nth_of, of_sets}
-use Rattle.job_facts.proofs.Replies.{bytes_read, completed, set_reply}
-use Rattle.job_facts.proofs.Shapes.{answer_is, id_before}
-use Rattle.job_facts.proofs.Turning.{turn_answered}
-use Rattle.job_facts.specs.Driver.{Reads}
-use Rattle.job_facts.specs.Emptying.{SetsUp}
-use Rattle.job_facts.specs.Facts.{Hold}
-use Rattle.job_facts.specs.Filed.{Gone, IsCommit}
-use Rattle.job_facts.specs.FiledLaws.{Commits}
-use Rattle.job_facts.specs.Stores.{sets_at}
-use Rattle.job_facts.specs.Told.{Told}
-use Rattle.job_facts.specs.Turning.{Turns}
+use Rattle.job_invariant.proofs.Held.{nth_of, of_sets}
+use Rattle.job_invariant.proofs.Replies.{bytes_read, completed, set_reply}
+use Rattle.job_invariant.proofs.Shapes.{answer_is, id_before}
+use Rattle.job_invariant.proofs.Turning.{turn_answered}
+use Rattle.job_invariant.specs.Driver.{Reads}
+use Rattle.job_invariant.specs.Emptying.{SetsUp}
+use Rattle.job_invariant.specs.Facts.{Hold}
+use Rattle.job_invariant.specs.Filed.{Gone, IsCommit}
+use Rattle.job_invariant.specs.FiledLaws.{Commits}
+use Rattle.job_invariant.specs.Stores.{sets_at}
+use Rattle.job_invariant.specs.Told.{Told}
+use Rattle.job_invariant.specs.Turning.{Turns}
 use Rattle.job_model.specs.JobScript.{Script}
 use Rattle.job_model.specs.Legal.{IsLegal}
 use Rattle.job_protocol.specs.AtWork.{clean_wants, commit_wants, job_of, setup_wants}

@@ -1,11 +1,11 @@
 -- The sets of attempts of the job are sets of its tasks.
-use Rattle.basics.proofs.Members.{none_some, some_is}
-use Rattle.basics.specs.Members.{IsIn}
-use Rattle.commit_parts.specs.ReadSets.{AreRead, IsSetOf}
-use Rattle.job_facts.proofs.Legal.{some_dest}
-use Rattle.job_facts.proofs.Placed.{one_key}
-use Rattle.job_facts.specs.Driver.{Reads}
-use Rattle.job_facts.specs.Facts.{ApartFiles, AreCommits, knowing}
+use Rattle.text_and_lists.proofs.Members.{none_some, some_is}
+use Rattle.text_and_lists.specs.Members.{IsIn}
+use Rattle.commit_lanes.specs.ReadSets.{AreRead, IsSetOf}
+use Rattle.job_invariant.proofs.Legal.{some_dest}
+use Rattle.job_invariant.proofs.Placed.{one_key}
+use Rattle.job_invariant.specs.Driver.{Reads}
+use Rattle.job_invariant.specs.Facts.{ApartFiles, AreCommits, knowing}
 use Rattle.job_model.specs.Attempts.{Who}
 use Rattle.job_model.specs.Files.{File}
 use Rattle.job_model.specs.JobScript.{Script}

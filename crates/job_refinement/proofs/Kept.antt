@@ -1,10 +1,10 @@
 -- The conditions on operations besides the facts hold on.
-use Rattle.basics.specs.Members.{IsIn}
-use Rattle.job_facts.proofs.Going.{step_so}
-use Rattle.job_facts.proofs.Ordered.{order_each}
-use Rattle.job_facts.specs.Driver.{FitsJobCommit}
-use Rattle.job_facts.specs.Facts.{Hold}
-use Rattle.job_facts.specs.Told.{Told}
+use Rattle.text_and_lists.specs.Members.{IsIn}
+use Rattle.job_invariant.proofs.Going.{step_so}
+use Rattle.job_invariant.proofs.Ordered.{order_each}
+use Rattle.job_invariant.specs.Driver.{FitsJobCommit}
+use Rattle.job_invariant.specs.Facts.{Hold}
+use Rattle.job_invariant.specs.Told.{Told}
 use Rattle.job_model.specs.Attempts.{Who}
 use Rattle.job_model.specs.Files.{File}
 use Rattle.job_model.specs.JobScript.{Script}

@@ -1,5 +1,5 @@
 -- The answers to requests for pages, if their bucket exists.
-use Rattle.job_facts.proofs.Shapes.{answer_is}
+use Rattle.job_invariant.proofs.Shapes.{answer_is}
 use Rattle.job_model.specs.JobScript.{Script}
 use Rattle.list_walk.proofs.Keys.{page_keys}
 use Rattle.list_walk.specs.Fitting.{FitsPage, FitsSweep, FitsUploads}

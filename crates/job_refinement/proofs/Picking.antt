@@ -1,11 +1,11 @@
 -- The attempts that the driver's commit has chosen are those that `see` derives from the entries.
-use Rattle.basics.proofs.Members.{none_some, same_or_not, some_is}
-use Rattle.basics.proofs.Options.{both_hold}
-use Rattle.job_facts.proofs.Reading.{reads_it, reads_other}
-use Rattle.job_facts.proofs.Replies.{bytes_read, set_reply}
-use Rattle.job_facts.specs.Facts.{knowing}
-use Rattle.job_facts.specs.FiledLaws.{Commits}
-use Rattle.job_facts.specs.Told.{Told, driver_entry, entry}
+use Rattle.text_and_lists.proofs.Members.{none_some, same_or_not, some_is}
+use Rattle.text_and_lists.proofs.Options.{both_hold}
+use Rattle.job_invariant.proofs.Reading.{reads_it, reads_other}
+use Rattle.job_invariant.proofs.Replies.{bytes_read, set_reply}
+use Rattle.job_invariant.specs.Facts.{knowing}
+use Rattle.job_invariant.specs.FiledLaws.{Commits}
+use Rattle.job_invariant.specs.Told.{Told, driver_entry, entry}
 use Rattle.job_model.specs.Attempts.{Who}
 use Rattle.job_model.specs.JobScript.{Script}
 use Rattle.job_model.specs.Legal.{IsLegal}
@@ -18,7 +18,7 @@ use Rattle.job_protocol.specs.Outputs.{same_path}
 use Rattle.job_protocol.specs.Records.{files_set}
 use Rattle.job_protocol.specs.Seen.{Seen, Times, is_picking, is_reading, see}
 use Rattle.job_refinement.specs.Due.{SetStands}
-use Rattle.job_refinement.specs.Laws.{PicksTell}
+use Rattle.job_refinement.specs.MachinesFit.{PicksTell}
 use Rattle.job_refinement.specs.Picked.{ArePicked, IsEachPicked}
 use Rattle.list_walk.specs.Walks.{Listing}
 use Rattle.pending_json.specs.declared.records.PendingSet.{PendingSet}

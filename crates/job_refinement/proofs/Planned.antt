@@ -1,5 +1,5 @@
 -- Machines that follow plans send the requests of their operations by the script, and go on as these do.
-use Rattle.job_facts.specs.Facts.{knowing}
+use Rattle.job_invariant.specs.Facts.{knowing}
 use Rattle.job_model.specs.Attempts.{Who}
 use Rattle.job_model.specs.Files.{File}
 use Rattle.job_model.specs.JobScript.{Script}
@@ -16,7 +16,7 @@ use Rattle.job_protocol.specs.TaskCommits.{Publishing, Storing, TaskCommit, Uplo
 use Rattle.job_protocol.specs.Uploading.{Uploading, upload_asks}
 use Rattle.job_protocol.specs.Writes.{Write, write_after, write_asks}
 use Rattle.job_refinement.proofs.Telling.{asks_same, begins_same, tells_same}
-use Rattle.job_refinement.specs.Laws.{MachinesTell}
+use Rattle.job_refinement.specs.MachinesFit.{MachinesTell}
 use Rattle.job_refinement.specs.Plans.{at_work, committing, driven, driving, heard, known_then, planned}
 use Rattle.retries.specs.Retries.{Item, Retried, step}
 use Rattle.s3_types.specs.declared.journal.Outcome.{Outcome}

@@ -1,16 +1,16 @@
 -- For a commit with these sets, the script that they give leads to the same requests as the job's.
-use Rattle.basics.proofs.Members.{false_true, in_append, in_back, in_front, in_map, map_in, none_some, text_is, text_true, true_or_false}
-use Rattle.basics.specs.Members.{IsIn}
-use Rattle.basics.specs.Order.{text_eq}
-use Rattle.commit_parts.proofs.ReadFiles.{file_of, files_at}
-use Rattle.commit_parts.specs.Relatives.{relative_of}
+use Rattle.text_and_lists.proofs.Members.{false_true, in_append, in_back, in_front, in_map, map_in, none_some, text_is, text_true, true_or_false}
+use Rattle.text_and_lists.specs.Members.{IsIn}
+use Rattle.text_and_lists.specs.Order.{text_eq}
+use Rattle.commit_lanes.proofs.ReadFiles.{file_of, files_at}
+use Rattle.commit_lanes.specs.Relatives.{relative_of}
 use Rattle.conflict.proofs.Rising.{ordered_same}
-use Rattle.job_facts.proofs.JobCommitting.{one_more_set}
-use Rattle.job_facts.proofs.Replies.{set_answered}
-use Rattle.job_facts.proofs.Whose.{attempt}
-use Rattle.job_facts.specs.Driver.{FitsJobCommit, IsHeldSet, Reads}
-use Rattle.job_facts.specs.Facts.{Facts, knowing}
-use Rattle.job_facts.specs.Told.{Told}
+use Rattle.job_invariant.proofs.JobCommitting.{one_more_set}
+use Rattle.job_invariant.proofs.Replies.{set_answered}
+use Rattle.job_invariant.proofs.Whose.{attempt}
+use Rattle.job_invariant.specs.Driver.{FitsJobCommit, IsHeldSet, Reads}
+use Rattle.job_invariant.specs.Facts.{Facts, knowing}
+use Rattle.job_invariant.specs.Told.{Told}
 use Rattle.job_model.specs.Attempts.{Who}
 use Rattle.job_model.specs.Files.{File, has_path}
 use Rattle.job_model.specs.JobScript.{Script}

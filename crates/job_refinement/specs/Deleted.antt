@@ -1,5 +1,5 @@
 -- What the deletion of a replace mode leaves if nobody else changes the store (Hadoop, S3A committers: conflict mode replace).
-use Rattle.basics.specs.Members.{IsIn}
+use Rattle.text_and_lists.specs.Members.{IsIn}
 use Rattle.conflict.specs.Deletions.{Deletion, deleted, deletion_asks, deletion_hears, spared}
 use Rattle.job_model.specs.JobScript.{Script}
 use Rattle.job_protocol.specs.View.{object_at}

@@ -1,8 +1,8 @@
 -- Which answers must fit, and what must be known of an operation besides the facts of its job.
-use Rattle.basics.specs.Members.{IsIn}
-use Rattle.job_facts.specs.Standing.{HasPublished}
-use Rattle.job_facts.specs.Stores.{sets_at}
-use Rattle.job_facts.specs.Told.{Told, known}
+use Rattle.text_and_lists.specs.Members.{IsIn}
+use Rattle.job_invariant.specs.Standing.{HasPublished}
+use Rattle.job_invariant.specs.Stores.{sets_at}
+use Rattle.job_invariant.specs.Told.{Told, known}
 use Rattle.job_model.specs.Attempts.{Who}
 use Rattle.job_model.specs.Files.{File}
 use Rattle.job_model.specs.JobScript.{Script}

@@ -1,5 +1,5 @@
 pub mod Plans
 pub mod Due
 pub mod Picked
-pub mod Laws
+pub mod MachinesFit
 pub mod Deleted

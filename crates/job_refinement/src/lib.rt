@@ -4,7 +4,7 @@
 //!
 //! # What is proved
 //!
-//! For every committer, if the facts of `job_facts` hold:
+//! For every committer, if the facts of `job_invariant` hold:
 //!
 //! - `answers`: each machine takes the answer that S3 must give to its request, whether or not an
 //!   earlier send was lost.
@@ -17,7 +17,7 @@
 #![tactic(auto)]
 
 ghost use Rattle.job_refinement.specs.Deleted.{DeletionsLeave};
-ghost use Rattle.job_refinement.specs.Laws.{CommitsKeep, DueFits, MachinesTell, OthersLeave, PicksTell, PremisesKeep, ReadsTell};
+ghost use Rattle.job_refinement.specs.MachinesFit.{CommitsKeep, DueFits, MachinesTell, OthersLeave, PicksTell, PremisesKeep, ReadsTell};
 
 /// The answers that S3 must give to the machines of a job.
 pub fn answers()

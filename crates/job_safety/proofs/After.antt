@@ -1,6 +1,6 @@
 -- Once the job's commit is over, its driver only aborts and cleans, and reads no set.
-use Rattle.basics.proofs.Members.{false_true}
-use Rattle.job_facts.specs.Told.{strange_entry}
+use Rattle.text_and_lists.proofs.Members.{false_true}
+use Rattle.job_invariant.specs.Told.{strange_entry}
 use Rattle.job_model.specs.JobScript.{Script}
 use Rattle.job_model.specs.Legal.{IsLegal}
 use Rattle.job_model.specs.declared.events.Event.{Event}
@@ -14,11 +14,11 @@ use Rattle.job_protocol.specs.Seen.{is_reading}
 use Rattle.job_safety.proofs.Early.{driver_past}
 use Rattle.job_safety.proofs.History.{Later, at_once, later}
 use Rattle.job_spec.specs.States.{put}
-use Rattle.job_steps.proofs.Actors.{put_here, put_other, same_or_not}
-use Rattle.job_steps.proofs.RunningStages.{Begins, IsSettingUp, begins_so, may_commit_job, may_setup}
-use Rattle.job_steps.specs.Running.{operation_of}
-use Rattle.job_steps.specs.Transitions.{MayOpen, MaySend, Opens, Play, Reachable, Sends, Strays, Transition, happen, hear, open_running}
-use Rattle.job_traces.specs.Runs.{IsOpening, is_just_set}
+use Rattle.script_steps.proofs.Actors.{put_here, put_other, same_or_not}
+use Rattle.script_steps.proofs.RunningStages.{Begins, IsSettingUp, begins_so, may_commit_job, may_setup}
+use Rattle.script_steps.specs.Running.{operation_of}
+use Rattle.script_steps.specs.Transitions.{MayOpen, MaySend, Opens, Play, Reachable, Sends, Strays, Transition, happen, hear, open_running}
+use Rattle.protocol_runs.specs.Runs.{IsOpening, is_just_set}
 use Rattle.s3_types.specs.Store.{Content}
 use Rattle.s3_types.specs.declared.journal.Entry.{Entry}
 use Rattle.s3_types.specs.declared.request.Actor.TheVariants.{Driver}

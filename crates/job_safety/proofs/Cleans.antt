@@ -1,5 +1,5 @@
 -- How the driver's abort or clean of the job ends in a run.
-use Rattle.basics.proofs.Members.{false_true, none_some, true_or_false}
+use Rattle.text_and_lists.proofs.Members.{false_true, none_some, true_or_false}
 use Rattle.job_model.specs.Known.{Known}
 use Rattle.job_model.specs.Legal.{IsLegal}
 use Rattle.job_model.specs.declared.ends.CleanEnd.{CleanEnd}
@@ -18,8 +18,8 @@ use Rattle.job_spec.specs.OperationEnds.{Cleaned}
 use Rattle.job_spec.specs.Promise.{CleansEnd}
 use Rattle.job_spec.specs.States.{Doing, same_actor}
 use Rattle.job_spec.specs.Turns.{AllBy, AllFrom, before, by_actor, is_memory, since, until, until_last}
-use Rattle.job_steps.specs.Transitions.{Play, Reachable}
-use Rattle.job_traces.proofs.Changes.{after_parts}
+use Rattle.script_steps.specs.Transitions.{Play, Reachable}
+use Rattle.protocol_runs.proofs.Changes.{after_parts}
 use Rattle.retries.specs.Operation.{Follows, run}
 use Rattle.retries.specs.Retries.{fresh}
 use Rattle.s3_types.specs.Moment.{AreHonest, after_all, effect, moment}

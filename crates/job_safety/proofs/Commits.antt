@@ -1,8 +1,8 @@
 -- How the driver's commit ends in a run, and what it leaves.
-use Rattle.basics.proofs.Members.{false_true, in_back, in_filter, none_or_some, none_some, some_is, true_or_false}
-use Rattle.basics.specs.Members.{IsIn}
-use Rattle.job_facts.specs.Standing.{HasPublished}
-use Rattle.job_facts.specs.Told.{Told, nothing_told, tell_all}
+use Rattle.text_and_lists.proofs.Members.{false_true, in_back, in_filter, none_or_some, none_some, some_is, true_or_false}
+use Rattle.text_and_lists.specs.Members.{IsIn}
+use Rattle.job_invariant.specs.Standing.{HasPublished}
+use Rattle.job_invariant.specs.Told.{Told, nothing_told, tell_all}
 use Rattle.job_model.specs.JobScript.{Script}
 use Rattle.job_model.specs.Known.{Known}
 use Rattle.job_model.specs.Legal.{IsLegal}
@@ -27,7 +27,7 @@ use Rattle.job_safety.proofs.History.{Began, IsBegin}
 use Rattle.job_safety.proofs.Sorts.{driver_commit, kind_run, memory_commit, over_kind}
 use Rattle.job_safety.proofs.Spans.{mine, start}
 use Rattle.job_safety.proofs.Timed.{ahead_opened, ahead_start, number_is, opened_commit, picks_then, run_then, taken_then, unclean_then}
-use Rattle.job_safety.specs.Laws.{CommitsEndAmong}
+use Rattle.job_safety.specs.RunsKeep.{CommitsEndAmong}
 use Rattle.job_spec.specs.Ends.{CommitEnded, commit_due, is_driver}
 use Rattle.job_spec.specs.Entries.{AreOwn}
 use Rattle.job_spec.specs.Follows.{known_then}
@@ -36,16 +36,16 @@ use Rattle.job_spec.specs.OperationEnds.{CommitServed, NoDeletionWorn, OnlyOpeni
 use Rattle.job_spec.specs.Promise.{CommitsEnd, seen_until}
 use Rattle.job_spec.specs.States.{Doing, clean_event, first_not, is_reported, missing, reports, same_actor, times}
 use Rattle.job_spec.specs.Turns.{by_actor, is_wanting, until}
-use Rattle.job_steps.proofs.Actors.{same_is}
-use Rattle.job_steps.proofs.Reported.{all_published, last_more, reported}
-use Rattle.job_steps.proofs.Running.{is_run}
-use Rattle.job_steps.proofs.Told.{told_all}
-use Rattle.job_steps.specs.Running.{IsRun, operation_of}
-use Rattle.job_steps.specs.Transitions.{Closes, Opens, Play, Reachable, happen, happens, open_running}
-use Rattle.job_traces.proofs.Changes.{moment_scene}
-use Rattle.job_traces.proofs.Entries.{always, in_commit, reverted_now, sees, take_all, tells_so}
-use Rattle.job_traces.proofs.EveryRun.{own_front}
-use Rattle.job_traces.specs.Runs.{IsOpening}
+use Rattle.script_steps.proofs.Actors.{same_is}
+use Rattle.script_steps.proofs.Reported.{all_published, last_more, reported}
+use Rattle.script_steps.proofs.Running.{is_run}
+use Rattle.script_steps.proofs.Told.{told_all}
+use Rattle.script_steps.specs.Running.{IsRun, operation_of}
+use Rattle.script_steps.specs.Transitions.{Closes, Opens, Play, Reachable, happen, happens, open_running}
+use Rattle.protocol_runs.proofs.Changes.{moment_scene}
+use Rattle.protocol_runs.proofs.Entries.{always, in_commit, reverted_now, sees, take_all, tells_so}
+use Rattle.protocol_runs.proofs.EveryRun.{own_front}
+use Rattle.protocol_runs.specs.Runs.{IsOpening}
 use Rattle.retries.proofs.First.{computed, none_sent}
 use Rattle.retries.specs.Operation.{Follows, run}
 use Rattle.retries.specs.Worn.{first_worn}
@@ -64,7 +64,7 @@ use Rattle.std.specs.Option.{option_map}
 use Rattle.s3_types.specs.Store as store
 use Rattle.job_model.specs.declared.events.Op.TheVariants as ops
 use Rattle.job_model.specs.declared.ends.CommitEnd.TheVariants as commits
-use Rattle.job_model.specs.declared.ends.Stage.TheVariants as stages
+use Rattle.job_model.specs.declared.ends.FaultStage.TheVariants as stages
 use Rattle.job_model.specs.declared.ends.OpEnd.TheVariants as ends
 
 -- ---- simple facts

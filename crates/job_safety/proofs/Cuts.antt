@@ -2,7 +2,7 @@
 use Rattle.job_outcomes.proofs.EventRows.{all_since, none_before}
 use Rattle.job_spec.specs.States.{same_actor}
 use Rattle.job_spec.specs.Turns.{AllBy, AllFrom, AllUpTo, before, by_actor, since}
-use Rattle.job_steps.proofs.Parts.{before_all, from_part, since_none, up_to_part}
+use Rattle.script_steps.proofs.Parts.{before_all, from_part, since_none, up_to_part}
 use Rattle.s3_types.specs.Moment.{after_all, moment}
 use Rattle.s3_types.specs.Store.{Content}
 use Rattle.s3_types.specs.declared.journal.Entry.{Entry}

@@ -1,5 +1,5 @@
 -- Until the driver's set-up is over, all of the job's entries are the driver's: no attempt has begun before.
-use Rattle.basics.proofs.Members.{none_some}
+use Rattle.text_and_lists.proofs.Members.{none_some}
 use Rattle.job_model.specs.JobScript.{Script}
 use Rattle.job_model.specs.Legal.{IsLegal}
 use Rattle.job_model.specs.declared.ends.ActorEnd.{ActorEnd}
@@ -17,15 +17,15 @@ use Rattle.job_protocol.specs.Operations.{Operation, Running, Setting, over}
 use Rattle.job_safety.proofs.Sorts.{OfSetup, kind, over_kind}
 use Rattle.job_spec.specs.States.{Past, ended, is_new, needs_set, open_event, put, refusal}
 use Rattle.job_spec.specs.Turns.{AllBy, is_memory, is_own, own}
-use Rattle.job_steps.proofs.Actors.{put_here, put_other, same_or_not}
-use Rattle.job_steps.proofs.Parts.{get_last, own_own}
-use Rattle.job_steps.proofs.Running.{carried}
-use Rattle.job_steps.proofs.RunningStages.{DriverAt, IsBehind, begins_so, driver_ends, may_end, memory_dies}
-use Rattle.job_steps.proofs.Told.{told_all}
-use Rattle.job_steps.specs.Running.{operation_of}
-use Rattle.job_steps.specs.Transitions.{Closes, Finishes, MayFinish, MaySend, Opens, Play, Reachable, Refuses, Sends, Strays, happens}
-use Rattle.job_steps.specs.Transitions.{nothing_happened, open_running}
-use Rattle.job_traces.specs.Runs.{IsOpening}
+use Rattle.script_steps.proofs.Actors.{put_here, put_other, same_or_not}
+use Rattle.script_steps.proofs.Parts.{get_last, own_own}
+use Rattle.script_steps.proofs.Running.{carried}
+use Rattle.script_steps.proofs.RunningStages.{DriverAt, IsBehind, begins_so, driver_ends, may_end, memory_dies}
+use Rattle.script_steps.proofs.Told.{told_all}
+use Rattle.script_steps.specs.Running.{operation_of}
+use Rattle.script_steps.specs.Transitions.{Closes, Finishes, MayFinish, MaySend, Opens, Play, Reachable, Refuses, Sends, Strays, happens}
+use Rattle.script_steps.specs.Transitions.{nothing_happened, open_running}
+use Rattle.protocol_runs.specs.Runs.{IsOpening}
 use Rattle.s3_types.specs.Store.{Content}
 use Rattle.s3_types.specs.declared.journal.Entry.{Entry}
 use Rattle.s3_types.specs.declared.request.Actor.{Actor}

@@ -1,5 +1,5 @@
 -- An operation that ended in an event of a run, in the state right before that event was over.
-use Rattle.basics.proofs.Members.{none_some, some_is}
+use Rattle.text_and_lists.proofs.Members.{none_some, some_is}
 use Rattle.job_model.specs.JobScript.{Script}
 use Rattle.job_model.specs.declared.ends.ActorEnd.{ActorEnd}
 use Rattle.job_model.specs.declared.ends.EventEnd.{EventEnd}
@@ -13,12 +13,12 @@ use Rattle.job_spec.specs.Entries.{AreOwn}
 use Rattle.job_spec.specs.Follows.{known_then}
 use Rattle.job_spec.specs.States.{Doing, after_event, count, is_refused, past, same_actor, told}
 use Rattle.job_spec.specs.Turns.{AllFrom, AllUpTo, by_actor, is_memory, is_own, own, since, until}
-use Rattle.job_steps.proofs.Parts.{take_whole, until_all}
-use Rattle.job_steps.proofs.PastMore.{after_is, turns_refused}
-use Rattle.job_steps.proofs.RunningStages.{memory_or}
-use Rattle.job_steps.proofs.Told.{told_all}
-use Rattle.job_steps.specs.Running.{Ahead}
-use Rattle.job_steps.specs.Transitions.{Play, Reachable}
+use Rattle.script_steps.proofs.Parts.{take_whole, until_all}
+use Rattle.script_steps.proofs.PastMore.{after_is, turns_refused}
+use Rattle.script_steps.proofs.RunningStages.{memory_or}
+use Rattle.script_steps.proofs.Told.{told_all}
+use Rattle.script_steps.specs.Running.{Ahead}
+use Rattle.script_steps.specs.Transitions.{Play, Reachable}
 use Rattle.retries.specs.Operation.{Follows, run}
 use Rattle.s3_types.specs.Store.{Content}
 use Rattle.s3_types.specs.declared.journal.Entry.{Entry}

@@ -1,8 +1,8 @@
 -- The facts of one job hold of what happened in its run, at each moment from the end of its set-up on.
-use Rattle.basics.proofs.Bools.{not_so}
-use Rattle.basics.proofs.Members.{false_true}
-use Rattle.job_facts.specs.Facts.{Hold}
-use Rattle.job_facts.specs.Told.{Told, nothing_told, strange_entry, tell_all}
+use Rattle.text_and_lists.proofs.Bools.{not_so}
+use Rattle.text_and_lists.proofs.Members.{false_true}
+use Rattle.job_invariant.specs.Facts.{Hold}
+use Rattle.job_invariant.specs.Told.{Told, nothing_told, strange_entry, tell_all}
 use Rattle.job_model.specs.JobScript.{Script}
 use Rattle.job_model.specs.Legal.{IsLegal}
 use Rattle.job_model.specs.declared.ends.EventEnd.{EventEnd}
@@ -17,20 +17,20 @@ use Rattle.job_model.specs.declared.states.Life.TheVariants.{Busy}
 use Rattle.job_protocol.specs.Operations.{Running, Setting, over}
 use Rattle.job_protocol.specs.Seen.{Seen, nothing_seen, see_all}
 use Rattle.job_safety.proofs.Ending.{ahead_none}
-use Rattle.job_safety.specs.Laws.{RunsHoldFacts}
+use Rattle.job_safety.specs.RunsKeep.{RunsHoldFacts}
 use Rattle.job_spec.specs.States.{Past, clean_event, dead, ended, is_new, open_event, past, put, restarted, stage_begun, times}
 use Rattle.job_spec.specs.Turns.{is_memory, until}
-use Rattle.job_steps.proofs.Parts.{until_all, up_to_more}
-use Rattle.job_steps.proofs.Running.{carried, closed_ahead, finished_ahead, is_run, not_refused, opened_ahead, refused_ahead, sent_ahead}
-use Rattle.job_steps.proofs.Running.{strayed_ahead}
-use Rattle.job_steps.proofs.RunningAlong.{actor_ends, busy_at}
-use Rattle.job_steps.proofs.RunningStages.{may_end, memory_dies, restarted_new}
-use Rattle.job_steps.proofs.Told.{told_all}
-use Rattle.job_steps.specs.Running.{Ahead}
-use Rattle.job_steps.specs.Transitions.{Closes, Finishes, MayFinish, Opens, Play, Reachable, Refuses, Sends, Strays, happen, happens}
-use Rattle.job_steps.specs.Transitions.{nothing_happened}
-use Rattle.job_traces.proofs.Entries.{late_now, sees, take_all, tells_so}
-use Rattle.job_traces.specs.Runs.{IsOpening}
+use Rattle.script_steps.proofs.Parts.{until_all, up_to_more}
+use Rattle.script_steps.proofs.Running.{carried, closed_ahead, finished_ahead, is_run, not_refused, opened_ahead, refused_ahead, sent_ahead}
+use Rattle.script_steps.proofs.Running.{strayed_ahead}
+use Rattle.script_steps.proofs.RunningAlong.{actor_ends, busy_at}
+use Rattle.script_steps.proofs.RunningStages.{may_end, memory_dies, restarted_new}
+use Rattle.script_steps.proofs.Told.{told_all}
+use Rattle.script_steps.specs.Running.{Ahead}
+use Rattle.script_steps.specs.Transitions.{Closes, Finishes, MayFinish, Opens, Play, Reachable, Refuses, Sends, Strays, happen, happens}
+use Rattle.script_steps.specs.Transitions.{nothing_happened}
+use Rattle.protocol_runs.proofs.Entries.{late_now, sees, take_all, tells_so}
+use Rattle.protocol_runs.specs.Runs.{IsOpening}
 use Rattle.s3_types.specs.Store.{Content}
 use Rattle.s3_types.specs.declared.journal.Entry.{Entry}
 use Rattle.s3_types.specs.declared.request.Actor.{Actor}

@@ -1,6 +1,6 @@
 -- The past of a run: how an event came to its end, how an operation began, and what came later.
-use Rattle.basics.proofs.Members.{false_true, none_some, some_is}
-use Rattle.job_facts.specs.Told.{strange_entry}
+use Rattle.text_and_lists.proofs.Members.{false_true, none_some, some_is}
+use Rattle.job_invariant.specs.Told.{strange_entry}
 use Rattle.job_model.specs.declared.ends.EventEnd.{EventEnd}
 use Rattle.job_model.specs.declared.ends.EventEnd.TheVariants.{Refused}
 use Rattle.job_model.specs.declared.events.Event.{Event}
@@ -9,13 +9,13 @@ use Rattle.job_model.specs.declared.events.Op.{Op}
 use Rattle.job_protocol.specs.Operations.{Running, Setting, start_of}
 use Rattle.job_spec.specs.States.{Doing, Past, is_refused, open_event, put, reports}
 use Rattle.job_spec.specs.Turns.{AllFrom, own}
-use Rattle.job_steps.proofs.Actors.{put_here, put_other, same_or_not}
-use Rattle.job_steps.proofs.Parts.{from_last, from_own, get_last, own_own}
-use Rattle.job_steps.proofs.Running.{closed_ahead, finished_ahead, not_refused, opened_ahead, refused_ahead, sent_ahead, strayed_ahead}
-use Rattle.job_steps.proofs.Told.{told_all}
-use Rattle.job_steps.specs.Running.{Ahead}
-use Rattle.job_steps.specs.Transitions.{Closes, Enabled, Finishes, MayClose, MayOpen, MaySend, MayStray, Opens, Play, Reachable, Refuses}
-use Rattle.job_steps.specs.Transitions.{Sends, Strays, Transition, begun, happen, happens, knows_now, nothing_happened, open_running}
+use Rattle.script_steps.proofs.Actors.{put_here, put_other, same_or_not}
+use Rattle.script_steps.proofs.Parts.{from_last, from_own, get_last, own_own}
+use Rattle.script_steps.proofs.Running.{closed_ahead, finished_ahead, not_refused, opened_ahead, refused_ahead, sent_ahead, strayed_ahead}
+use Rattle.script_steps.proofs.Told.{told_all}
+use Rattle.script_steps.specs.Running.{Ahead}
+use Rattle.script_steps.specs.Transitions.{Closes, Enabled, Finishes, MayClose, MayOpen, MaySend, MayStray, Opens, Play, Reachable, Refuses}
+use Rattle.script_steps.specs.Transitions.{Sends, Strays, Transition, begun, happen, happens, knows_now, nothing_happened, open_running}
 use Rattle.s3_types.specs.Store.{Content}
 use Rattle.s3_types.specs.declared.journal.Entry.{Entry}
 use Rattle.s3_types.specs.declared.journal.Outcome.{Outcome}

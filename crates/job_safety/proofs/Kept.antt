@@ -6,13 +6,13 @@ use Rattle.job_safety.proofs.Commits.{commits_among, commits_kept}
 use Rattle.job_safety.proofs.Ending.{ahead_none}
 use Rattle.job_safety.proofs.Setups.{setups_among, setups_kept}
 use Rattle.job_safety.proofs.Tasks.{publishes_kept, tasks_kept}
-use Rattle.job_safety.specs.Laws.{RunsAreKept, RunsAreKeptAmong}
+use Rattle.job_safety.specs.RunsKeep.{RunsAreKept, RunsAreKeptAmong}
 use Rattle.job_spec.specs.Follows.{Plays}
 use Rattle.job_spec.specs.States.{times}
-use Rattle.job_steps.proofs.Played.{happenings_play}
-use Rattle.job_steps.proofs.Running.{is_run}
-use Rattle.job_traces.proofs.Changes.{runs_outside, runs_rename}
-use Rattle.job_traces.proofs.Entries.{always}
+use Rattle.script_steps.proofs.Played.{happenings_play}
+use Rattle.script_steps.proofs.Running.{is_run}
+use Rattle.protocol_runs.proofs.Changes.{runs_outside, runs_rename}
+use Rattle.protocol_runs.proofs.Entries.{always}
 use Rattle.std.proofs.Common.{ap, false, subst, sym, ℕ, ◌∙◌}
 
 -- A setting with this least size of a part.

@@ -12,16 +12,16 @@ use Rattle.job_safety.proofs.Ending.{Ending, ending}
 use Rattle.job_safety.proofs.Sorts.{driver_setup, kind_run, memory_setup, over_kind}
 use Rattle.job_safety.proofs.Spans.{honest, mine, scene_is, start}
 use Rattle.job_safety.proofs.Strange.{own_all}
-use Rattle.job_safety.specs.Laws.{SetupsEndAmong}
+use Rattle.job_safety.specs.RunsKeep.{SetupsEndAmong}
 use Rattle.job_spec.specs.Entries.{AreOwn}
 use Rattle.job_spec.specs.Follows.{known_then}
 use Rattle.job_spec.specs.OperationEnds.{SetupIs}
 use Rattle.job_spec.specs.Promise.{SetupsEnd}
 use Rattle.job_spec.specs.States.{Doing, is_new}
 use Rattle.job_spec.specs.Turns.{AllBy, before, by_actor}
-use Rattle.job_steps.specs.Transitions.{Play, Reachable}
-use Rattle.job_traces.proofs.EveryRun.{own_front}
-use Rattle.job_traces.specs.Runs.{IsOpening}
+use Rattle.script_steps.specs.Transitions.{Play, Reachable}
+use Rattle.protocol_runs.proofs.EveryRun.{own_front}
+use Rattle.protocol_runs.specs.Runs.{IsOpening}
 use Rattle.retries.specs.Operation.{Follows, run}
 use Rattle.retries.specs.Retries.{Retried, fresh}
 use Rattle.retries.specs.Worn.{WornFirst}

@@ -1,5 +1,5 @@
 -- The kind of an operation, from its beginning to its end.
-use Rattle.basics.proofs.Options.{end_of}
+use Rattle.text_and_lists.proofs.Options.{end_of}
 use Rattle.job_model.specs.Attempts.{Who}
 use Rattle.job_model.specs.Known.{Known}
 use Rattle.job_model.specs.declared.ends.CheckEnd.{CheckEnd}

@@ -7,9 +7,9 @@ use Rattle.job_safety.proofs.Ending.{Ending}
 use Rattle.job_safety.proofs.History.{Began, began}
 use Rattle.job_spec.specs.States.{Doing}
 use Rattle.job_spec.specs.Turns.{AllFrom, AllUpTo, before, by_actor, since}
-use Rattle.job_steps.proofs.Told.{told_all}
-use Rattle.job_steps.specs.Transitions.{Play}
-use Rattle.job_traces.proofs.Changes.{after_parts}
+use Rattle.script_steps.proofs.Told.{told_all}
+use Rattle.script_steps.specs.Transitions.{Play}
+use Rattle.protocol_runs.proofs.Changes.{after_parts}
 use Rattle.s3_types.specs.Moment.{AreHonest, after_all, moment}
 use Rattle.s3_types.specs.Store.{Content}
 use Rattle.s3_types.specs.declared.journal.Entry.{Entry}

@@ -1,13 +1,13 @@
 -- Entries of strangers between the events of a run: no actor of the job sent them, and they say nothing of the job.
-use Rattle.basics.proofs.Members.{false_true}
+use Rattle.text_and_lists.proofs.Members.{false_true}
 use Rattle.job_model.specs.JobScript.{Script}
 use Rattle.job_outcomes.proofs.RunEntries.{last_other}
 use Rattle.job_protocol.specs.Seen.{Seen, Times, see, see_all}
 use Rattle.job_spec.specs.Entries.{AreOwn}
 use Rattle.job_spec.specs.States.{same_actor}
 use Rattle.job_spec.specs.Turns.{AllBy, AllFrom, by_actor, is_own, own, until, until_last}
-use Rattle.job_steps.proofs.Actors.{same_false}
-use Rattle.job_traces.proofs.Plain.{entry_picks}
+use Rattle.script_steps.proofs.Actors.{same_false}
+use Rattle.protocol_runs.proofs.Plain.{entry_picks}
 use Rattle.s3_types.specs.declared.journal.Entry.{Entry}
 use Rattle.s3_types.specs.declared.request.Actor.{Actor}
 use Rattle.s3_types.specs.declared.request.Actor.TheVariants.{Driver}

@@ -1,6 +1,6 @@
 -- How attempts' operations end in a run, and that a commit that is done has published.
-use Rattle.basics.proofs.Members.{false_true, none_some, some_is}
-use Rattle.job_facts.proofs.Whose.{attempt}
+use Rattle.text_and_lists.proofs.Members.{false_true, none_some, some_is}
+use Rattle.job_invariant.proofs.Whose.{attempt}
 use Rattle.job_model.specs.Attempts.{Who}
 use Rattle.job_model.specs.Known.{Known}
 use Rattle.job_model.specs.Legal.{IsLegal}
@@ -17,17 +17,17 @@ use Rattle.job_safety.proofs.Ending.{Ending, ahead_none, ending, journal_until, 
 use Rattle.job_safety.proofs.Sorts.{memory_task}
 use Rattle.job_safety.proofs.Spans.{known_is}
 use Rattle.job_safety.proofs.Strange.{strange_last}
-use Rattle.job_safety.specs.Laws.{PublishesAmong, TasksEndAmong}
+use Rattle.job_safety.specs.RunsKeep.{PublishesAmong, TasksEndAmong}
 use Rattle.job_spec.specs.Ends.{has_cleaned}
 use Rattle.job_spec.specs.Follows.{known_then}
 use Rattle.job_spec.specs.OperationEnds.{TaskIs, WasPublished}
 use Rattle.job_spec.specs.Promise.{setting}
 use Rattle.job_spec.specs.States.{Doing, clean_event, times}
 use Rattle.job_spec.specs.Turns.{by_actor, until, until_last}
-use Rattle.job_steps.proofs.Running.{is_run}
-use Rattle.job_steps.specs.Running.{IsRun, operation_of}
-use Rattle.job_steps.specs.Transitions.{Closes, Play, Reachable, happen, happens}
-use Rattle.job_traces.specs.Runs.{IsOpening}
+use Rattle.script_steps.proofs.Running.{is_run}
+use Rattle.script_steps.specs.Running.{IsRun, operation_of}
+use Rattle.script_steps.specs.Transitions.{Closes, Play, Reachable, happen, happens}
+use Rattle.protocol_runs.specs.Runs.{IsOpening}
 use Rattle.retries.specs.Operation.{run}
 use Rattle.retries.specs.Worn.{WornFirst}
 use Rattle.s3_types.specs.Store.{Content}

@@ -1,6 +1,6 @@
 -- At the end of an event in which an operation of the driver ended: the run then, the event in which the commit began, and what the journal
 -- shows.
-use Rattle.job_facts.specs.Told.{Told, nothing_told}
+use Rattle.job_invariant.specs.Told.{Told, nothing_told}
 use Rattle.job_model.specs.JobScript.{Script}
 use Rattle.job_model.specs.Legal.{IsLegal}
 use Rattle.job_model.specs.declared.ends.OpEnd.{OpEnd}
@@ -21,15 +21,15 @@ use Rattle.job_spec.specs.Ends.{has_cleaned}
 use Rattle.job_spec.specs.Promise.{seen_until}
 use Rattle.job_spec.specs.States.{Doing, driver_may, refusal, reports, times}
 use Rattle.job_spec.specs.Turns.{since, until}
-use Rattle.job_steps.proofs.Running.{carried, closed_ahead, is_run, not_refused, number, opened_ahead}
-use Rattle.job_steps.proofs.RunningNumbers.{begun_at}
-use Rattle.job_steps.proofs.RunningStages.{Begins, Begun, IsSettingUp, IsTimed, begins_so, may_commit_job, timed_setting}
-use Rattle.job_steps.proofs.Told.{told_all}
-use Rattle.job_steps.specs.Running.{Ahead, IsRun, operation_of}
-use Rattle.job_steps.specs.Transitions.{Closes, MayOpen, Opens, Play, Reachable, happen, happens, open_running}
-use Rattle.job_traces.proofs.Entries.{in_commit, sees, tells_so}
-use Rattle.job_traces.proofs.Learnt.{cleaned_is}
-use Rattle.job_traces.specs.Runs.{IsOpening, is_just_set}
+use Rattle.script_steps.proofs.Running.{carried, closed_ahead, is_run, not_refused, number, opened_ahead}
+use Rattle.script_steps.proofs.RunningNumbers.{begun_at}
+use Rattle.script_steps.proofs.RunningStages.{Begins, Begun, IsSettingUp, IsTimed, begins_so, may_commit_job, timed_setting}
+use Rattle.script_steps.proofs.Told.{told_all}
+use Rattle.script_steps.specs.Running.{Ahead, IsRun, operation_of}
+use Rattle.script_steps.specs.Transitions.{Closes, MayOpen, Opens, Play, Reachable, happen, happens, open_running}
+use Rattle.protocol_runs.proofs.Entries.{in_commit, sees, tells_so}
+use Rattle.protocol_runs.proofs.Learnt.{cleaned_is}
+use Rattle.protocol_runs.specs.Runs.{IsOpening, is_just_set}
 use Rattle.s3_types.specs.Store.{Content}
 use Rattle.s3_types.specs.declared.journal.Entry.{Entry}
 use Rattle.s3_types.specs.declared.request.Actor.TheVariants.{Driver}

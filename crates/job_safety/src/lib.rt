@@ -11,10 +11,10 @@
 //!   what it may.
 //! - `kept`: all that is promised of a job alone at its destination holds. What readers see is
 //!   promised if no stranger sent anything.
-//! - `facts`: from the end of a set-up on, the facts of `job_facts` hold.
+//! - `facts`: from the end of a set-up on, the facts of `job_invariant` hold.
 #![tactic(auto)]
 
-ghost use Rattle.job_safety.specs.Laws.{RunsAreKeptAmong, RunsAreKept, RunsHoldFacts};
+ghost use Rattle.job_safety.specs.RunsKeep.{RunsAreKeptAmong, RunsAreKept, RunsHoldFacts};
 
 /// What is promised of a job's run, at each point between two events.
 pub fn runs()

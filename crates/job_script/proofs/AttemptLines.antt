@@ -1,10 +1,10 @@
 -- The lines of attempts and their files. Reading a printed line gives its attempt or file, and what is read keeps the bounds.
-use Rattle.basics.proofs.Lists.{one_longer}
-use Rattle.basics.proofs.Reading.{needed, parted}
-use Rattle.basics.proofs.Round.{number_in-decimal, two_numbers}
-use Rattle.basics.specs.Parts.{parts_of}
-use Rattle.basics.specs.Reading.{check, need, ◌>>=◌}
-use Rattle.basics.specs.Shapes.{two_and_more}
+use Rattle.text_and_lists.proofs.Lists.{one_longer}
+use Rattle.text_and_lists.proofs.Reading.{needed, parted}
+use Rattle.text_and_lists.proofs.Round.{number_in-decimal, two_numbers}
+use Rattle.text_and_lists.specs.Parts.{parts_of}
+use Rattle.text_and_lists.specs.Reading.{check, need, ◌>>=◌}
+use Rattle.text_and_lists.specs.Shapes.{two_and_more}
 use Rattle.job_model.specs.Attempts.{Declared, declares, last_files, with_file}
 use Rattle.job_model.specs.Files.{File, has_path}
 use Rattle.job_model.specs.Legal.{AreAttempts, AreFiles, IsFile, IsScriptWord, bytes_in, bytes_of, files_in}

@@ -1,14 +1,14 @@
 -- Reading the text of a destination gives the destination, and a path that is read keeps the bounds.
-use Rattle.basics.proofs.Bools.{not_so}
-use Rattle.basics.proofs.Cuts.{no_return}
-use Rattle.basics.proofs.Lists.{weaker}
-use Rattle.basics.proofs.Pieces.{join_parts}
-use Rattle.basics.proofs.Reading.{needed, parted, passed, same_ok}
-use Rattle.basics.proofs.Split.{part_from}
-use Rattle.basics.specs.Lines.{without_return}
-use Rattle.basics.specs.Parts.{is_other, parts_of}
-use Rattle.basics.specs.Reading.{need}
-use Rattle.basics.specs.Words.{is_bare}
+use Rattle.text_and_lists.proofs.Bools.{not_so}
+use Rattle.text_and_lists.proofs.Cuts.{no_return}
+use Rattle.text_and_lists.proofs.Lists.{weaker}
+use Rattle.text_and_lists.proofs.Pieces.{join_parts}
+use Rattle.text_and_lists.proofs.Reading.{needed, parted, passed, same_ok}
+use Rattle.text_and_lists.proofs.Split.{part_from}
+use Rattle.text_and_lists.specs.Lines.{without_return}
+use Rattle.text_and_lists.specs.Parts.{is_other, parts_of}
+use Rattle.text_and_lists.specs.Reading.{need}
+use Rattle.text_and_lists.specs.Words.{is_bare}
 use Rattle.job_model.specs.Legal.{IsDest, IsScriptWord}
 use Rattle.job_model.specs.Paths.{is_dest_key}
 use Rattle.job_script.proofs.Lines.{IsLast}

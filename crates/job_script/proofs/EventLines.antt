@@ -1,11 +1,11 @@
 -- The lines of events. Reading a printed line gives its event, and what is read keeps the bounds.
-use Rattle.basics.proofs.Bools.{contrary}
-use Rattle.basics.proofs.Reading.{checked, made_so, needed, parted, same_ok}
-use Rattle.basics.proofs.Round.{number_in-decimal, two_numbers}
-use Rattle.basics.proofs.Split.{lone_from}
-use Rattle.basics.specs.Parts.{parts_of}
-use Rattle.basics.specs.Reading.{check, need, ◌>>=◌}
-use Rattle.basics.specs.Shapes.{one, two}
+use Rattle.text_and_lists.proofs.Bools.{contrary}
+use Rattle.text_and_lists.proofs.Reading.{checked, made_so, needed, parted, same_ok}
+use Rattle.text_and_lists.proofs.Round.{number_in-decimal, two_numbers}
+use Rattle.text_and_lists.proofs.Split.{lone_from}
+use Rattle.text_and_lists.specs.Parts.{parts_of}
+use Rattle.text_and_lists.specs.Reading.{check, need, ◌>>=◌}
+use Rattle.text_and_lists.specs.Shapes.{one, two}
 use Rattle.job_model.specs.Attempts.{Declared, actor_of, declares, is_known, same_name}
 use Rattle.job_model.specs.Files.{File}
 use Rattle.job_model.specs.Legal.{AreAttempts, AreEvents, HasOp, IsEvent}

@@ -1,7 +1,7 @@
 -- The bytes of a file. Reading printed bytes gives the bytes, and the contents that are read are bytes.
-use Rattle.basics.proofs.Reading.{needed}
-use Rattle.basics.specs.Shapes.{text}
-use Rattle.basics.specs.Words.{joined}
+use Rattle.text_and_lists.proofs.Reading.{needed}
+use Rattle.text_and_lists.specs.Shapes.{text}
+use Rattle.text_and_lists.specs.Words.{joined}
 use Rattle.hex.proofs.HexLemmas.{decode_of-encode_lower, decode_of-ok}
 use Rattle.hex.specs.Hex.{IsBytes, decode_of, encode_lower, encode_with, lower_digits}
 use Rattle.hex.specs.declared.error.FromHexError.{FromHexError}

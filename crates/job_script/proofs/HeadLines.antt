@@ -1,9 +1,9 @@
 -- The lines of a script's head that give one value. Reading a printed line gives its value, and what is read keeps the bounds.
-use Rattle.basics.proofs.Naturals.{positive}
-use Rattle.basics.proofs.Reading.{checked, needed, parted, same_ok}
-use Rattle.basics.proofs.Round.{number_in-decimal}
-use Rattle.basics.specs.Reading.{check, need}
-use Rattle.basics.specs.Shapes.{one}
+use Rattle.text_and_lists.proofs.Naturals.{positive}
+use Rattle.text_and_lists.proofs.Reading.{checked, needed, parted, same_ok}
+use Rattle.text_and_lists.proofs.Round.{number_in-decimal}
+use Rattle.text_and_lists.specs.Reading.{check, need}
+use Rattle.text_and_lists.specs.Shapes.{one}
 use Rattle.job_model.specs.Attempts.{Declared}
 use Rattle.job_model.specs.JobScript.{Script}
 use Rattle.job_model.specs.Legal.{AreFates, IsDest, IsLegal, IsScriptWord, bytes_in, files_in}

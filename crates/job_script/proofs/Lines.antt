@@ -1,9 +1,9 @@
 -- Reading the lines of a printed text, one after another.
-use Rattle.basics.proofs.Lists.{one_byte}
-use Rattle.basics.proofs.Round.{AreLines, bare-joined, kept_end, lines_again}
-use Rattle.basics.specs.Lines.{lines_of, without_return}
-use Rattle.basics.specs.Reading.{◌>>=◌}
-use Rattle.basics.specs.Words.{IsBare, ended, joined, text_of}
+use Rattle.text_and_lists.proofs.Lists.{one_byte}
+use Rattle.text_and_lists.proofs.Round.{AreLines, bare-joined, kept_end, lines_again}
+use Rattle.text_and_lists.specs.Lines.{lines_of, without_return}
+use Rattle.text_and_lists.specs.Reading.{◌>>=◌}
+use Rattle.text_and_lists.specs.Words.{IsBare, ended, joined, text_of}
 use Rattle.job_model.specs.Legal.{IsScriptWord}
 use Rattle.job_script.proofs.Words.{is_letter, is_lettered, literal_word, plain_word}
 use Rattle.job_script.specs.Kinds.{Line}

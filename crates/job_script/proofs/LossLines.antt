@@ -1,14 +1,14 @@
 -- The lines of sends that have a fate. Reading a printed line gives its fate, and what is read keeps the bounds.
-use Rattle.basics.proofs.Bools.{contrary}
-use Rattle.basics.proofs.EntriesFrom.{AreAbove, all_entries_from, entries_from, entry_from, find_head, find_other, no_entry_from, not_found}
-use Rattle.basics.proofs.EntriesFrom.{other_key}
-use Rattle.basics.proofs.Naturals.{less_is}
-use Rattle.basics.proofs.Options.{none_is}
-use Rattle.basics.proofs.Reading.{parted, same_ok}
-use Rattle.basics.proofs.Round.{number_in-decimal}
-use Rattle.basics.proofs.Tree.{map_sorted}
-use Rattle.basics.specs.Reading.{check, need, ◌>>=◌}
-use Rattle.basics.specs.Words.{ended, text_of}
+use Rattle.text_and_lists.proofs.Bools.{contrary}
+use Rattle.text_and_lists.proofs.EntriesFrom.{AreAbove, all_entries_from, entries_from, entry_from, find_head, find_other, no_entry_from, not_found}
+use Rattle.text_and_lists.proofs.EntriesFrom.{other_key}
+use Rattle.text_and_lists.proofs.Naturals.{less_is}
+use Rattle.text_and_lists.proofs.Options.{none_is}
+use Rattle.text_and_lists.proofs.Reading.{parted, same_ok}
+use Rattle.text_and_lists.proofs.Round.{number_in-decimal}
+use Rattle.text_and_lists.proofs.Tree.{map_sorted}
+use Rattle.text_and_lists.specs.Reading.{check, need, ◌>>=◌}
+use Rattle.text_and_lists.specs.Words.{ended, text_of}
 use Rattle.job_model.specs.Legal.{AreFates}
 use Rattle.job_script.proofs.HeadLines.{Holds, IsName, IsSoundHead, headed}
 use Rattle.job_script.proofs.Lines.{Goes, IsPrinted, goes_nowhere, goes_on, goes_through, printed, said}

@@ -1,6 +1,6 @@
 -- Lines that are written one after another.
-use Rattle.basics.proofs.Lists.{both_written}
-use Rattle.basics.specs.Words.{ended, text_of}
+use Rattle.text_and_lists.proofs.Lists.{both_written}
+use Rattle.text_and_lists.specs.Words.{ended, text_of}
 use Rattle.job_model.specs.JobScript.{Script}
 use Rattle.job_model.specs.declared.events.Event.{Event}
 use Rattle.job_script.specs.HeadLines.{head_lines, head_order, loss_lines, row_lines, value_lines}

@@ -1,10 +1,10 @@
 -- The whole script. Reading its printed text gives the script, and a script that is read keeps the bounds.
-use Rattle.basics.proofs.Lists.{one_longer}
-use Rattle.basics.proofs.Reading.{needed, parted, same_ok}
-use Rattle.basics.proofs.Split.{none_left}
-use Rattle.basics.specs.Lines.{is_inside, lines_from, lines_of}
-use Rattle.basics.specs.Reading.{need}
-use Rattle.basics.specs.Words.{text_of, words_of}
+use Rattle.text_and_lists.proofs.Lists.{one_longer}
+use Rattle.text_and_lists.proofs.Reading.{needed, parted, same_ok}
+use Rattle.text_and_lists.proofs.Split.{none_left}
+use Rattle.text_and_lists.specs.Lines.{is_inside, lines_from, lines_of}
+use Rattle.text_and_lists.specs.Reading.{need}
+use Rattle.text_and_lists.specs.Words.{text_of, words_of}
 use Rattle.job_model.specs.Attempts.{Declared}
 use Rattle.job_model.specs.JobScript.{Script}
 use Rattle.job_model.specs.Legal.{AreAttempts, AreEvents, AreFates, FitsMagic, IsLegal, IsScriptWord}

@@ -1,8 +1,8 @@
 -- The lines of attempts and files.
-use Rattle.basics.specs.Numbers.{number_in}
-use Rattle.basics.specs.Parts.{parts_of}
-use Rattle.basics.specs.Reading.{check, need, ◌>>=◌}
-use Rattle.basics.specs.Shapes.{one, two, two_and_more}
+use Rattle.text_and_lists.specs.Numbers.{number_in}
+use Rattle.text_and_lists.specs.Parts.{parts_of}
+use Rattle.text_and_lists.specs.Reading.{check, need, ◌>>=◌}
+use Rattle.text_and_lists.specs.Shapes.{one, two, two_and_more}
 use Rattle.job_model.specs.Attempts.{declares, last_files, with_file}
 use Rattle.job_model.specs.Files.{has_path}
 use Rattle.job_model.specs.Paths.{is_hidden, is_path}

@@ -1,7 +1,7 @@
 -- The bytes of a file.
-use Rattle.basics.specs.Numbers.{number_in}
-use Rattle.basics.specs.Reading.{need, ◌>>=◌}
-use Rattle.basics.specs.Shapes.{one, text, two}
+use Rattle.text_and_lists.specs.Numbers.{number_in}
+use Rattle.text_and_lists.specs.Reading.{need, ◌>>=◌}
+use Rattle.text_and_lists.specs.Shapes.{one, text, two}
 use Rattle.hex.specs.Hex.{decode_of}
 use Rattle.job_script.specs.declared.fault.ScriptFault.{ScriptFault}
 use Rattle.job_script.specs.declared.fault.ScriptFault.TheVariants.{BadLine, BadNumber}

@@ -1,7 +1,7 @@
 -- The lines of events.
-use Rattle.basics.specs.Numbers.{number_in}
-use Rattle.basics.specs.Reading.{check, need, ◌>>=◌}
-use Rattle.basics.specs.Shapes.{one, two}
+use Rattle.text_and_lists.specs.Numbers.{number_in}
+use Rattle.text_and_lists.specs.Reading.{check, need, ◌>>=◌}
+use Rattle.text_and_lists.specs.Shapes.{one, two}
 use Rattle.job_model.specs.Attempts.{actor_of, declares, is_known}
 use Rattle.job_model.specs.declared.events.Event.{Event}
 use Rattle.job_model.specs.declared.events.Op.{Op}

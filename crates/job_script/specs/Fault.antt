@@ -3,7 +3,7 @@ use Rattle.job_script.specs.declared.fault.ScriptFault.{ScriptFault}
 use Rattle.job_script.specs.declared.fault.ScriptFault.TheVariants.{BadLine, BadNumber, BadPath, DestIsRoot, HiddenPath, MissingHead}
 use Rattle.job_script.specs.declared.fault.ScriptFault.TheVariants.{NoMemory, NotUtf8, RepeatedName, TooLarge, UnknownActor, UnknownWord}
 use Rattle.std.specs.Prelude.{Bool, Result, false, true, ℕ, ⊤}
-use Rattle.basics.specs.Reading as reading
+use Rattle.text_and_lists.specs.Reading as reading
 
 -- The number of a fault.
 abbrev pub number_of : ScriptFault → ℕ

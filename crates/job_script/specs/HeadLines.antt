@@ -1,7 +1,7 @@
 -- The lines of a script's head: how they are read, one after another, and how they are printed.
-use Rattle.basics.specs.Numbers.{number_in}
-use Rattle.basics.specs.Reading.{check, free, need, ◌>>=◌}
-use Rattle.basics.specs.Shapes.{at_most_one, one, two_and_more}
+use Rattle.text_and_lists.specs.Numbers.{number_in}
+use Rattle.text_and_lists.specs.Reading.{check, free, need, ◌>>=◌}
+use Rattle.text_and_lists.specs.Shapes.{at_most_one, one, two_and_more}
 use Rattle.job_model.specs.JobScript.{Script}
 use Rattle.job_model.specs.Paths.{is_dest_key}
 use Rattle.job_script.specs.Kinds.{Line, Names, answer_word, answers, committers, fate_word, fates, mode_word, modes, named}

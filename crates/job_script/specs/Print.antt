@@ -1,5 +1,5 @@
 -- The text of a script as it is printed.
-use Rattle.basics.specs.Words.{text_of}
+use Rattle.text_and_lists.specs.Words.{text_of}
 use Rattle.hex.specs.Hex.{encode_lower}
 use Rattle.job_model.specs.Attempts.{Declared}
 use Rattle.job_model.specs.Files.{File}

@@ -1,7 +1,7 @@
 -- The script that bytes mean.
-use Rattle.basics.specs.Lines.{lines_of}
-use Rattle.basics.specs.Reading.{check, need, ◌>>=◌}
-use Rattle.basics.specs.Words.{words_of}
+use Rattle.text_and_lists.specs.Lines.{lines_of}
+use Rattle.text_and_lists.specs.Reading.{check, need, ◌>>=◌}
+use Rattle.text_and_lists.specs.Words.{words_of}
 use Rattle.job_model.specs.JobScript.{Script}
 use Rattle.job_script.specs.AttemptLines.{attempt_at, file_at}
 use Rattle.job_script.specs.EventLines.{event_line_at}

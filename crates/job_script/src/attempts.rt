@@ -1,5 +1,5 @@
 ghost use Rattle.std.specs.Prelude.{◌≡◌, option_map};
-ghost use Rattle.basics.specs.Words.{words_after};
+ghost use Rattle.text_and_lists.specs.Words.{words_after};
 ghost use Rattle.job_script.specs.Fault.{Gives, Makes};
 ghost use Rattle.job_script.specs.AttemptLines as lines;
 ghost use Rattle.std.specs.Option.{option_or};
@@ -9,10 +9,10 @@ use crate::draft::Draft;
 use crate::fault::ScriptFault;
 use crate::head::one_word;
 use crate::paths::{is_hidden, is_path};
-use basics::{number_within, two_and_more, two_parts};
 use job_model::AttemptName;
 use s3_types::{MOST_SCRIPT_BYTES, Text};
 use std::alloc::Global;
+use text_and_lists::{number_within, two_and_more, two_parts};
 
 /// The attempt of a word T.A: its task is 0 to 999, its number 0 to 99.
 #[tactic(auto, unfolding(crate::specs::AttemptLines::name_at))]

@@ -1,16 +1,16 @@
 ghost use Rattle.std.specs.Prelude.{option_map};
-ghost use Rattle.basics.specs.Reading.{GivesBy, need};
-ghost use Rattle.basics.specs.Words.{words_after};
+ghost use Rattle.text_and_lists.specs.Reading.{GivesBy, need};
+ghost use Rattle.text_and_lists.specs.Words.{words_after};
 ghost use Rattle.job_script.specs.Fault.{Gives, wanting};
 ghost use Rattle.job_script.specs.Content as content;
 ghost use Rattle.job_script.specs.declared.fault.ScriptFault.TheVariants.{BadLine};
 
 use crate::fault::ScriptFault;
 use crate::head::one_word;
-use basics::{number_within, text, two};
 use hex::FromHexError;
 use s3_types::{Bytes, MOST_SCRIPT_BYTES};
 use std::alloc::Global;
+use text_and_lists::{number_within, text, two};
 
 /// The bytes of a word of hex digits, two at least; `-` means none.
 fn hex_bytes(alloc: Global, line: u64, digits: &str) -> Result<Vec<u8>, ScriptFault>

@@ -1,5 +1,5 @@
 ghost use Rattle.std.specs.Prelude.{◌≡◌, option_map};
-ghost use Rattle.basics.specs.Words.{words_after};
+ghost use Rattle.text_and_lists.specs.Words.{words_after};
 ghost use Rattle.job_model.specs.Attempts.{is_known};
 ghost use Rattle.job_script.specs.Fault.{Gives, Makes};
 ghost use Rattle.job_script.specs.EventLines as lines;
@@ -9,9 +9,9 @@ use crate::draft::Draft;
 use crate::fault::ScriptFault;
 use crate::head::{number, one_word};
 use crate::kinds::{EventWord, attempt_op, driver_op};
-use basics::{number_within, two};
 use job_model::{AttemptName, Attempts, Event, Op};
 use s3_types::Actor;
+use text_and_lists::{number_within, two};
 
 fn is_driver(word: &str) -> bool
     ensures { result ≡ lines.is_driver word.now }

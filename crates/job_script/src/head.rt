@@ -1,9 +1,9 @@
 ghost use Rattle.std.specs.Prelude.{◌≡◌, ◌≤◌, ◌++◌, Some, Ok, codes, option_map, string_bytes, IfOk, IfErr, OnOk};
 ghost use Rattle.std.specs.Fmt.{decimal};
 ghost use Rattle.std.specs.List.{list_all};
-ghost use Rattle.basics.specs.Reading.{Fails, GivesBy, need};
-ghost use Rattle.basics.specs.Shapes.{one};
-ghost use Rattle.basics.specs.Words.{text_of, words_after};
+ghost use Rattle.text_and_lists.specs.Reading.{Fails, GivesBy, need};
+ghost use Rattle.text_and_lists.specs.Shapes.{one};
+ghost use Rattle.text_and_lists.specs.Words.{text_of, words_after};
 ghost use Rattle.path_keys.specs.Paths.{path_in};
 ghost use Rattle.s3_types.specs.Names.{is_id_byte, is_job_id};
 ghost use Rattle.job_model.specs.JobScript.{Script};
@@ -21,12 +21,12 @@ use crate::kinds::{answer_of, mode_of};
 use crate::paths::is_dest_key;
 use crate::print_losses::put_losses;
 use crate::print_words::{answer_word, mode_word};
-use basics::{number_within, one};
 use job_model::Script;
 use path_keys::{PathFault, S3Path};
 use pending_json::{committer_of, committer_word};
 use s3_types::{Committer, Fates, MOST_SCRIPT_BYTES, Mode, Text, let_go};
 use std::alloc::{AllocError, Global};
+use text_and_lists::{number_within, one};
 
 /// The values of a script's head that are chosen from words or numbers.
 #[derive(Clone, Copy)]

@@ -1,5 +1,5 @@
 ghost use Rattle.std.specs.Prelude.{◌≡◌, ◌+◌, ◌≤◌, false, option_map, IfOk, IfSome};
-ghost use Rattle.basics.specs.Words.{words_after};
+ghost use Rattle.text_and_lists.specs.Words.{words_after};
 ghost use Rattle.s3_types.specs.Fates.{is_answer, with_fates};
 ghost use Rattle.job_script.specs.Fault.{Gives, Makes};
 ghost use Rattle.job_script.specs.HeadLines as lines;
@@ -8,8 +8,8 @@ use crate::draft::Loss;
 use crate::fault::ScriptFault;
 use crate::head::Head;
 use crate::kinds::fate_of;
-use basics::{at_most_one, number_within, two_and_more};
 use s3_types::{FateFault, Fates};
+use text_and_lists::{at_most_one, number_within, two_and_more};
 
 /// COUNT, or 1 if it is absent.
 fn count_of(word: Option<&str>) -> Option<u64>

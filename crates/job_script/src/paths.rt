@@ -1,9 +1,9 @@
 ghost use Rattle.std.specs.Prelude.{◌≡◌};
 ghost use Rattle.std.specs.List.{list_all, list_any};
-ghost use Rattle.basics.specs.Parts.{parts_of};
+ghost use Rattle.text_and_lists.specs.Parts.{parts_of};
 ghost use Rattle.job_model.specs.Paths as paths;
 
-use basics::next_part;
+use text_and_lists::next_part;
 
 fn are_full(path: &[u8]) -> bool
     ensures { result ≡ list_all paths.is_full (parts_of 47 path.now) }

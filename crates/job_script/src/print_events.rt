@@ -1,5 +1,5 @@
 ghost use Rattle.std.specs.Prelude.{◌≡◌, ◌++◌, map, string_bytes, OnOk};
-ghost use Rattle.basics.specs.Words.{ended, text_of};
+ghost use Rattle.text_and_lists.specs.Words.{ended, text_of};
 ghost use Rattle.job_script.specs.Print.{event_line};
 
 use job_model::Event;

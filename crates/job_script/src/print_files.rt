@@ -1,6 +1,6 @@
 ghost use Rattle.std.specs.Prelude.{◌≡◌, ◌++◌, ◌∷◌, [], map, codes, string_bytes, OnOk, IfOk};
 ghost use Rattle.std.specs.List.{flat_map};
-ghost use Rattle.basics.specs.Words.{ended, text_of};
+ghost use Rattle.text_and_lists.specs.Words.{ended, text_of};
 ghost use Rattle.s3_types.specs.declared.request.Actor.TheVariants.{Attempt};
 ghost use Rattle.s3_types.specs.Spelling.{actor_text};
 ghost use Rattle.job_script.specs.Print.{hex_word, file_line, attempt_lines};

@@ -1,5 +1,5 @@
 ghost use Rattle.std.specs.Prelude.{◌≡◌, ◌++◌, string_bytes, OnOk};
-ghost use Rattle.basics.specs.Words.{ended, text_of};
+ghost use Rattle.text_and_lists.specs.Words.{ended, text_of};
 ghost use Rattle.job_model.specs.Legal.{AreFates};
 ghost use Rattle.job_script.specs.HeadLines.{loss_line, loss_lines};
 

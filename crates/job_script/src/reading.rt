@@ -1,7 +1,7 @@
 ghost use Rattle.std.specs.Prelude.{◌≡◌, ◌≤◌, length, option_map, is_some, IfSome, IfOk, Ok};
 ghost use Rattle.std.specs.Str.{is_utf8};
-ghost use Rattle.basics.specs.Lines.{lines_of};
-ghost use Rattle.basics.specs.Words.{words_after};
+ghost use Rattle.text_and_lists.specs.Lines.{lines_of};
+ghost use Rattle.text_and_lists.specs.Words.{words_after};
 ghost use Rattle.job_model.specs.JobScript.{Script};
 ghost use Rattle.job_script.specs.Fault.{Gives, Makes};
 ghost use Rattle.job_script.specs.Script as script;
@@ -13,10 +13,10 @@ use crate::fault::ScriptFault;
 use crate::head::{complete, head_line, no_head};
 use crate::kinds::{Kind, enters, kind_of};
 use crate::loss::loss_line;
-use basics::{next_field, next_line};
 use job_model::{Attempts, EventList, Script};
 use s3_types::{MOST_SCRIPT_BYTES, let_go};
 use std::alloc::Global;
+use text_and_lists::{next_field, next_line};
 
 fn nothing(alloc: Global) -> Draft
     ensures { result ≡ script.nothing 10000 }

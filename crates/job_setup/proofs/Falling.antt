@@ -6,11 +6,11 @@ use Rattle.job_protocol.specs.Conflicts.{checks_all}
 use Rattle.job_protocol.specs.Setup.{Checking, Clearing, Heading, Setup, SetupOver, Sweeping, checked, checked_by, cleared, first_shown}
 use Rattle.job_protocol.specs.Setup.{headed, if_bucket, lacks_bucket, setup_asks, setup_hears, sweeping}
 use Rattle.job_setup.specs.Fits.{FitsSetup}
-use Rattle.job_setup.specs.Laws.{SetupsEnd}
+use Rattle.job_setup.specs.SetupsEnd.{SetupsEnd}
 use Rattle.job_setup.specs.Left.{cleared_left, left_at}
 use Rattle.list_walk.proofs.Counting.{one_most}
 use Rattle.list_walk.proofs.Falling.{sweep_laws, walk_laws}
-use Rattle.list_walk.specs.Laws.{LessWalk}
+use Rattle.list_walk.specs.WalksEnd.{LessWalk}
 use Rattle.list_walk.specs.Left.{adds_key, left_of, one_if, walk_left}
 use Rattle.list_walk.specs.Walks.{More, Walked, Whole, all_go, keys_on, page_after, sweep_asks, sweep_hears, sweep_start, walked}
 use Rattle.s3_types.specs.Answer.{answer, apply}

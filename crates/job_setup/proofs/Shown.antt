@@ -1,7 +1,7 @@
 -- The first file of a destination on a page.
-use Rattle.basics.proofs.Lists.{some_length}
-use Rattle.basics.proofs.Naturals.{at_most_is}
-use Rattle.basics.specs.Parts.{parts_of}
+use Rattle.text_and_lists.proofs.Lists.{some_length}
+use Rattle.text_and_lists.proofs.Naturals.{at_most_is}
+use Rattle.text_and_lists.specs.Parts.{parts_of}
 use Rattle.job_model.specs.JobScript.{Script}
 use Rattle.job_model.specs.Jobs.{Job}
 use Rattle.job_model.specs.Paths.{is_reserved}

@@ -2,5 +2,5 @@ pub mod Files
 pub mod Held
 pub mod Fits
 pub mod Left
-pub mod Laws
+pub mod SetupsEnd
 pub mod AskingLaws

@@ -1,4 +1,4 @@
-ghost use Rattle.job_setup.specs.Laws.{SetupsEnd};
+ghost use Rattle.job_setup.specs.SetupsEnd.{SetupsEnd};
 
 /// Bounds the replies and exhausted requests that a set-up has left while other actors send too.
 pub fn set_ups_end()

@@ -16,13 +16,13 @@
 #![tactic(auto)]
 
 mod files;
-mod held;
 mod laws;
 mod requests;
 mod setting;
+mod setup_state;
 
 pub use files::first_shown;
-pub use held::checks_all;
 pub use laws::set_ups_end;
 pub use requests::page_request;
 pub use setting::{SettingUp, SetupJob};
+pub use setup_state::checks_all;

@@ -5,9 +5,9 @@ ghost use Rattle.job_setup.specs.Fits.{FitsDriving, standing};
 ghost use Rattle.job_setup.specs.Left.{setup_left};
 ghost use Rattle.job_setup.specs.AskingLaws.{setup_laws};
 
-use crate::held::{Held, Stage};
+use crate::setup_state::{SetupStage, SetupState};
 use job_model::{JobPlan, SetupEnd};
-use machine::{Asked, Asking, Asks};
+use machine::{Asked, PlannedMachine, PlannedOperation};
 use s3_types::{Reply, Request, let_go};
 use std::alloc::{AllocError, Global};
 use std::marker::Model;
@@ -19,7 +19,7 @@ use std::marker::Model;
 #[derive(Drop)]
 pub struct SettingUp {
     plan: JobPlan,
-    held: Held,
+    held: SetupState,
 }
 
 impl Model for SettingUp {
@@ -38,9 +38,9 @@ impl Model for SettingUp {
 /// - NoSuchBucket if the bucket does not exist;
 /// - Conflict and the first path on a page at which readers see a file;
 /// - StoreFault exactly if a request exhausted its retries.
-pub type SetupJob = Asking<SettingUp>;
+pub type SetupJob = PlannedMachine<SettingUp>;
 
-impl Asks for SettingUp {
+impl PlannedOperation for SettingUp {
     type Plan = JobPlan;
 
     type End = SetupEnd;
@@ -68,7 +68,7 @@ impl Asks for SettingUp {
     fn begin(alloc: Global, plan: JobPlan) -> Result<SettingUp, AllocError> {
         Ok(SettingUp {
             plan,
-            held: Held::new(alloc),
+            held: SetupState::new(alloc),
         })
     }
 
@@ -102,7 +102,7 @@ impl Asks for SettingUp {
 
     fn end(&self) -> Option<&SetupEnd> {
         match self.held.stage {
-            Stage::Over => Some(&self.held.end),
+            SetupStage::Over => Some(&self.held.end),
             _ => None,
         }
     }

@@ -1,10 +1,10 @@
 -- What the claim of a script says of its files is what the job's picks want and what the conflict mode keeps.
-use Rattle.basics.proofs.Members.{false_true, in_append, in_back, in_front, in_map, map_in, none_or_some, none_some, same_or_not, some_is}
-use Rattle.basics.proofs.Members.{text_is, true_or_false}
-use Rattle.basics.specs.Members.{IsIn}
-use Rattle.basics.specs.Order.{text_eq}
+use Rattle.text_and_lists.proofs.Members.{false_true, in_append, in_back, in_front, in_map, map_in, none_or_some, none_some, same_or_not, some_is}
+use Rattle.text_and_lists.proofs.Members.{text_is, true_or_false}
+use Rattle.text_and_lists.specs.Members.{IsIn}
+use Rattle.text_and_lists.specs.Order.{text_eq}
 use Rattle.conflict.proofs.Rising.{from_ordered, in_ordered}
-use Rattle.job_facts.proofs.Wanted.{in_wanted, wanted_in}
+use Rattle.job_invariant.proofs.Wanted.{in_wanted, wanted_in}
 use Rattle.job_model.specs.Attempts.{Declared, declares, same_name}
 use Rattle.job_model.specs.Files.{File}
 use Rattle.job_model.specs.JobScript.{Script}

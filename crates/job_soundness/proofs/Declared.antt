@@ -1,7 +1,7 @@
 -- Each attempt that the job's commit has chosen is one that the script declares.
-use Rattle.basics.proofs.Members.{false_true, in_append, none_some}
-use Rattle.basics.specs.Members.{IsIn}
-use Rattle.job_facts.specs.Told.{strange_entry}
+use Rattle.text_and_lists.proofs.Members.{false_true, in_append, none_some}
+use Rattle.text_and_lists.specs.Members.{IsIn}
+use Rattle.job_invariant.specs.Told.{strange_entry}
 use Rattle.job_model.specs.Attempts.{Declared, declares, is_known}
 use Rattle.job_model.specs.JobScript.{Script}
 use Rattle.job_model.specs.Legal.{IsEvent, IsLegal}
@@ -14,11 +14,11 @@ use Rattle.job_protocol.specs.Seen.{Seen, Times, nothing_seen, see, see_all}
 use Rattle.job_soundness.proofs.Claimed.{AreDeclared}
 use Rattle.job_spec.specs.States.{Past, dead, end_op, ended, idle, open_event, put, restarted}
 use Rattle.job_spec.specs.Turns.{is_busy, is_own}
-use Rattle.job_steps.proofs.Actors.{one_put}
-use Rattle.job_steps.proofs.PastMore.{busy_so, ended_idle, event_at}
-use Rattle.job_steps.proofs.Told.{told_all}
-use Rattle.job_steps.specs.Transitions.{Closes, Enabled, Finishes, Opens, Play, Reachable, Refuses, Sends, Strays, Transition, happen}
-use Rattle.job_steps.specs.Transitions.{happens, nothing_happened}
+use Rattle.script_steps.proofs.Actors.{one_put}
+use Rattle.script_steps.proofs.PastMore.{busy_so, ended_idle, event_at}
+use Rattle.script_steps.proofs.Told.{told_all}
+use Rattle.script_steps.specs.Transitions.{Closes, Enabled, Finishes, Opens, Play, Reachable, Refuses, Sends, Strays, Transition, happen}
+use Rattle.script_steps.specs.Transitions.{happens, nothing_happened}
 use Rattle.s3_types.specs.Store.{Content}
 use Rattle.s3_types.specs.declared.journal.Entry.{Entry}
 use Rattle.s3_types.specs.declared.request.Actor.{Actor}

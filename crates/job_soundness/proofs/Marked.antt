@@ -1,23 +1,23 @@
 -- Once the job's commit has begun, no success marker exists unless the job has put it: its set-up has deleted the old one.
-use Rattle.basics.proofs.Members.{false_true, none_some, same_or_other, some_is, text_gone, text_true, true_or_false}
-use Rattle.job_facts.proofs.Aborting.{taken_in}
-use Rattle.job_facts.proofs.Cleaning.{clean_hides}
-use Rattle.job_facts.proofs.Effects.{abort_keys, deletion_key, deletion_other, other_key}
-use Rattle.job_facts.proofs.FilePaths.{file_path}
-use Rattle.job_facts.proofs.Going.{Each, effect_so, step_asked}
-use Rattle.job_facts.proofs.Held.{nth_of, of_sets}
-use Rattle.job_facts.proofs.Legal.{some_dest}
-use Rattle.job_facts.proofs.Owning.{operation_own}
-use Rattle.job_facts.proofs.SettingUp.{no_success}
-use Rattle.job_facts.proofs.Shapes.{key_after, store_is}
-use Rattle.job_facts.proofs.Sharing.{check_reads, reads_leave, sparing_hides}
-use Rattle.job_facts.proofs.Shows.{HidesAll}
-use Rattle.job_facts.specs.Driver.{FitsSweep}
-use Rattle.job_facts.specs.Emptying.{SetsUp}
-use Rattle.job_facts.specs.Filed.{IsCommit}
-use Rattle.job_facts.specs.FiledLaws.{Commits}
-use Rattle.job_facts.specs.Stores.{at_key}
-use Rattle.job_facts.specs.Told.{Told, driver_entry, entry}
+use Rattle.text_and_lists.proofs.Members.{false_true, none_some, same_or_other, some_is, text_gone, text_true, true_or_false}
+use Rattle.job_invariant.proofs.Aborting.{taken_in}
+use Rattle.job_invariant.proofs.Cleaning.{clean_hides}
+use Rattle.job_invariant.proofs.Effects.{abort_keys, deletion_key, deletion_other, other_key}
+use Rattle.job_invariant.proofs.FilePaths.{file_path}
+use Rattle.job_invariant.proofs.Going.{Each, effect_so, step_asked}
+use Rattle.job_invariant.proofs.Held.{nth_of, of_sets}
+use Rattle.job_invariant.proofs.Legal.{some_dest}
+use Rattle.job_invariant.proofs.Owning.{operation_own}
+use Rattle.job_invariant.proofs.SettingUp.{no_success}
+use Rattle.job_invariant.proofs.Shapes.{key_after, store_is}
+use Rattle.job_invariant.proofs.Sharing.{check_reads, reads_leave, sparing_hides}
+use Rattle.job_invariant.proofs.Shows.{HidesAll}
+use Rattle.job_invariant.specs.Driver.{FitsSweep}
+use Rattle.job_invariant.specs.Emptying.{SetsUp}
+use Rattle.job_invariant.specs.Filed.{IsCommit}
+use Rattle.job_invariant.specs.FiledLaws.{Commits}
+use Rattle.job_invariant.specs.Stores.{at_key}
+use Rattle.job_invariant.specs.Told.{Told, driver_entry, entry}
 use Rattle.job_model.specs.JobScript.{Script}
 use Rattle.job_model.specs.Legal.{IsLegal}
 use Rattle.job_protocol.proofs.Begun.{after_check_so, clean_of_so, commit_of_so}
@@ -31,16 +31,16 @@ use Rattle.job_protocol.specs.Seen.{Seen, Times, is_marking, see, seen}
 use Rattle.job_protocol.specs.Setup.{Checking, Clearing, Heading, Setup, SetupOver, Sweeping, checked, cleared, dest_prefix, headed}
 use Rattle.job_protocol.specs.Setup.{setup_after, setup_asks, setup_hears, sweeping}
 use Rattle.job_spec.specs.Entries.{AreOwn}
-use Rattle.job_traces.proofs.Entries.{front, in_commit, late_now, own_taken, sees}
-use Rattle.job_traces.proofs.EveryRun.{good, own_front, own_last, shown}
-use Rattle.job_traces.proofs.Folds.{each_run}
-use Rattle.job_traces.proofs.Keeping.{attempt_quiet}
-use Rattle.job_traces.proofs.Plain.{one_scene}
-use Rattle.job_traces.proofs.Replacing.{taken_after}
-use Rattle.job_traces.proofs.Running.{At, CommitShows, Shows}
-use Rattle.job_traces.proofs.Steps.{hidden_same}
-use Rattle.job_traces.specs.Runs.{BeginClean, BeginCommit, BeginSetup, Beginning, IsOpening, MayBegin, Runs, Stand, begin, is_just_set}
-use Rattle.job_traces.specs.Runs.{is_set, nothing_learnt}
+use Rattle.protocol_runs.proofs.Entries.{front, in_commit, late_now, own_taken, sees}
+use Rattle.protocol_runs.proofs.EveryRun.{good, own_front, own_last, shown}
+use Rattle.protocol_runs.proofs.Folds.{each_run}
+use Rattle.protocol_runs.proofs.Keeping.{attempt_quiet}
+use Rattle.protocol_runs.proofs.Plain.{one_scene}
+use Rattle.protocol_runs.proofs.Replacing.{taken_after}
+use Rattle.protocol_runs.proofs.Running.{At, CommitShows, Shows}
+use Rattle.protocol_runs.proofs.Steps.{hidden_same}
+use Rattle.protocol_runs.specs.Runs.{BeginClean, BeginCommit, BeginSetup, Beginning, IsOpening, MayBegin, Runs, Stand, begin, is_just_set}
+use Rattle.protocol_runs.specs.Runs.{is_set, nothing_learnt}
 use Rattle.list_walk.specs.Walks.{Deleting, Listing, Sweep, all_go, page_after, sweep_asks, sweep_hears}
 use Rattle.magic_paths.proofs.Tails.{key_magic}
 use Rattle.magic_paths.specs.Layout.{magic_prefix, success_key}

@@ -1,7 +1,7 @@
 -- Every run of a job is sound for readers.
-use Rattle.basics.proofs.Members.{false_true, none_some, true_or_false}
-use Rattle.job_facts.proofs.Wanted.{wanted_of}
-use Rattle.job_facts.specs.Stores.{at_key}
+use Rattle.text_and_lists.proofs.Members.{false_true, none_some, true_or_false}
+use Rattle.job_invariant.proofs.Wanted.{wanted_of}
+use Rattle.job_invariant.specs.Stores.{at_key}
 use Rattle.job_model.specs.JobScript.{Script}
 use Rattle.job_model.specs.Legal.{IsLegal}
 use Rattle.job_protocol.specs.Conflicts.{keeps_of}
@@ -20,11 +20,11 @@ use Rattle.job_soundness.specs.Safe.{PicksExplain, RunsAreSafe, picks_at_end}
 use Rattle.job_spec.specs.Entries.{AreOwn}
 use Rattle.job_spec.specs.Headline.{Kept, Whole as WholeJob, or_else}
 use Rattle.job_spec.specs.States.{times}
-use Rattle.job_steps.proofs.Running.{is_run}
-use Rattle.job_steps.specs.Running.{IsRun}
-use Rattle.job_steps.specs.Transitions.{Play, Reachable}
-use Rattle.job_traces.proofs.Entries.{always, sees, take_all}
-use Rattle.job_traces.specs.Runs.{IsOpening}
+use Rattle.script_steps.proofs.Running.{is_run}
+use Rattle.script_steps.specs.Running.{IsRun}
+use Rattle.script_steps.specs.Transitions.{Play, Reachable}
+use Rattle.protocol_runs.proofs.Entries.{always, sees, take_all}
+use Rattle.protocol_runs.specs.Runs.{IsOpening}
 use Rattle.magic_paths.specs.Layout.{success_key}
 use Rattle.s3_types.specs.Store.{Content}
 use Rattle.s3_types.specs.declared.journal.Entry.{Entry}

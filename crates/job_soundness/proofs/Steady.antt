@@ -1,8 +1,8 @@
 -- Once the job's commit has chosen an attempt of each task, and no two of them write one path, its choice does not change.
-use Rattle.basics.proofs.Members.{false_true, none_some}
-use Rattle.job_facts.proofs.Owning.{operation_own}
-use Rattle.job_facts.proofs.Sharing.{check_plain}
-use Rattle.job_facts.specs.Told.{driver_entry, entry, known, strange_entry}
+use Rattle.text_and_lists.proofs.Members.{false_true, none_some}
+use Rattle.job_invariant.proofs.Owning.{operation_own}
+use Rattle.job_invariant.proofs.Sharing.{check_plain}
+use Rattle.job_invariant.specs.Told.{driver_entry, entry, known, strange_entry}
 use Rattle.job_model.specs.Attempts.{Who}
 use Rattle.job_model.specs.JobScript.{Script}
 use Rattle.job_model.specs.Legal.{IsLegal}
@@ -11,13 +11,13 @@ use Rattle.job_protocol.specs.Operations.{Operation, Setting, TheCheck, TheClean
 use Rattle.job_protocol.specs.Outputs.{is_decided}
 use Rattle.job_protocol.specs.Seen.{Seen, Times, is_begun, is_picking, is_reading, nothing_seen, see, see_all, seen}
 use Rattle.job_protocol.specs.Setup.{Setup}
-use Rattle.job_traces.proofs.Entries.{late_now, sees, take_all}
-use Rattle.job_traces.proofs.EveryRun.{good}
-use Rattle.job_traces.proofs.Folds.{each_run}
-use Rattle.job_traces.proofs.Keeping.{attempt_quiet}
-use Rattle.job_traces.proofs.Plain.{clean_plain, commit_unread, setup_plain}
-use Rattle.job_traces.proofs.Running.{At, Early, Late}
-use Rattle.job_traces.specs.Runs.{IsOpening, IsTimely, Runs, Stand, attempt_sends, driver_sends, is_set, nothing_learnt, strays}
+use Rattle.protocol_runs.proofs.Entries.{late_now, sees, take_all}
+use Rattle.protocol_runs.proofs.EveryRun.{good}
+use Rattle.protocol_runs.proofs.Folds.{each_run}
+use Rattle.protocol_runs.proofs.Keeping.{attempt_quiet}
+use Rattle.protocol_runs.proofs.Plain.{clean_plain, commit_unread, setup_plain}
+use Rattle.protocol_runs.proofs.Running.{At, Early, Late}
+use Rattle.protocol_runs.specs.Runs.{IsOpening, IsTimely, Runs, Stand, attempt_sends, driver_sends, is_set, nothing_learnt, strays}
 use Rattle.retries.specs.Retries.{Retried}
 use Rattle.s3_types.specs.Store.{Content}
 use Rattle.s3_types.specs.declared.journal.Entry.{Entry}

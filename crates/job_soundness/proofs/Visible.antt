@@ -1,9 +1,9 @@
 -- Readers see what `view` shows at visible paths, and a job's files are at such paths.
-use Rattle.basics.proofs.Members.{false_true, true_or_false}
-use Rattle.basics.specs.Members.{IsIn}
-use Rattle.basics.specs.Parts.{parts_from, parts_of}
-use Rattle.job_facts.proofs.FilePaths.{file_path}
-use Rattle.job_facts.proofs.Legal.{from_script, given_of}
+use Rattle.text_and_lists.proofs.Members.{false_true, true_or_false}
+use Rattle.text_and_lists.specs.Members.{IsIn}
+use Rattle.text_and_lists.specs.Parts.{parts_from, parts_of}
+use Rattle.job_invariant.proofs.FilePaths.{file_path}
+use Rattle.job_invariant.proofs.Legal.{from_script, given_of}
 use Rattle.job_model.proofs.Unique.{id_bytes, unique_parts}
 use Rattle.job_model.specs.Attempts.{Who}
 use Rattle.job_model.specs.Files.{File}

@@ -8,8 +8,8 @@ use Rattle.job_protocol.specs.Seen.{seen}
 use Rattle.job_soundness.specs.Claim.{chosen_below, claim_of, moments_to, shown}
 use Rattle.job_spec.specs.Entries.{AreOwn}
 use Rattle.job_spec.specs.States.{times}
-use Rattle.job_steps.specs.Transitions.{Play, Reachable}
-use Rattle.job_traces.specs.Runs.{IsOpening}
+use Rattle.script_steps.specs.Transitions.{Play, Reachable}
+use Rattle.protocol_runs.specs.Runs.{IsOpening}
 use Rattle.s3_types.specs.Store.{Content}
 use Rattle.s3_types.specs.declared.journal.Entry.{Entry}
 use Rattle.soundness.specs.Claims.{Chooses}

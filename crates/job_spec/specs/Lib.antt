@@ -8,4 +8,4 @@ pub mod OperationEnds
 pub mod Promise
 pub mod ReportText
 pub mod Eyes
-pub mod Laws
+pub mod PromiseLaws

@@ -12,7 +12,7 @@
 //! - `verdicts`: If the job's commit has begun, it alone decides the status.
 #![tactic(auto)]
 
-ghost use Rattle.job_spec.specs.Laws.{SeenIsMoment, EyesAreTrue, CommitsComplete, NothingWorn, RestartsAnew, CommitDecides};
+ghost use Rattle.job_spec.specs.PromiseLaws.{SeenIsMoment, EyesAreTrue, CommitsComplete, NothingWorn, RestartsAnew, CommitDecides};
 
 /// The law of the state that a journal shows.
 pub fn folds()

@@ -1,5 +1,5 @@
 -- Lists of different places, and their actors.
-use Rattle.basics.proofs.Members.{none_some, some_is}
+use Rattle.text_and_lists.proofs.Members.{none_some, some_is}
 use Rattle.job_states.specs.Mixes.{AreApart, IsNotIn}
 use Rattle.std.proofs.Common.{List, Some, ap, map, refl, slice_get, suc, sym, zero, ℕ, [], ◌∙◌, ◌∷◌, ◌≡◌}
 use Rattle.std.proofs.lemmas.Option.{slice_get-map}

@@ -1,5 +1,5 @@
 -- Turns of actors that are mixed.
-use Rattle.basics.proofs.Members.{none_some, same_or_not}
+use Rattle.text_and_lists.proofs.Members.{none_some, same_or_not}
 use Rattle.job_model.specs.declared.ends.ActorEnd.{ActorEnd}
 use Rattle.job_model.specs.declared.ends.OpEnd.{OpEnd}
 use Rattle.job_spec.specs.Turns.{Mixing, draw, mix_begins, mix_dies, mix_ends, mix_sends, place}

@@ -1,5 +1,5 @@
 -- Actors at their places.
-use Rattle.basics.proofs.Naturals.{suc_not, suc_same, zero_not}
+use Rattle.text_and_lists.proofs.Naturals.{suc_not, suc_same, zero_not}
 use Rattle.job_model.specs.Attempts.{Declared, Who, actor_of, is_known, same_name}
 use Rattle.job_model.specs.JobScript.{Script}
 use Rattle.job_spec.specs.States.{actors, same_actor}

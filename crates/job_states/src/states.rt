@@ -4,7 +4,7 @@ ghost use Rattle.job_model.specs.Attempts.{is_known};
 ghost use Rattle.job_model.specs.JobScript.{Script};
 ghost use Rattle.job_model.specs.Jobs.{has_task};
 ghost use Rattle.job_model.specs.Legal.{IsEvent};
-ghost use Rattle.commit_laws.specs.Fitting.{least_missing};
+ghost use Rattle.commit_lanes.specs.Fitting.{least_missing};
 ghost use Rattle.job_spec.specs.States.{Past, actors, begin, kill, restart, open_event, actor_named, end_op, end_ops, is_committing, is_done, is_reported, told, count, after_event, nothing_past, past, refuse_op, refuse_begin, refusal, missing, verdict_or};
 ghost use Rattle.job_spec.specs.Turns.{is_busy, busy_actors};
 ghost use Rattle.job_states.specs.Standing.{fresh, unreported_in};

@@ -7,15 +7,15 @@ use Rattle.job_model.specs.declared.events.Event.{Event}
 use Rattle.job_protocol.specs.Operations.{Running, Setting}
 use Rattle.job_safety.proofs.Facts.{runs_hold_facts}
 use Rattle.job_safety.proofs.Kept.{runs_are_kept}
-use Rattle.job_safety.specs.Laws.{FactsHold}
-use Rattle.job_side.proofs.KeptSides.{AreTold, HasPicks, told as told_of}
-use Rattle.job_side.proofs.Moments.{stands_of}
-use Rattle.job_side.proofs.Seen.{foretold_as}
-use Rattle.job_side.specs.Events.{Grown, IsAsBefore, picks_in}
-use Rattle.job_side.specs.Firsts.{IsFirstShared, IsFirstSide}
-use Rattle.job_side.specs.Holds.{AreOf, IsTurn, Quiet, all_sound, is_mine, setting_of}
-use Rattle.job_side.specs.declared.body.Body.{Body}
-use Rattle.job_side.specs.declared.body.Shared.{Shared}
+use Rattle.job_safety.specs.RunsKeep.{FactsHold}
+use Rattle.job_run.proofs.KeptSides.{AreTold, HasPicks, told as told_of}
+use Rattle.job_run.proofs.Moments.{stands_of}
+use Rattle.job_run.proofs.Seen.{foretold_as}
+use Rattle.job_run.specs.Events.{Grown, IsAsBefore, picks_in}
+use Rattle.job_run.specs.Firsts.{IsFirstShared, IsFirstSide}
+use Rattle.job_run.specs.Holds.{AreOf, IsTurn, Quiet, all_sound, is_mine, setting_of}
+use Rattle.job_run.specs.declared.body.Body.{Body}
+use Rattle.job_run.specs.declared.body.Shared.{Shared}
 use Rattle.job_soundness.proofs.Safe.{runs_are_safe}
 use Rattle.job_soundness.specs.Safe.{ReadersSafe}
 use Rattle.job_spec.proofs.Told.{alone}
@@ -24,9 +24,9 @@ use Rattle.job_spec.specs.Eyes.{in_eyes, number_in}
 use Rattle.job_spec.specs.Promise.{Finished, Promised, Sent, all_picks, lacked_memory}
 use Rattle.job_spec.specs.States.{Past, past}
 use Rattle.job_states.specs.Stands.{Stands}
-use Rattle.job_steps.proofs.Played.{happenings_play}
-use Rattle.job_steps.specs.Laws.{IsPlayed}
-use Rattle.job_steps.specs.Transitions.{Play}
+use Rattle.script_steps.proofs.Played.{happenings_play}
+use Rattle.script_steps.specs.StepsPlay.{IsPlayed}
+use Rattle.script_steps.specs.Transitions.{Play}
 use Rattle.job_world.specs.Alone.{IsAlone, Rests}
 use Rattle.job_world.specs.Worlds.{Keeps, Run, WentOn, begun, run_of}
 use Rattle.s3_types.specs.Fates.{fate_at}

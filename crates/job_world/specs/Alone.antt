@@ -2,8 +2,8 @@
 use Rattle.job_model.specs.Known.{Known}
 use Rattle.job_model.specs.declared.ends.Pick.{Pick}
 use Rattle.job_protocol.specs.Operations.{Running, Setting}
-use Rattle.job_side.specs.Holds.{Quiet}
-use Rattle.job_side.specs.declared.body.Body.{Body}
+use Rattle.job_run.specs.Holds.{Quiet}
+use Rattle.job_run.specs.declared.body.Body.{Body}
 use Rattle.job_spec.specs.Entries.{AreOwn}
 use Rattle.s3_types.specs.Fates.{fate_at}
 use Rattle.s3_types.specs.declared.request.Actor.{Actor}

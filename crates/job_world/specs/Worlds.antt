@@ -2,9 +2,9 @@
 use Rattle.job_model.specs.JobScript.{Script}
 use Rattle.job_model.specs.declared.ends.EventEnd.{EventEnd}
 use Rattle.job_model.specs.declared.ends.Pick.{Pick}
-use Rattle.job_safety.specs.Laws.{FactsHold}
-use Rattle.job_side.specs.Events.{picks_in}
-use Rattle.job_side.specs.declared.body.Body.{Body}
+use Rattle.job_safety.specs.RunsKeep.{FactsHold}
+use Rattle.job_run.specs.Events.{picks_in}
+use Rattle.job_run.specs.declared.body.Body.{Body}
 use Rattle.job_soundness.specs.Safe.{ReadersSafe}
 use Rattle.job_spec.specs.Entries.{AreOwn}
 use Rattle.job_spec.specs.Promise.{Promised, Sent, all_picks, lacked_memory}

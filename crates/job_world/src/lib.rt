@@ -12,7 +12,7 @@
 //! - `Promised` and `Sent` hold of the script, the opening content, the journal, the picks and the
 //!   ends so far.
 //! - The picks are all that the job's commit has made, unless the commit ran out of memory.
-//! - From the end of a set-up that is done, the facts of `job_facts` hold after each send.
+//! - From the end of a set-up that is done, the facts of `job_invariant` hold after each send.
 //! - One attempt per task explains all that readers saw.
 //!
 //! `finish` gives `Finished` if every event has its end. `state`, `verdict` and `job_attempt`

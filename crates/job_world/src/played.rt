@@ -1,9 +1,9 @@
 ghost use Rattle.std.specs.Prelude.{◌≡◌, ◌<◌, length, slice_get};
-ghost use Rattle.job_side.specs.Events.{picks_in};
+ghost use Rattle.job_run.specs.Events.{picks_in};
 
 use job_actor::Works;
 use job_model::{EndList, PickList, Script};
-use job_side::{Body, Hand, into_picks};
+use job_run::{Body, Hand, into_picks};
 use s3_service::Service;
 use s3_types::{Journal, Sequence};
 use std::mem;

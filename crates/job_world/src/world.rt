@@ -8,7 +8,7 @@ ghost use Rattle.job_world.specs.Worlds.{MayBegin, begun, Keeps, WentOn, FoundNo
 use crate::played::{Played, left_by};
 use job_actor::Works;
 use job_model::{ActorState, Event, EventEnd, PickList, Script};
-use job_side::{Body, picks_in};
+use job_run::{Body, picks_in};
 use s3_service::Service;
 use s3_types::{Actor, Journal};
 use std::alloc::{AllocError, Global};

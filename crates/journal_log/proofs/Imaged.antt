@@ -1,7 +1,7 @@
 -- What requests leave of a content that can be written as an image.
-use Rattle.basics.proofs.Members.{none_or_some, none_some, some_is, text_exact, text_is, true_or_false}
-use Rattle.basics.proofs.Tree.{entries_empty, tied}
-use Rattle.basics.specs.Order.{text_eq, text_total}
+use Rattle.text_and_lists.proofs.Members.{none_or_some, none_some, some_is, text_exact, text_is, true_or_false}
+use Rattle.text_and_lists.proofs.Tree.{entries_empty, tied}
+use Rattle.text_and_lists.specs.Order.{text_eq, text_total}
 use Rattle.journal_log.proofs.Journals.{changes_append, content_append, folded}
 use Rattle.journal_log.specs.Changes.{changes, content_after}
 use Rattle.journal_log.specs.Made.{IsMade, KeepsImages}

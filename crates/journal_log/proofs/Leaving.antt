@@ -7,7 +7,7 @@ use Rattle.journal_log.specs.Kept.{Holds, HoldsGrownBy, HoldsSome, IsMoment}
 use Rattle.s3_types.specs.Store.{Content}
 use Rattle.s3_types.specs.declared.journal.Entry.{Entry}
 use Rattle.s3_types.specs.declared.request.Request.{Request}
-use Rattle.shelf.specs.Logged.{CrashesLeave, Holding, IsBeforeOrAfter, IsDurable, IsTimed, Sight, Stored, fresh}
+use Rattle.devices.specs.Logged.{CrashesLeave, Holding, IsBeforeOrAfter, IsDurable, IsTimed, Sight, Stored, fresh}
 use Rattle.std.proofs.Common.{List, None, Option, Some, arith, inl, inr, refl, subst, sym, [], ⊎_elim, ◌++◌, ◌∙◌, ◌∷◌, ◌≡◌, ◌⊎◌}
 use Rattle.store_image.specs.Image.{image}
 

@@ -3,11 +3,11 @@ use Rattle.journal_log.proofs.Leaving.{started}
 use Rattle.journal_log.specs.Images.{Counts, NotReplaced, Replaced}
 use Rattle.journal_log.specs.Kept.{Holds}
 use Rattle.s3_types.specs.Store.{Content}
-use Rattle.shelf.specs.Devices.{Rose}
-use Rattle.shelf.specs.Logged.{CrashesLeave, HoldsFresh, IsDurable, IsTimed, Sight, Stored, fresh}
-use Rattle.shelf.specs.Logged.Call.{Replace}
-use Rattle.shelf.specs.declared.kept.ShelfStop.{ShelfStop}
-use Rattle.shelf.specs.declared.kept.ShelfStop.TheVariants.{Failed}
+use Rattle.devices.specs.Devices.{Rose}
+use Rattle.devices.specs.Logged.{CrashesLeave, HoldsFresh, IsDurable, IsTimed, Sight, Stored, fresh}
+use Rattle.devices.specs.Logged.Call.{Replace}
+use Rattle.devices.specs.declared.kept.ShelfStop.{ShelfStop}
+use Rattle.devices.specs.declared.kept.ShelfStop.TheVariants.{Failed}
 use Rattle.std.proofs.Common.{IsErrOf, List, Option, Result, arith, inl, refl, subst, ℕ, [], ◌-◌, ◌<◌, ◌^◌, ◌≡◌, ◌⊎◌}
 use Rattle.store_image.specs.Image.{image}
 

@@ -4,13 +4,13 @@ use Rattle.journal_log.specs.Changes.{Begins, changes, content_after}
 use Rattle.journal_log.specs.Crashes.{IsBetween, IsLast, WhereTold}
 use Rattle.journal_log.specs.Kept.{HasEarlier, Holds, HoldsGrownBy, HoldsPart, HoldsSome, IsMoment, StandsFor, Unfolds, grown_by, kept}
 use Rattle.journal_log.specs.Kept.{last_event}
-use Rattle.log_format.specs.declared.held.Held.{Held}
+use Rattle.log_format.specs.declared.logged_store.LoggedStore.{LoggedStore}
 use Rattle.s3_types.specs.Moment.{after_all, moment}
 use Rattle.s3_types.specs.Store.{Content, opening}
 use Rattle.s3_types.specs.declared.journal.Entry.{Entry}
 use Rattle.s3_types.specs.declared.request.Request.{Request}
-use Rattle.shelf.specs.Logged.{Holding, HoldsGrown, IsDurable, Stored, grown}
-use Rattle.shelf.specs.Logged.Holding.{Stands}
+use Rattle.devices.specs.Logged.{Holding, HoldsGrown, IsDurable, Stored, grown}
+use Rattle.devices.specs.Logged.Holding.{Stands}
 use Rattle.std.proofs.Common.{List, None, Option, Some, ap, append-nil, append_assoc, arith, inl, inr, length, length-append, refl, subst}
 use Rattle.std.proofs.Common.{sym, take, ℕ, [], ◌++◌, ◌<◌, ◌^◌, ◌∙◌, ◌∷◌, ◌≡◌, ◌⊎◌}
 use Rattle.std.proofs.lemmas.List.{take-append-le, take_all}
@@ -97,7 +97,7 @@ last c es (Some s) leaves holds only h left =
     (take_all (length es) es (omega arith)) ∙ sym holds ∙ sym (only h left) in
     inl (subst (λ (x : Holding). StandsFor x (moment c es (length es)).content) all (moments c es (length es)))
 
-pub one : (held : Held) (c d : Content) (a : Unfolds held c) (b : Unfolds held d) → length held.base < 2 ^ 64 → IsContent a.first
+pub one : (held : LoggedStore) (c d : Content) (a : Unfolds held c) (b : Unfolds held d) → length held.base < 2 ^ 64 → IsContent a.first
     → IsContent b.first → c ≡ d
 one held c d a b fits is are =
     let same = images.one held.base a.first b.first fits is are a.is_image b.is_image in

@@ -8,10 +8,10 @@ use Rattle.journal_log.specs.Crashes.{IsBetween}
 use Rattle.journal_log.specs.Kept.{HoldsGrownBy, HoldsSome}
 use Rattle.s3_types.specs.declared.journal.Entry.{Entry}
 use Rattle.s3_types.specs.declared.request.Request.{Request}
-use Rattle.shelf.specs.Logged.{CrashesLeave, HoldsGrown, HoldsOneOf, IsDurable, IsTimed, Sight, told}
-use Rattle.shelf.specs.Logged.Call.{Append, AppendOutOfMemory}
-use Rattle.shelf.specs.declared.kept.ShelfStop.{ShelfStop}
-use Rattle.shelf.specs.declared.kept.ShelfStop.TheVariants.{Failed, NoMemory}
+use Rattle.devices.specs.Logged.{CrashesLeave, HoldsGrown, HoldsOneOf, IsDurable, IsTimed, Sight, told}
+use Rattle.devices.specs.Logged.Call.{Append, AppendOutOfMemory}
+use Rattle.devices.specs.declared.kept.ShelfStop.{ShelfStop}
+use Rattle.devices.specs.declared.kept.ShelfStop.TheVariants.{Failed, NoMemory}
 use Rattle.std.proofs.Common.{IfErr, IsErrOf, List, OnOk, Result, ap, append_assoc, arith, drop, get_or, inl, inr, length, length-drop}
 use Rattle.std.proofs.Common.{refl, subst, sym, take, ℕ, [], ◌++◌, ◌+◌, ◌-◌, ◌<◌, ◌∙◌, ◌∷◌, ◌≡◌}
 use Rattle.std.proofs.lemmas.List.{take-append-drop, take_all, take_more}

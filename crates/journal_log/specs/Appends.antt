@@ -2,10 +2,10 @@
 use Rattle.journal_log.specs.Changes.{Begins}
 use Rattle.journal_log.specs.Kept.{HoldsGrownBy}
 use Rattle.s3_types.specs.declared.request.Request.{Request}
-use Rattle.shelf.specs.Logged.{HoldsOneOf, IsDurable, Sight}
-use Rattle.shelf.specs.Logged.Call.{Append, AppendOutOfMemory, Replace}
-use Rattle.shelf.specs.declared.kept.ShelfStop.{ShelfStop}
-use Rattle.shelf.specs.declared.kept.ShelfStop.TheVariants.{Failed, NoMemory}
+use Rattle.devices.specs.Logged.{HoldsOneOf, IsDurable, Sight}
+use Rattle.devices.specs.Logged.Call.{Append, AppendOutOfMemory, Replace}
+use Rattle.devices.specs.declared.kept.ShelfStop.{ShelfStop}
+use Rattle.devices.specs.declared.kept.ShelfStop.TheVariants.{Failed, NoMemory}
 use Rattle.std.specs.Prelude.{List, [], ◌++◌, ◌∷◌, ◌≡◌, ◌⊎◌}
 
 -- Holds if one append was answered for each of these changes.

@@ -5,8 +5,8 @@ use Rattle.s3_types.specs.Moment.{moment}
 use Rattle.s3_types.specs.Store.{Content}
 use Rattle.s3_types.specs.declared.journal.Entry.{Entry}
 use Rattle.s3_types.specs.declared.request.Request.{Request}
-use Rattle.shelf.specs.Logged.{CrashesLeave, Holding, HoldsGrown, IsBeforeOrAfter, Sight, Stored}
-use Rattle.shelf.specs.Logged.Holding.{Nothing}
+use Rattle.devices.specs.Logged.{CrashesLeave, Holding, HoldsGrown, IsBeforeOrAfter, Sight, Stored}
+use Rattle.devices.specs.Logged.Holding.{Nothing}
 use Rattle.std.specs.Prelude.{List, None, Option, Some, length, ℕ, [], ◌∷◌, ◌≡◌, ◌⊎◌}
 
 -- P, if what is held is known.

@@ -1,10 +1,10 @@
 -- The outcome of replacing what a shelf holds by the image of a store.
 use Rattle.journal_log.specs.Kept.{Holds}
 use Rattle.s3_types.specs.Store.{Content}
-use Rattle.shelf.specs.Logged.{CrashesLeave, IsDurable, Sight, fresh}
-use Rattle.shelf.specs.Logged.Call.{Replace}
-use Rattle.shelf.specs.declared.kept.ShelfStop.{ShelfStop}
-use Rattle.shelf.specs.declared.kept.ShelfStop.TheVariants.{Failed}
+use Rattle.devices.specs.Logged.{CrashesLeave, IsDurable, Sight, fresh}
+use Rattle.devices.specs.Logged.Call.{Replace}
+use Rattle.devices.specs.declared.kept.ShelfStop.{ShelfStop}
+use Rattle.devices.specs.declared.kept.ShelfStop.TheVariants.{Failed}
 use Rattle.std.specs.Prelude.{Err, Result, ℕ, [], ◌<◌, ◌≡◌, ◌⊎◌}
 use Rattle.store_image.specs.Image.{image}
 

@@ -1,12 +1,12 @@
 -- What a shelf stores of a run: the image of its opening content, and changes of its journal.
 use Rattle.journal_log.specs.Changes.{Begins, changes, content_after}
-use Rattle.log_format.specs.declared.held.Held.{Held}
+use Rattle.log_format.specs.declared.logged_store.LoggedStore.{LoggedStore}
 use Rattle.s3_types.specs.Moment.{moment}
 use Rattle.s3_types.specs.Store.{Content}
 use Rattle.s3_types.specs.declared.journal.Entry.{Entry}
 use Rattle.s3_types.specs.declared.request.Request.{Request}
-use Rattle.shelf.specs.Logged.{Holding, Stored, told}
-use Rattle.shelf.specs.Logged.Holding.{BadAt, Nothing, Stands}
+use Rattle.devices.specs.Logged.{Holding, Stored, told}
+use Rattle.devices.specs.Logged.Holding.{BadAt, Nothing, Stands}
 use Rattle.std.specs.Option.{option_map}
 use Rattle.std.specs.Prelude.{List, None, Option, Some, length, ℕ, [], ◌++◌, ◌<◌, ◌∷◌, ◌≡◌, ◌≢◌, ◌≤◌, ◌⊎◌}
 use Rattle.store_image.specs.Image.{image}
@@ -14,7 +14,7 @@ use Rattle.store_image.specs.Image.{image}
 -- ---- what a holding stands for
 
 -- The base is the image of some content, and the changes after it lead from that to this content.
-pub record Unfolds (held : Held) (c : Content) : Type 0 where
+pub record Unfolds (held : LoggedStore) (c : Content) : Type 0 where
   pub first : Content
   pub is_image : held.base ≡ image first
   pub folded : c ≡ content_after first held.changes

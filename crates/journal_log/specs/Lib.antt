@@ -2,6 +2,6 @@ pub mod Changes
 pub mod Made
 pub mod Kept
 pub mod Crashes
-pub mod Laws
+pub mod Recovery
 pub mod Appends
 pub mod Images

@@ -1,14 +1,14 @@
 ghost use Rattle.std.specs.Prelude.{◌≡◌, ◌≤◌, [], ◌∷◌, length, drop, IfErr, OnOk, OnErr, IsErrOf};
-ghost use Rattle.shelf.specs.Devices.{Rose};
-ghost use Rattle.shelf.specs.Logged.{IsDurable, CrashesLeave};
+ghost use Rattle.devices.specs.Devices.{Rose};
+ghost use Rattle.devices.specs.Logged.{IsDurable, CrashesLeave};
 ghost use Rattle.journal_log.specs.Changes.{changes};
 ghost use Rattle.journal_log.specs.Kept.{HoldsGrownBy, HoldsSome};
 ghost use Rattle.journal_log.specs.Crashes.{IsBetween};
 ghost use Rattle.journal_log.specs.Appends.{Appended, AreAnswered, Stopped};
 
 use crate::changing::change_of;
+use devices::kept::{Shelf, ShelfStop};
 use s3_types::{Entry, Journal};
-use shelf::kept::{Shelf, ShelfStop};
 
 /// Appends the change of an entry, if it has one.
 fn append_entry<F: Shelf>(shelf: &mut F, entry: &Entry) -> Result<(), ShelfStop>

@@ -21,7 +21,7 @@
 //!   as an image a journal leads only through such stores, until its counter reaches its limit.
 #![tactic(auto)]
 
-ghost use Rattle.journal_log.specs.Laws.{ChangesFollow, ContentStays, KeptStands, CrashesLeaveMoments, RunsSurvive};
+ghost use Rattle.journal_log.specs.Recovery.{ChangesFollow, ContentStays, KeptStands, CrashesLeaveMoments, RunsSurvive};
 
 mod appends;
 mod changing;
@@ -29,9 +29,9 @@ mod images;
 mod replacing;
 
 pub use appends::append_all;
+use devices::kept::Shelf;
 pub use images::{keeps_images, made};
 pub use replacing::put_image;
-use shelf::kept::Shelf;
 
 /// Proves the laws of a journal's changes.
 pub fn changes()

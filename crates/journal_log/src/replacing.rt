@@ -2,8 +2,8 @@ ghost use Rattle.std.specs.Prelude.{◌≡◌, ◌<◌, ◌-◌, ◌^◌, IfOk, 
 ghost use Rattle.store_image.specs.Image.{image};
 ghost use Rattle.journal_log.specs.Images.{Replaced, NotReplaced, Counts};
 
+use devices::kept::{Shelf, ShelfStop};
 use s3_service::Service;
-use shelf::kept::{Shelf, ShelfStop};
 use std::alloc::{AllocError, Global};
 use store_image::encode;
 

@@ -5,7 +5,7 @@ use Rattle.std.specs.List.{All, Any}
 use Rattle.soundness.specs.Claims.{Apart, Attempts, Chooses, Claim, Files, chosen_at, is_claimed}
 use Rattle.soundness.specs.Moments.{Explains, MayShow, Moment, Shown}
 use Rattle.judging.specs.Judging.{EachTask, StillExplains}
-use Rattle.judging.specs.Laws.{ByTask}
+use Rattle.judging.specs.TaskByTask.{ByTask}
 use Rattle.judging.proofs.Owned.{Right, RightChoice, each_right, either, none_chosen, some_choice}
 
 -- At each of the moments, readers may see what they see at the path if the chosen attempts write `f` there.

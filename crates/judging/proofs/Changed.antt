@@ -12,7 +12,7 @@ use Rattle.std.specs.Str.{bytes_eq}
 use Rattle.soundness.specs.Claims.{Attempts, Claim, Files, file_at, is_claimed, is_kept, is_replaced, writes}
 use Rattle.soundness.specs.Moments.{Fits, MayShow, Moment, Shown, Unchanged, Whole}
 use Rattle.judging.specs.Judging.{AttemptExplains, Begins, DifferAt, OthersFit, StillExplains}
-use Rattle.judging.specs.Laws.{WhereChanged}
+use Rattle.judging.specs.TaskByTask.{WhereChanged}
 use Rattle.judging.proofs.InTurn.{both_of}
 use Rattle.judging.proofs.Owned.{either}
 use Rattle.soundness.specs.declared.marker.Marker.TheVariants as markers

@@ -5,7 +5,7 @@ use Rattle.std.specs.List.{All, Any}
 use Rattle.soundness.specs.Claims.{Attempts, Claim}
 use Rattle.soundness.specs.Moments.{Unchanged, Moment, Shown}
 use Rattle.judging.specs.Judging.{OthersFit, AttemptExplains, StillExplains, Judged, JudgedNext}
-use Rattle.judging.specs.Laws.{InTurn}
+use Rattle.judging.specs.TaskByTask.{InTurn}
 use Rattle.judging.proofs.ByTask.{by_task}
 
 pub both_of : {X : Type 0} (P : X → Type 0) (xs : List X) (x : X) → All P (xs ++ x ∷ []) → All P xs × P x

@@ -12,7 +12,7 @@ use Rattle.std.specs.Prelude.{is_some, nat_eq, slice_get, ◌&&◌, ◌↔◌}
 use Rattle.std.specs.Str.{bytes_eq}
 use Rattle.soundness.specs.Claims.{Apart, Attempts, always_reaches, directory, file_at, is_below, is_claimed, reaches, writes}
 use Rattle.soundness.specs.Claims.{writes_into}
-use Rattle.judging.specs.Laws.{ListedClaims}
+use Rattle.judging.specs.TaskByTask.{ListedClaims}
 use Rattle.judging.specs.Listed.{Listed, ListedBelow, ListedOnce, Numbered, by_task, files_of, numbered, of_task, owner}
 use Rattle.judging.specs.Listed.{writes_among}
 use Rattle.judging.proofs.Owned.{either}

@@ -9,7 +9,7 @@ use Rattle.std.specs.Prelude.{is_some, slice_get}
 use Rattle.soundness.specs.Claims.{Attempts, Claim, file_at, is_claimed, is_kept, writes}
 use Rattle.soundness.specs.Moments.{Fits, MayShow, Moment, Shown, Unchanged}
 use Rattle.judging.specs.Judging.{AttemptExplains, EachTaskNext, JudgedNext, StillExplains}
-use Rattle.judging.specs.Laws.{ReasonsTell}
+use Rattle.judging.specs.TaskByTask.{ReasonsTell}
 use Rattle.judging.specs.Reasons.{AttemptFits, Early, Foreign, Half, Left, Lost, Missing, Stale, Torn}
 use Rattle.judging.proofs.Owned.{either}
 

@@ -1,4 +1,4 @@
 pub mod Judging
 pub mod Reasons
 pub mod Listed
-pub mod Laws
+pub mod TaskByTask

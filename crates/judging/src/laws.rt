@@ -1,4 +1,4 @@
-ghost use Rattle.judging.specs.Laws.{ByTask, InTurn, ListedClaims, OpeningFits, ReasonsTell, WhereChanged};
+ghost use Rattle.judging.specs.TaskByTask.{ByTask, InTurn, ListedClaims, OpeningFits, ReasonsTell, WhereChanged};
 
 /// If readers see the opening files, every choice explains that.
 pub fn opening_fits<I>()

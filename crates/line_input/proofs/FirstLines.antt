@@ -1,5 +1,5 @@
 -- The first line of a text.
-use Rattle.basics.specs.Lines.{unless_empty}
+use Rattle.text_and_lists.specs.Lines.{unless_empty}
 use Rattle.line_input.specs.LinesOf.{behind_line, first_line, lines_from, lines_of}
 use Rattle.std.proofs.Common.{Bool, List, ap, append_assoc, arith, cond, false, length, refl, sym, true, ℕ, [], ◌++◌, ◌+◌, ◌<◌, ◌==◌, ◌∙◌}
 use Rattle.std.proofs.Common.{◌∷◌, ◌≡◌}

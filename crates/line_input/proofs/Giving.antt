@@ -1,6 +1,6 @@
 -- What a call gives of the unread bytes.
-use Rattle.basics.proofs.Bools.{not_so}
-use Rattle.basics.specs.Parts.{is_other}
+use Rattle.text_and_lists.proofs.Bools.{not_so}
+use Rattle.text_and_lists.specs.Parts.{is_other}
 use Rattle.line_input.specs.Buffers.{IsEnd, IsLineEnd, line_at, rest_at}
 use Rattle.line_input.specs.LinesOf.{behind_line, first_line}
 use Rattle.line_input.specs.Reading.{Gives, IsCut, IsWhole, unread}

@@ -1,10 +1,10 @@
 -- The held bytes after more was read, and the first line feed among them.
-use Rattle.basics.proofs.Pieces.{others_from_bytes}
-use Rattle.basics.specs.Parts.{is_other}
+use Rattle.text_and_lists.proofs.Pieces.{others_from_bytes}
+use Rattle.text_and_lists.specs.Parts.{is_other}
 use Rattle.line_input.specs.Buffers.{IsLineEnd}
 use Rattle.line_input.specs.Reading.{IsOver, unread}
 use Rattle.memchr.specs.Find.{IsFirstByte, Nowhere, Passes, is_byte}
-use Rattle.shelf.specs.Devices.{Takes}
+use Rattle.devices.specs.Devices.{Takes}
 use Rattle.std.proofs.Common.{List, None, Option, Some, ap, append_assoc, arith, drop, get_or, inl, inr, length, length-drop, nat_lt, refl}
 use Rattle.std.proofs.Common.{slice_range, subst, suc, sym, take, true, ℕ, [], ◌++◌, ◌+◌, ◌-◌, ◌<◌, ◌∙◌, ◌≡◌, ◌≤◌}
 use Rattle.std.proofs.Math.Seq.{take-add}

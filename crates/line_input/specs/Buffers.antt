@@ -1,7 +1,7 @@
 -- A buffer of bytes that were read, and the end of a line in it.
 use Rattle.std.specs.Prelude.{◌≡◌, ℕ, suc, ◌<◌, ◌≤◌, ◌⊎◌, List, [], Option, Some, None, true, length, take, drop, slice_index, slice_range}
 use Rattle.std.specs.List.{list_all}
-use Rattle.basics.specs.Parts.{is_other}
+use Rattle.text_and_lists.specs.Parts.{is_other}
 use Rattle.line_input.specs.Reading.{IsOver}
 use Rattle.line_input.specs.declared.buffer.Buffer.{Buffer}
 

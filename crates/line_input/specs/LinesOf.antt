@@ -1,6 +1,6 @@
 -- The lines of a text, and its first line.
 use Rattle.std.specs.Prelude.{ℕ, ◌==◌, List, [], ◌∷◌, ◌++◌, if◌then◌else◌}
-use Rattle.basics.specs.Lines.{unless_empty}
+use Rattle.text_and_lists.specs.Lines.{unless_empty}
 
 -- The lines of a text after `line`, the front of the first one. Each line feed ends a line. The bytes after the last one are a line unless
 -- they are empty.

@@ -1,12 +1,12 @@
 ghost use Rattle.std.specs.Prelude.{◌≡◌, Some, None, ◌<◌, ◌≤◌, ◌+◌, ◌-◌, length, take, drop, max, true, IfOk, OnOk, OnErr, IfSome, MatchOption, IsErrOf, slice_range};
 ghost use Rattle.std.specs.List.{list_all};
-ghost use Rattle.basics.specs.Parts.{is_other};
-ghost use Rattle.shelf.specs.Devices.{Rose, Takes};
+ghost use Rattle.text_and_lists.specs.Parts.{is_other};
+ghost use Rattle.devices.specs.Devices.{Rose, Takes};
 ghost use Rattle.line_input.specs.Reading.{unread, IsOver};
 ghost use Rattle.line_input.specs.Buffers.{held_in, IsSound, IsLineEnd, IsEnd, line_at, rest_at};
 
+use devices::{Failed, Source};
 use memchr::memchr;
-use shelf::{Failed, Source};
 use std::alloc::{AllocError, Global};
 
 /// The least number of bytes that is asked of the source at once.

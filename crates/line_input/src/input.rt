@@ -2,7 +2,7 @@ ghost use Rattle.std.specs.Prelude.{◌≡◌, [], ◌<◌, ◌≤◌, ◌+◌, 
 ghost use Rattle.line_input.specs.Reading.{unread, Gives};
 
 use crate::buffer::{Buffer, CHUNK_BYTES, InputFault, find_end, pass_line};
-use shelf::Source;
+use devices::Source;
 use std::alloc::Global;
 use std::marker::Model;
 

@@ -2,8 +2,8 @@
 ghost use Rattle.std.specs.Prelude.{None};
 
 use crate::{InputFault, LineInput};
+use devices::{CallList, Failed, MemSource, Source};
 use s3_types::Bytes;
-use shelf::{CallList, Failed, MemSource, Source};
 use std::alloc::{AllocError, Global};
 use std::test::Fail;
 

@@ -1,6 +1,6 @@
 -- How many entries of a finite map pass a test, before and after one is put in or removed.
-use Rattle.basics.proofs.Members.{none_some}
-use Rattle.basics.proofs.Tree.{entries_empty}
+use Rattle.text_and_lists.proofs.Members.{none_some}
+use Rattle.text_and_lists.proofs.Tree.{entries_empty}
 use Rattle.list_walk.specs.Left.{one_if as one}
 use Rattle.std.proofs.Common.{Bool, List, None, ap, arith, cond, false, length, not, refl, subst, sym, true, ℕ, [], ◌+◌, ◌∙◌, ◌∷◌, ◌≡◌, ◌≤◌}
 use Rattle.std.proofs.lemmas.Map.Lookups.{CmpEqualImpliesEq}

@@ -1,10 +1,10 @@
 -- What walks and sweeps have left falls.
-use Rattle.basics.proofs.Naturals.{below_is}
+use Rattle.text_and_lists.proofs.Naturals.{below_is}
 use Rattle.list_walk.proofs.Growing.{growth}
 use Rattle.list_walk.proofs.Listing.{behind_page, last_append, last_from}
 use Rattle.list_walk.proofs.Uploads.{behind_uploads, refs_append}
 use Rattle.list_walk.specs.Fitting.{FitsPage, FitsSweep, FitsUploads}
-use Rattle.list_walk.specs.Laws.{LessUploads, LessWalk, SweepLaws, UploadLaws, WalkLaws}
+use Rattle.list_walk.specs.WalksEnd.{LessUploads, LessWalk, SweepLaws, UploadLaws, WalkLaws}
 use Rattle.list_walk.specs.Left.{adds_key, count_in, keys_left, left_of, one_if, refs_left, sets_upload, sweep_left, thousands}
 use Rattle.list_walk.specs.Left.{uploads_left, walk_left}
 use Rattle.list_walk.specs.Walks.{Deleting, Listing, Sweep, deleting, keys_on, last_of, last_ref, page_after, sweep_asks, sweep_hears}

@@ -1,10 +1,10 @@
 -- How much one request adds to what is there.
-use Rattle.basics.proofs.Members.{true_or_false}
-use Rattle.basics.proofs.Tree.{entries_empty, tied}
-use Rattle.basics.specs.Order.{text_cmp, text_total}
+use Rattle.text_and_lists.proofs.Members.{true_or_false}
+use Rattle.text_and_lists.proofs.Tree.{entries_empty, tied}
+use Rattle.text_and_lists.specs.Order.{text_cmp, text_total}
 use Rattle.list_walk.proofs.Counting.{count, count_insert, count_remove}
 use Rattle.list_walk.proofs.Listing.{count_mapped, is_left, is_left_ref, listed_count, refs_count}
-use Rattle.list_walk.specs.Laws.{Growth}
+use Rattle.list_walk.specs.WalksEnd.{Growth}
 use Rattle.list_walk.specs.Left.{adds_key, count_in, files_left, in_bucket, one_if, sets_upload}
 use Rattle.s3_types.specs.Answer.{apply, apply_at, apply_in, bucket_of, made, part_put, renamed, without}
 use Rattle.s3_types.specs.Multipart.{is_part_number, ref_of, with_part}

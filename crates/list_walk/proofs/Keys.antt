@@ -1,5 +1,5 @@
 -- Entries that are keys.
-use Rattle.basics.specs.Order.{text_cmp}
+use Rattle.text_and_lists.specs.Order.{text_cmp}
 use Rattle.list_walk.specs.Fitting.{AreKeys}
 use Rattle.list_walk.specs.Walks.{More, Walked, Whole, keys_on, walked, walked_by, walked_entries}
 use Rattle.s3_types.specs.Pages.{begins, entry_of, folded_from, is_again, listed, text_in}

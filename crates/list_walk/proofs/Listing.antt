@@ -1,8 +1,8 @@
 -- How many keys and uploads are listed.
-use Rattle.basics.proofs.Less.{less_of, lt, lt_trans}
-use Rattle.basics.proofs.Members.{true_or_false}
-use Rattle.basics.proofs.Tree.{map_sorted}
-use Rattle.basics.specs.Order.{text_cmp, text_total}
+use Rattle.text_and_lists.proofs.Less.{less_of, lt, lt_trans}
+use Rattle.text_and_lists.proofs.Members.{true_or_false}
+use Rattle.text_and_lists.proofs.Tree.{map_sorted}
+use Rattle.text_and_lists.specs.Order.{text_cmp, text_total}
 use Rattle.list_walk.proofs.Counting.{AreNew, count, count_made, count_more}
 use Rattle.list_walk.specs.Left.{one_if as one}
 use Rattle.list_walk.specs.Walks.{keys_on, last_of}

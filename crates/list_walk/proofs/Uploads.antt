@@ -1,7 +1,7 @@
 -- The live uploads that are left after a page of them.
-use Rattle.basics.proofs.Less.{irrefl, lt, lt_not, lt_trans}
-use Rattle.basics.proofs.Members.{true_or_false}
-use Rattle.basics.proofs.Tree.{map_sorted}
+use Rattle.text_and_lists.proofs.Less.{irrefl, lt, lt_not, lt_trans}
+use Rattle.text_and_lists.proofs.Members.{true_or_false}
+use Rattle.text_and_lists.proofs.Tree.{map_sorted}
 use Rattle.list_walk.proofs.Listing.{refs_total}
 use Rattle.list_walk.specs.Walks.{last_ref}
 use Rattle.s3_types.specs.Multipart.{is_behind, listed, ref_cmp, refs}

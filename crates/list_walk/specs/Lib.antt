@@ -2,4 +2,4 @@ pub mod Walks
 pub mod Fitting
 pub mod Kept
 pub mod Left
-pub mod Laws
+pub mod WalksEnd

@@ -1,4 +1,4 @@
-ghost use Rattle.list_walk.specs.Laws.{Growth, WalkLaws, SweepLaws, UploadLaws};
+ghost use Rattle.list_walk.specs.WalksEnd.{Growth, WalkLaws, SweepLaws, UploadLaws};
 
 /// How much one request adds to the keys, the live uploads and the cluster's files that walks
 /// find.

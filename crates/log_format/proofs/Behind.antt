@@ -1,5 +1,5 @@
 -- A row whose last field is read after its others.
-use Rattle.basics.specs.Reading.{Fails, ◌>>=◌}
+use Rattle.text_and_lists.specs.Reading.{Fails, ◌>>=◌}
 use Rattle.log_format.specs.Fault.{wanting}
 use Rattle.log_format.specs.Reading.{Read, alone, pair_at, paired, row_of}
 use Rattle.log_format.specs.declared.fault.LogFault.{LogFault}

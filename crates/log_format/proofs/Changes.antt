@@ -1,6 +1,6 @@
 -- The change that is read has the bytes as its text, and the text of a change is read as that change.
-use Rattle.basics.proofs.Bytes.{IsBytes, IsReader}
-use Rattle.basics.proofs.Reading.{parted, passed}
+use Rattle.text_and_lists.proofs.Bytes.{IsBytes, IsReader}
+use Rattle.text_and_lists.proofs.Reading.{parted, passed}
 use Rattle.log_format.proofs.Steps.{block_reader, byte_again, byte_takes, counted_reader, long_reader, named_reader, pair_reader}
 use Rattle.log_format.proofs.Steps.{short_reader, text_reader}
 use Rattle.log_format.specs.Change.{AreBoth, AreFew, IsAny, IsBelow, IsBucket, IsChange, IsKey, IsNamed, IsTarget, IsText, IsUpload, header}

@@ -1,7 +1,7 @@
 -- The value that is read of a file is the one that it stands for, and the one that it stands for is read.
-use Rattle.basics.proofs.Bytes.{IsBytes, IsBytes-drop, Takes}
-use Rattle.basics.proofs.Reading.{parted, same_ok}
-use Rattle.basics.specs.Reading.{◌>>=◌}
+use Rattle.text_and_lists.proofs.Bytes.{IsBytes, IsBytes-drop, Takes}
+use Rattle.text_and_lists.proofs.Reading.{parted, same_ok}
+use Rattle.text_and_lists.specs.Reading.{◌>>=◌}
 use Rattle.log_format.proofs.Changes.{change_again, change_takes}
 use Rattle.log_format.proofs.Steps.{block_again, block_takes, byte_again, byte_takes}
 use Rattle.log_format.specs.Change.{IsChange}
@@ -9,7 +9,7 @@ use Rattle.log_format.specs.File.{StandsFor}
 use Rattle.log_format.specs.Log.{block, body, headed, long, magic, opened, record_of}
 use Rattle.log_format.specs.Reading.{block_at, byte_at, change_in, changes_at, held_in, is_log, logged_in, place, record_at}
 use Rattle.log_format.specs.declared.fault.LogFault.{LogFault}
-use Rattle.log_format.specs.declared.held.Held.{Held}
+use Rattle.log_format.specs.declared.logged_store.LoggedStore.{LoggedStore}
 use Rattle.s3_types.specs.declared.request.Request.{Request}
 use Rattle.std.proofs.Common.{Bool, Err, List, Ok, Result, ap, append_assoc, arith, drop, false, if◌then◌else◌, inl, inr, length, refl}
 use Rattle.std.proofs.Common.{subst, suc, sym, take, true, zero, ℕ, [], ◌++◌, ◌<◌, ◌==◌, ◌^◌, ◌∙◌, ◌∷◌, ◌≡◌, ◌≢◌, ◌≤◌}
@@ -150,7 +150,7 @@ all_again rs whole gate behind closed legal fits =
 
 -- ---- files
 
-log_takes : (whole : ℕ) (bytes : List ℕ) (h : Held) → IsBytes bytes → logged_in whole bytes ≡ Ok h
+log_takes : (whole : ℕ) (bytes : List ℕ) (h : LoggedStore) → IsBytes bytes → logged_in whole bytes ≡ Ok h
     → (bytes ≡ block h.base ++ drop (length (block h.base)) bytes) × Ends (drop (length (block h.base)) bytes) h.changes
 unfolding logged_in
 log_takes whole bytes h fits e =
@@ -162,7 +162,7 @@ log_takes whole bytes h fits e =
     (block b.value.0) b.value.1 (length (block b.value.0)) refl in
     let all : (bytes ≡ block b.value.0 ++ drop (length (block b.value.0)) bytes) × Ends (drop (length (block b.value.0)) bytes) x.value =
     (t.parts ∙ ap (λ (y : List ℕ). block b.value.0 ++ y) (sym rest_is), subst (λ (y : List ℕ). Ends y x.value) (sym rest_is) ends) in
-    subst (λ (k : Held). (bytes ≡ block k.base ++ drop (length (block k.base)) bytes) × Ends (drop (length (block k.base)) bytes) k.changes)
+    subst (λ (k : LoggedStore). (bytes ≡ block k.base ++ drop (length (block k.base)) bytes) × Ends (drop (length (block k.base)) bytes) k.changes)
     (same_ok _ h x.next) all
 
 headed_is : (base rest : List ℕ) → headed base ++ rest ≡ magic ++ (block base ++ rest)
@@ -170,7 +170,7 @@ headed_is base rest =
     append_assoc (magic ++ long (length base)) base rest ∙ append_assoc magic (long (length base)) (base ++ rest)
     ∙ ap (λ (t : List ℕ). magic ++ t) (sym (append_assoc (long (length base)) base rest))
 
-log_again : (whole : ℕ) (h : Held) (gate : ℕ) (behind : List ℕ) → gate ≢ 1 → AllByRecursion IsChange h.changes
+log_again : (whole : ℕ) (h : LoggedStore) (gate : ℕ) (behind : List ℕ) → gate ≢ 1 → AllByRecursion IsChange h.changes
     → length (block h.base ++ (opened h.changes ++ gate ∷ behind)) < 2 ^ 64
     → logged_in whole (block h.base ++ (opened h.changes ++ gate ∷ behind)) ≡ Ok h
 unfolding logged_in
@@ -191,7 +191,7 @@ by_log file true f g e = f e
 by_log file false f g e = g e
 
 -- The file stands for what is read.
-pub file_takes : (file : List ℕ) (h : Held) → IsBytes file → held_in file ≡ Ok h → StandsFor file h
+pub file_takes : (file : List ℕ) (h : LoggedStore) → IsBytes file → held_in file ≡ Ok h → StandsFor file h
 unfolding held_in
 file_takes file h fits e = by_log file (is_log file) logged bare refl
   where
@@ -222,7 +222,7 @@ begins_log : (rest : List ℕ) → is_log (magic ++ rest) ≡ true
 begins_log rest = (bytes_eq-Decides (take 8 (magic ++ rest)) magic).1 (take_at magic rest 8 refl)
 
 -- What the file stands for is read.
-pub file_again : (file : List ℕ) (h : Held) → length file < 2 ^ 64 → StandsFor file h → held_in file ≡ Ok h
+pub file_again : (file : List ℕ) (h : LoggedStore) → length file < 2 ^ 64 → StandsFor file h → held_in file ≡ Ok h
 unfolding held_in
 file_again file h fits (inl bare) =
     ap (λ (b : Bool). if b then logged_in (length file) (drop 8 file) else Ok (record { base = file; changes = [] })) bare.other

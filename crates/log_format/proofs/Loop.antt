@@ -1,6 +1,6 @@
 -- One more value of a list that is read or written.
-use Rattle.basics.proofs.Reading.{listed, one_more as next_value, unless_more, unmade, with_front}
-use Rattle.basics.specs.Reading.{Fails, made, ◌>>=◌}
+use Rattle.text_and_lists.proofs.Reading.{listed, one_more as next_value, unless_more, unmade, with_front}
+use Rattle.text_and_lists.specs.Reading.{Fails, made, ◌>>=◌}
 use Rattle.log_format.specs.Fault.{wanting}
 use Rattle.log_format.specs.Reading.{Read, byte_at, changes_at, list_at, place, record_at}
 use Rattle.log_format.specs.declared.fault.LogFault.{LogFault}

@@ -1,6 +1,6 @@
 -- What a call returned, compared with what reading gives.
 use Rattle.std.specs.Prelude.{Bool, true, false, Result}
-use Rattle.basics.specs.Reading as reading
+use Rattle.text_and_lists.specs.Reading as reading
 use Rattle.log_format.specs.declared.fault.LogFault.{LogFault}
 use Rattle.log_format.specs.declared.fault.LogFault.TheVariants.{Bad, NoMemory}
 

@@ -1,10 +1,10 @@
 -- Reading a file from left to right, up to the first fault. Every fault within a record is reported at one place, that of the record's
 -- length.
-use Rattle.basics.specs.Reading.{made, passing, ◌>>=◌}
+use Rattle.text_and_lists.specs.Reading.{made, passing, ◌>>=◌}
 use Rattle.log_format.specs.Log.{magic}
 use Rattle.log_format.specs.declared.fault.LogFault.{LogFault}
 use Rattle.log_format.specs.declared.fault.LogFault.TheVariants.{Bad}
-use Rattle.log_format.specs.declared.held.Held.{Held}
+use Rattle.log_format.specs.declared.logged_store.LoggedStore.{LoggedStore}
 use Rattle.s3_types.specs.Names.{is_bucket, is_key}
 use Rattle.s3_types.specs.Tags.{is_hex}
 use Rattle.s3_types.specs.declared.request.NamedPart.{NamedPart}
@@ -16,7 +16,7 @@ use Rattle.std.specs.List.{list_all}
 use Rattle.std.specs.Prelude.{Bool, Err, List, None, Ok, Option, Result, Some, bytes_eq, drop, if◌then◌else◌, length, nat_lt, slice_index}
 use Rattle.std.specs.Prelude.{suc, take, zero, ℕ, [], ◌-◌, ◌==◌, ◌∷◌}
 use Rattle.std.specs.Str.{is_utf8}
-use Rattle.basics.specs.Reading as reading
+use Rattle.text_and_lists.specs.Reading as reading
 
 -- A value with the bytes that are left after it, or a fault.
 abbrev pub Read : Type 0 → Type 0
@@ -186,7 +186,7 @@ changes_at (suc n) whole bytes = do
       (change.0 ∷ changes)) else Ok []
 
 -- A base and the changes after it.
-unfoldable pub logged_in : ℕ → List ℕ → Result Held LogFault
+unfoldable pub logged_in : ℕ → List ℕ → Result LoggedStore LogFault
 logged_in whole bytes = do
   base ← block_at 8 bytes
   changes ← changes_at (length base.1) whole base.1
@@ -197,7 +197,7 @@ abbrev pub is_log : List ℕ → Bool
 is_log bytes = bytes_eq (take 8 bytes) magic
 
 -- The base and changes in a file, or its first fault.
-unfoldable pub held_in : List ℕ → Result Held LogFault
+unfoldable pub held_in : List ℕ → Result LoggedStore LogFault
 held_in bytes = if is_log bytes then logged_in (length bytes) (drop 8 bytes) else Ok (record { base = bytes; changes = [] })
 
 -- How many bytes were read, or 0 if there was a fault.

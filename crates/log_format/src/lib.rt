@@ -15,12 +15,12 @@
 
 mod fault;
 mod fields;
-mod held;
+mod logged_store;
 mod reading;
 mod rows;
 mod writing;
 
 pub use fault::LogFault;
-pub use held::{Held, RequestList};
+pub use logged_store::{LoggedStore, RequestList};
 pub use reading::{base_length, read_log};
 pub use writing::{can_write, head_of, is_changing, write_record};

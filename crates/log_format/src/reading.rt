@@ -1,14 +1,14 @@
 ghost use Rattle.std.specs.Prelude.{◌≡◌, ◌∷◌, ◌++◌, [], List, length, drop, Ok, Err, IfOk, IfSome, is_some};
-ghost use Rattle.basics.specs.Reading.{made};
-ghost use Rattle.basics.proofs.Reading.{with_front};
+ghost use Rattle.text_and_lists.specs.Reading.{made};
+ghost use Rattle.text_and_lists.proofs.Reading.{with_front};
 ghost use Rattle.log_format.specs.Fault.{Gives, GivesBy};
 ghost use Rattle.log_format.specs.File.{StandsFor};
 ghost use Rattle.log_format.specs.Reading.{record_at, changes_at, logged_in, is_log, base_length, held_in};
-ghost use Rattle.log_format.specs.declared.held.Held.{Held as HeldValue};
+ghost use Rattle.log_format.specs.declared.logged_store.LoggedStore.{LoggedStore as HeldValue};
 
 use crate::fault::LogFault;
 use crate::fields::{block_of, byte_of, bytes_of, place_of};
-use crate::held::{Held, RequestList};
+use crate::logged_store::{LoggedStore, RequestList};
 use crate::rows::change_of;
 use s3_types::{Bytes, Request, Sequence, let_go};
 use std::alloc::Global;
@@ -84,12 +84,12 @@ fn changes_of(alloc: Global, whole: u64, bytes: &[u8]) -> Result<RequestList, Lo
 
 /// Reads a base and the changes after it.
 #[tactic(auto, unfolding(crate::specs::Reading::logged_in))]
-fn logged(alloc: Global, whole: u64, bytes: &[u8]) -> Result<Held, LogFault>
+fn logged(alloc: Global, whole: u64, bytes: &[u8]) -> Result<LoggedStore, LogFault>
     ensures { Gives result (logged_in whole bytes.now) }
 {
     let (base, rest) = bytes_of(alloc, 8, bytes)?;
     let changes = changes_of(alloc, whole, rest)?;
-    Ok(Held { base, changes })
+    Ok(LoggedStore { base, changes })
 }
 
 /// Returns the bytes after a log's first 8 bytes, or None if the bytes do not begin so.
@@ -122,14 +122,14 @@ pub fn base_length(file: &[u8]) -> u64
 
 /// Reads the base and changes in a file, or its first fault.
 #[tactic(auto, unfolding(crate::specs::Reading::held_in))]
-fn held_of(alloc: Global, file: &Bytes, bytes: &[u8]) -> Result<Held, LogFault>
+fn held_of(alloc: Global, file: &Bytes, bytes: &[u8]) -> Result<LoggedStore, LogFault>
     requires { bytes.now ≡ file.now }
     ensures { Gives result (held_in bytes.now) }
 {
     match behind_magic(bytes) {
         Some(rest) => logged(alloc, bytes.len() as u64, rest),
         None => {
-            Ok(Held {
+            Ok(LoggedStore {
                 base: file.clone()?,
                 changes: Sequence::new(alloc),
             })
@@ -138,7 +138,7 @@ fn held_of(alloc: Global, file: &Bytes, bytes: &[u8]) -> Result<Held, LogFault>
 }
 
 /// Reads the base and changes in a file from its bytes.
-fn read_bytes(alloc: Global, file: &Bytes, bytes: &[u8]) -> Result<Held, LogFault>
+fn read_bytes(alloc: Global, file: &Bytes, bytes: &[u8]) -> Result<LoggedStore, LogFault>
     requires { bytes.now ≡ file.now }
     ensures exact { Gives result (held_in bytes.now) }
     ensures found { IfOk result (λ held. StandsFor bytes.now held) }
@@ -150,7 +150,7 @@ fn read_bytes(alloc: Global, file: &Bytes, bytes: &[u8]) -> Result<Held, LogFaul
 /// Reads a file in one pass. A file that does not begin with `S3ALOG01` is a base without changes;
 /// its bytes are shared. Reading stops at the first gate that is not open. It copies each byte at
 /// most once, and reserves no memory just because a length or a count says so.
-pub fn read_log(alloc: Global, file: &Bytes) -> Result<Held, LogFault>
+pub fn read_log(alloc: Global, file: &Bytes) -> Result<LoggedStore, LogFault>
     // It says which fault it is, and its place.
     ensures exact { Gives result (held_in file.now) }
     // The file stands for what is read.

@@ -1,9 +1,9 @@
 use crate::faults::{Fault, Faulty};
 use crate::rivals::show_rivals;
 use crate::streams::show_streams;
+use devices::Failed;
 use folder_log::{DiskFault, FileDisk, LogDisk};
 use s3_types::{Bytes, let_go};
-use shelf::Failed;
 use std::alloc::{AllocError, Global};
 use std::cell::Cell;
 use std::fs::File;

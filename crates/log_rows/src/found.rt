@@ -1,12 +1,12 @@
+use devices::CallList;
+use devices::kept::{LoadFault, LoggedStore, Shelf};
 use folder_log::{LogShelf, MemDisk};
 use s3_types::{Bytes, let_go};
-use shelf::CallList;
-use shelf::kept::{Held, LoadFault, Shelf};
 use std::alloc::Global;
 use std::fmt;
 
 /// Loads a shelf over a disk with this file.
-pub fn load(alloc: Global, file: Option<Bytes>) -> Result<Option<Held>, LoadFault> {
+pub fn load(alloc: Global, file: Option<Bytes>) -> Result<Option<LoggedStore>, LoadFault> {
     let disk = MemDisk::new(alloc, file, CallList::new(alloc), None);
     let mut shelf = LogShelf::new(alloc, disk);
     shelf.load()

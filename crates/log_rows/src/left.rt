@@ -1,9 +1,9 @@
 use crate::found::{fault_text, load};
 use crate::play::Play;
+use devices::kept::{LoadFault, LoggedStore};
 use folder_log::{Choice, MemDisk};
 use log_format::{can_write, is_changing, write_record};
 use s3_types::{Request, let_go};
-use shelf::kept::{Held, LoadFault};
 use std::alloc::{AllocError, Global};
 use std::fmt;
 
@@ -47,7 +47,7 @@ pub fn written(alloc: Global, base: &[u8], changes: &[Request]) -> Result<Vec<u8
 }
 
 /// Which of the states that a crash may leave this is.
-pub fn held_left(alloc: Global, play: Play<'_>, held: &Held) -> Result<Left, AllocError> {
+pub fn held_left(alloc: Global, play: Play<'_>, held: &LoggedStore) -> Result<Left, AllocError> {
     let bytes = written(alloc, held.base.as_slice(), held.changes.as_slice())?;
     if play.whole.starts_with(&bytes) {
         return Ok(Left::Changes(held.changes.len()));
@@ -61,7 +61,7 @@ pub fn held_left(alloc: Global, play: Play<'_>, held: &Held) -> Result<Left, All
 fn loaded_left(
     alloc: Global,
     play: Play<'_>,
-    loaded: &Result<Option<Held>, LoadFault>,
+    loaded: &Result<Option<LoggedStore>, LoadFault>,
 ) -> Result<Left, AllocError> {
     match loaded {
         Ok(Some(held)) => held_left(alloc, play, held),

@@ -1,8 +1,8 @@
 ghost use Rattle.std.specs.Prelude.{◌≤◌, length};
 
+use devices::kept::Shelf;
 use log_format::is_changing;
 use s3_types::{Bytes, Request, let_go};
-use shelf::kept::Shelf;
 use std::fmt;
 
 /// A run over a shelf: the file that the disk has, the base that replaces it, and the changes

@@ -1,10 +1,10 @@
 use crate::found::load;
 use crate::left::{Left, crash_left, held_left, written};
 use crate::play::{Came, Play, play_over};
+use devices::CallList;
+use devices::kept::{LoggedStore, MemShelf};
 use folder_log::{Choice, LogShelf, MemDisk};
 use s3_types::{Bytes, let_go};
-use shelf::CallList;
-use shelf::kept::{Held, MemShelf};
 use std::alloc::{AllocError, Global};
 use std::io;
 
@@ -107,7 +107,7 @@ pub fn show_plays(rt: &impl Print, alloc: Global, play: Play<'_>) -> io::Result<
 }
 
 /// What the file holds, or nothing if the file is bad.
-fn held_of(alloc: Global, file: &Option<Bytes>) -> Result<Option<Held>, AllocError> {
+fn held_of(alloc: Global, file: &Option<Bytes>) -> Result<Option<LoggedStore>, AllocError> {
     match load(alloc, file.clone()?) {
         Ok(held) => Ok(held),
         Err(_) => Ok(None),

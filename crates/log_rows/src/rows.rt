@@ -5,9 +5,9 @@ use crate::left::written;
 use crate::play::Play;
 use crate::plays::{show_memories, show_plays, written_before};
 use anyhow::{Context, Result, bail};
+use devices::kept::LoggedStore;
 use log_format::{LogFault, read_log};
 use s3_types::{Bytes, Sequence, put};
-use shelf::kept::Held;
 use std::alloc::{AllocError, Global};
 use std::fs::File;
 use std::rt::Files;
@@ -16,7 +16,7 @@ use std::rt::Files;
 #[derive(Drop)]
 pub struct Rows {
     file: Option<Bytes>,
-    log: Held,
+    log: LoggedStore,
     alloc: Global,
 }
 
@@ -36,7 +36,7 @@ fn spelled(alloc: Global, words: &str) -> Result<Vec<u8>> {
     Ok(hex::decode(alloc, digits.as_str())?)
 }
 
-fn log_in(alloc: Global, bytes: &Bytes) -> Result<Held> {
+fn log_in(alloc: Global, bytes: &Bytes) -> Result<LoggedStore> {
     match read_log(alloc, bytes) {
         Ok(held) => Ok(held),
         Err(LogFault::Bad(place)) => bail!("bad at {place}"),
@@ -62,7 +62,7 @@ fn with_number(alloc: Global, bytes: &[u8], place: usize, number: u64) -> Result
 impl Rows {
     /// The rows before the first line: nothing is given.
     pub fn new(alloc: Global) -> Result<Rows> {
-        let log = Held {
+        let log = LoggedStore {
             base: Bytes::empty(alloc)?,
             changes: Sequence::new(alloc),
         };

@@ -1,8 +1,8 @@
 use crate::disks::{IMAGE, text_of};
 use crate::faults::{Fault, Faulty};
 use crate::plays::calls_of;
+use devices::{MemSink, MemSource, Sink, Source, StdSink, StdSource};
 use s3_types::{Bytes, let_go};
-use shelf::{MemSink, MemSource, Sink, Source, StdSink, StdSource};
 use std::alloc::{AllocError, Global};
 use std::cell::Cell;
 use std::rt::Files;

@@ -1,6 +1,6 @@
 -- The laws of a machine, for any operation that an actor holds.
 use Rattle.machine.specs.Asks.{AskLaws, never}
-use Rattle.machine.specs.Laws.{Laws}
+use Rattle.machine.specs.MachineLaws.{Laws}
 use Rattle.machine.specs.Standing.{Standing}
 use Rattle.retries.specs.Retries.{Item}
 use Rattle.s3_types.specs.Store.{Scene}

@@ -13,19 +13,19 @@
 //!   exactly if a request exhausted its retries (`Tried`). The entries alone say the same, if no
 //!   send of the present request came before (`literal`). It makes one request for each entry.
 //!   Losses never fall, and do not change if each entry was answered (`Counted`).
-//! - `Asking`: an operation that an actor holds together with its plan is a machine. Its requests
+//! - `PlannedMachine`: an operation that an actor holds together with its plan is a machine. Its requests
 //!   and its course are those of the operation. If memory runs out, it is broken off and has no
 //!   next request.
 #![tactic(auto)]
 
-mod asking;
-mod asks;
 mod driving;
 mod operation;
+mod planned_machine;
+mod planned_operation;
 mod retrying;
 
-pub use asking::Asking;
-pub use asks::{Asked, Asks};
 pub use driving::{DriveStop, drive, send, write_down};
 pub use operation::Machine;
+pub use planned_machine::PlannedMachine;
+pub use planned_operation::{Asked, PlannedOperation};
 pub use retrying::{Retrying, Turn};

@@ -4,7 +4,7 @@ ghost use Rattle.s3_types.specs.Store.{Scene};
 ghost use Rattle.s3_types.specs.declared.request.Request.{Request};
 ghost use Rattle.s3_types.specs.declared.reply.Reply.{Reply};
 ghost use Rattle.retries.specs.Retries.{Item, Got, WornOut, OutOfMemory};
-ghost use Rattle.machine.specs.Laws.{Laws};
+ghost use Rattle.machine.specs.MachineLaws.{Laws};
 ghost use Rattle.machine.specs.Standing.{Standing};
 
 use s3_types::{Reply, Request};

@@ -1,6 +1,6 @@
 -- The elements of the layout's keys.
-use Rattle.basics.proofs.Pieces.{one_part}
-use Rattle.basics.specs.Parts.{is_other, parts_from}
+use Rattle.text_and_lists.proofs.Pieces.{one_part}
+use Rattle.text_and_lists.specs.Parts.{is_other, parts_from}
 use Rattle.magic_paths.specs.Layout.{attempt_key, set_key, success_key}
 use Rattle.path_keys.proofs.Beneath.{elements_append}
 use Rattle.path_keys.proofs.Keys.{some_key}

@@ -1,6 +1,6 @@
 -- The last element of a text.
-use Rattle.basics.proofs.Pieces.{one_part}
-use Rattle.basics.specs.Parts.{is_other, parts_of}
+use Rattle.text_and_lists.proofs.Pieces.{one_part}
+use Rattle.text_and_lists.specs.Parts.{is_other, parts_of}
 use Rattle.path_keys.proofs.Last.{parts_round}
 use Rattle.std.proofs.Common.{List, ap, arith, drop, length, length-append, sym, true, ℕ, [], ◌++◌, ◌+◌, ◌-◌, ◌∙◌, ◌∷◌, ◌≡◌}
 use Rattle.std.proofs.Math.Seq.{drop-append_seam}

@@ -1,5 +1,5 @@
 -- The kept elements of a key, and that they make a key.
-use Rattle.basics.specs.Parts.{parts_from, parts_of}
+use Rattle.text_and_lists.specs.Parts.{parts_from, parts_of}
 use Rattle.magic_paths.specs.Finals.{after_magic, before_magic, final_elements, is_word, kept}
 use Rattle.path_keys.proofs.Keys.{key_from, some_key}
 use Rattle.path_keys.specs.Paths.{is_key}

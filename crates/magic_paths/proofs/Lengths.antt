@@ -1,5 +1,5 @@
 -- The lengths of the layout's keys.
-use Rattle.basics.proofs.Lists.{short_number}
+use Rattle.text_and_lists.proofs.Lists.{short_number}
 use Rattle.magic_paths.specs.Layout.{attempt_key, set_key, success_key}
 use Rattle.s3_types.specs.Names.{is_job_id}
 use Rattle.std.proofs.Common.{List, arith, length, length-append, true, ℕ, ◌<◌, ◌^◌, ◌≡◌, ◌≤◌}

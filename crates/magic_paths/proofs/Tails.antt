@@ -1,6 +1,6 @@
 -- The keys and the cluster's paths of different places are different.
-use Rattle.basics.proofs.Cuts.{Cut, cut_once}
-use Rattle.basics.specs.Order.{text_eq, text_equiv}
+use Rattle.text_and_lists.proofs.Cuts.{Cut, cut_once}
+use Rattle.text_and_lists.specs.Order.{text_eq, text_equiv}
 use Rattle.magic_paths.proofs.Elements.{decimal_without, id_others}
 use Rattle.magic_paths.specs.Layout.{attempt_key, magic_prefix}
 use Rattle.magic_paths.specs.Places.{ClusterPlace, FilePlace, IsClusterPlace, IsPlace, MarkerPlace, Place, RecordPlace, SetPlace}

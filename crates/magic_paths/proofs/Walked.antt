@@ -1,6 +1,6 @@
 -- A walk over the elements of a text up to a word.
-use Rattle.basics.proofs.Pieces.{parts_append}
-use Rattle.basics.specs.Parts.{parts_of}
+use Rattle.text_and_lists.proofs.Pieces.{parts_append}
+use Rattle.text_and_lists.specs.Parts.{parts_of}
 use Rattle.magic_paths.specs.Finals.{is_word}
 use Rattle.std.proofs.Common.{Bool, List, ap, append_assoc, arith, drop, false, length, length-append, refl, sym, true, ℕ, [], ◌++◌, ◌+◌}
 use Rattle.std.proofs.Common.{◌||◌, ◌∙◌, ◌∷◌, ◌≡◌}

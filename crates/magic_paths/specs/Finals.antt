@@ -1,6 +1,6 @@
 -- At which path a file that is written below a magic directory ends up (modelled on the magic paths of Hadoop's S3A committer
 -- architecture; the rule itself is this project's own).
-use Rattle.basics.specs.Parts.{parts_of}
+use Rattle.text_and_lists.specs.Parts.{parts_of}
 use Rattle.path_keys.specs.Paths.{Path}
 use Rattle.std.specs.List.{after_first, before_first, list_any}
 use Rattle.std.specs.Prelude.{Bool, List, bytes_eq, codes, drop, if◌then◌else◌, length, ℕ, ◌++◌, ◌-◌}

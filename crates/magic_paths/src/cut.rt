@@ -1,6 +1,6 @@
 ghost use Rattle.std.specs.Prelude.{◌≡◌, ◌+◌, ◌<◌, ◌++◌, ◌-◌, ◌≤◌, List, ℕ, length, drop, is_some, IfSome, option_map};
 ghost use Rattle.std.specs.List.{list_any, before_first, after_first};
-ghost use Rattle.basics.specs.Parts.{parts_of, parts_after};
+ghost use Rattle.text_and_lists.specs.Parts.{parts_of, parts_after};
 ghost use Rattle.magic_paths.specs.Finals.{is_word};
 
 use path_keys::first_element;

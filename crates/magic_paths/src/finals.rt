@@ -1,5 +1,5 @@
 ghost use Rattle.std.specs.Prelude.{◌≡◌, ◌↔◌, ◌≤◌, ◌++◌, [], true, false, length, is_some, IfOk, IfSome, IsErrOf, option_map, string_bytes};
-ghost use Rattle.basics.specs.Parts.{parts_of, parts_after};
+ghost use Rattle.text_and_lists.specs.Parts.{parts_of, parts_after};
 ghost use Rattle.path_keys.specs.Paths.{is_key};
 ghost use Rattle.magic_paths.specs.Finals as finals;
 ghost use Rattle.magic_paths.specs.declared.refusal.MagicRefusal.TheVariants.{NotMagic, NothingAfter};

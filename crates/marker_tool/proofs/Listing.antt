@@ -1,9 +1,9 @@
 -- What a listing without a delimiter has: each object below a prefix and after a text, once and in order, with its length.
-use Rattle.basics.proofs.Less.{irrefl, lt, lt_back, lt_trans}
-use Rattle.basics.proofs.Members.{false_true, in_filter, in_map, some_is, text_exact}
-use Rattle.basics.proofs.Tree.{map_sorted}
-use Rattle.basics.specs.Members.{IsIn, RisesFrom, last_from}
-use Rattle.basics.specs.Order.{text_cmp, text_total}
+use Rattle.text_and_lists.proofs.Less.{irrefl, lt, lt_back, lt_trans}
+use Rattle.text_and_lists.proofs.Members.{false_true, in_filter, in_map, some_is, text_exact}
+use Rattle.text_and_lists.proofs.Tree.{map_sorted}
+use Rattle.text_and_lists.specs.Members.{IsIn, RisesFrom, last_from}
+use Rattle.text_and_lists.specs.Order.{text_cmp, text_total}
 use Rattle.bucket_ops.proofs.Rising.{lower}
 use Rattle.fs_ops.proofs.Children.{folded_sub}
 use Rattle.s3_types.proofs.Begins.{from_prefix}

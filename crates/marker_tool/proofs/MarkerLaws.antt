@@ -1,9 +1,9 @@
 -- What the markers of a listing are, if the objects that were listed exist.
-use Rattle.basics.proofs.Less.{irrefl, lt, lt_not}
-use Rattle.basics.proofs.Members.{false_true, filter_in, in_back, in_filter, in_front, in_map, map_in, some_is}
-use Rattle.basics.proofs.Naturals.{positive}
-use Rattle.basics.specs.Members.{IsIn, RisesFrom}
-use Rattle.basics.specs.Order.{text_cmp, text_total}
+use Rattle.text_and_lists.proofs.Less.{irrefl, lt, lt_not}
+use Rattle.text_and_lists.proofs.Members.{false_true, filter_in, in_back, in_filter, in_front, in_map, map_in, some_is}
+use Rattle.text_and_lists.proofs.Naturals.{positive}
+use Rattle.text_and_lists.specs.Members.{IsIn, RisesFrom}
+use Rattle.text_and_lists.specs.Order.{text_cmp, text_total}
 use Rattle.bucket_ops.proofs.Rising.{lower, sorted}
 use Rattle.fs_tree.proofs.Begins.{begins_trans}
 use Rattle.fs_tree.specs.MarkerTool.{AreAll, HasBytes, HasMarkers, HasMore, IsBare, IsKind, IsSurplus}

@@ -1,6 +1,6 @@
 -- The tree without surplus markers, or with missing ones put, is the same.
-use Rattle.basics.proofs.Members.{false_true, none_some, same_or_other, text_here, text_left, text_other}
-use Rattle.basics.specs.Members.{IsIn}
+use Rattle.text_and_lists.proofs.Members.{false_true, none_some, same_or_other, text_here, text_left, text_other}
+use Rattle.text_and_lists.specs.Members.{IsIn}
 use Rattle.bucket_ops.proofs.Below.{gone_in, is_in, kept_out}
 use Rattle.dir_markers.specs.Markers.{marker_of}
 use Rattle.fs_tree.proofs.Begins.{begins_trans}

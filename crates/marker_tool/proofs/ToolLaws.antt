@@ -1,6 +1,6 @@
 -- The stages of the marker tool keep what they promise, whatever work is done in a directory.
-use Rattle.basics.proofs.Members.{in_back, in_front}
-use Rattle.basics.specs.Members.{IsIn}
+use Rattle.text_and_lists.proofs.Members.{in_back, in_front}
+use Rattle.text_and_lists.specs.Members.{IsIn}
 use Rattle.bucket_ops.proofs.Walks.{walk_begins, walk_falls, walk_fits, walk_goes}
 use Rattle.bucket_ops.specs.Asks.{Ask, edited, reply_in}
 use Rattle.bucket_ops.specs.Looks.{look_of}

@@ -1,6 +1,6 @@
 -- The audit, the cleaning and the filling are such works.
-use Rattle.basics.proofs.Members.{in_front}
-use Rattle.basics.specs.Members.{IsIn}
+use Rattle.text_and_lists.proofs.Members.{in_front}
+use Rattle.text_and_lists.specs.Members.{IsIn}
 use Rattle.bucket_ops.proofs.Batches.{batch_deletes}
 use Rattle.bucket_ops.specs.Walking.{all_below}
 use Rattle.fs_ops.specs.Places.{bucket_asks, prefix_of}

@@ -1,5 +1,5 @@
 -- The requests of the marker tool in a directory, beside looks.
-use Rattle.basics.specs.Members.{IsIn}
+use Rattle.text_and_lists.specs.Members.{IsIn}
 use Rattle.bucket_ops.specs.Asks.{Ask, DropAll, Put, is_look}
 use Rattle.fs_ops.specs.Places.{bucket_asks}
 use Rattle.fs_tree.specs.MarkerTool.{IsMissing, IsSurplus}

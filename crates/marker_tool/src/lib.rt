@@ -20,15 +20,15 @@
 //! - During both, at every point, the tree of files and directories is the same. Every key is as it
 //!   was, or is such a marker and is gone, or was put.
 //!
-//! The look, the walk and the changes are one operation, `MarkerTool`, for any `MarkerWork`, which
+//! The look, the walk and the changes are one operation, `MarkerTool`, for any `TreePass`, which
 //! says what is done below the path.
 #![tactic(auto)]
 
 mod listed;
 mod tool;
-mod work;
+mod tree_pass;
 mod works;
 
 pub use tool::{MarkerTool, ToolStage};
-pub use work::{Found, MarkerWork};
+pub use tree_pass::{Found, TreePass};
 pub use works::{Audit, AuditMarkers, Clean, CleanMarkers, Fill, FillMarkers};

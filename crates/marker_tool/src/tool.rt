@@ -7,7 +7,7 @@ ghost use Rattle.fs_ops.specs.code.Steps.{goes_by};
 ghost use Rattle.marker_tool.specs.code.Tool as tool;
 ghost use Rattle.marker_tool.specs.code.Tool.{begun, on_key, whole, on_walk, on_change};
 
-use crate::work::{Found, MarkerWork};
+use crate::tree_pass::{Found, TreePass};
 use bucket_ops::{Look, Phases, fits, seen_in};
 use fs_ops::Place;
 use fs_tree::FsRefusal;
@@ -100,7 +100,7 @@ fn on_key<A: Drop>(
     }
 }
 
-impl<W: MarkerWork> MarkerTool<W> {
+impl<W: TreePass> MarkerTool<W> {
     /// The tool at a path of a bucket.
     pub fn new(alloc: Global, path: &S3Path) -> Result<MarkerTool<W>, AllocError>
         ensures { IfOk result (λ tool. tool ≡ path.now.key) }
@@ -145,7 +145,7 @@ impl<W: MarkerWork> MarkerTool<W> {
     }
 }
 
-impl<W: MarkerWork> Phases for MarkerTool<W> {
+impl<W: TreePass> Phases for MarkerTool<W> {
     type Stage = ToolStage<W::Answer>;
 
     type Answer = Result<W::Answer, FsRefusal>;

@@ -9,7 +9,7 @@ ghost use Rattle.marker_tool.specs.Works.{drops, puts, CleanSends, FillSends, wi
 
 use crate::listed::{markers_in, missing_in, surplus_in};
 use crate::tool::MarkerTool;
-use crate::work::{Found, MarkerWork};
+use crate::tree_pass::{Found, TreePass};
 use fs_ops::{look_at_bucket, put_empty};
 use fs_tree::MarkerList;
 use list_walk::batch_request;
@@ -61,7 +61,7 @@ fn counted(keys: KeyList) -> Found<u64>
     Found { keys, answer }
 }
 
-impl MarkerWork for Audit {
+impl TreePass for Audit {
     type Answer = MarkerList;
 
     ghost keys = { λ q es. [] };
@@ -109,7 +109,7 @@ impl MarkerWork for Audit {
     fn laws() {}
 }
 
-impl MarkerWork for Clean {
+impl TreePass for Clean {
     type Answer = u64;
 
     ghost keys = { λ q es. surplus_in es };
@@ -153,7 +153,7 @@ impl MarkerWork for Clean {
     fn laws() {}
 }
 
-impl MarkerWork for Fill {
+impl TreePass for Fill {
     type Answer = u64;
 
     ghost keys = { missing_in };

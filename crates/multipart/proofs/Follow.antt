@@ -1,9 +1,9 @@
 -- The listing of uploads, walked from a place on.
-use Rattle.basics.proofs.Bools.{contrary}
-use Rattle.basics.proofs.Less.{le_le, less_of, lt, lt_back, lt_le}
-use Rattle.basics.proofs.Naturals.{no_less}
-use Rattle.basics.proofs.Tree.{map_sorted}
-use Rattle.basics.specs.Order.{text_cmp, text_total}
+use Rattle.text_and_lists.proofs.Bools.{contrary}
+use Rattle.text_and_lists.proofs.Less.{le_le, less_of, lt, lt_back, lt_le}
+use Rattle.text_and_lists.proofs.Naturals.{no_less}
+use Rattle.text_and_lists.proofs.Tree.{map_sorted}
+use Rattle.text_and_lists.specs.Order.{text_cmp, text_total}
 use Rattle.multipart.proofs.Keyed.{keyed_own, keys_keyed}
 use Rattle.multipart.specs.Index.{keyed}
 use Rattle.multipart.specs.Listing.{AreOwn, Follows, below}

@@ -1,6 +1,6 @@
 -- The index agrees with the uploads.
-use Rattle.basics.proofs.Tree.{entries_empty, tied}
-use Rattle.basics.specs.Order.{text_cmp, text_total}
+use Rattle.text_and_lists.proofs.Tree.{entries_empty, tied}
+use Rattle.text_and_lists.specs.Order.{text_cmp, text_total}
 use Rattle.multipart.specs.Index.{keyed, keyed_of}
 use Rattle.multipart.specs.Listing.{AreOwn}
 use Rattle.s3_types.specs.Multipart.{ref_cmp, ref_of, refs, with_part}

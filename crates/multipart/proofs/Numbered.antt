@@ -1,6 +1,6 @@
 -- Part numbers are 1 to 10,000, so an upload has at most 10,000 parts.
-use Rattle.basics.proofs.Naturals.{below_is, less_is}
-use Rattle.basics.proofs.Tree.{map_sorted, tied}
+use Rattle.text_and_lists.proofs.Naturals.{below_is, less_is}
+use Rattle.text_and_lists.proofs.Tree.{map_sorted, tied}
 use Rattle.multipart.specs.Numbers.{AreNumbered}
 use Rattle.s3_types.specs.Multipart.{is_part_number, rises, rises_from}
 use Rattle.s3_types.specs.Store.{Parts}

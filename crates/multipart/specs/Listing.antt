@@ -1,5 +1,5 @@
 -- The listing of uploads, as a walk over the index.
-use Rattle.basics.specs.Order.{text_cmp}
+use Rattle.text_and_lists.specs.Order.{text_cmp}
 use Rattle.s3_types.specs.Pages.{begins}
 use Rattle.s3_types.specs.declared.request.UploadRef.{UploadRef}
 use Rattle.std.specs.List.{AllByRecursion, filter}

@@ -1,8 +1,8 @@
 -- Pages without a delimiter, walked from the start on.
-use Rattle.basics.proofs.Bools.{contrary}
-use Rattle.basics.proofs.Naturals.{no_less}
-use Rattle.basics.proofs.Viewed.{entries_viewed, filter_map_same, viewed_sorted}
-use Rattle.basics.specs.Order.{text_cmp, text_total}
+use Rattle.text_and_lists.proofs.Bools.{contrary}
+use Rattle.text_and_lists.proofs.Naturals.{no_less}
+use Rattle.text_and_lists.proofs.Viewed.{entries_viewed, filter_map_same, viewed_sorted}
+use Rattle.text_and_lists.specs.Order.{text_cmp, text_total}
 use Rattle.object_store.proofs.Own.{own_filter}
 use Rattle.object_store.specs.Flat.{Follows, below, single}
 use Rattle.object_store.specs.Held.{AreOwn, contents}

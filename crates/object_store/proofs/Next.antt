@@ -1,7 +1,7 @@
 -- The entries, one after another.
-use Rattle.basics.proofs.Rest.{after_first, after_found}
-use Rattle.basics.proofs.Tree.{map_sorted}
-use Rattle.basics.specs.Order.{text_cmp, text_total}
+use Rattle.text_and_lists.proofs.Rest.{after_first, after_found}
+use Rattle.text_and_lists.proofs.Tree.{map_sorted}
+use Rattle.text_and_lists.specs.Order.{text_cmp, text_total}
 use Rattle.object_store.specs.Objects.{IsNext, next_of, rest_of}
 use Rattle.s3_types.specs.Store.{Objects}
 use Rattle.s3_types.specs.declared.object.Object.{Object}

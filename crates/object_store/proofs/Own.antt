@@ -1,6 +1,6 @@
 -- Entries whose keys have the texts at which they are stored.
-use Rattle.basics.proofs.Viewed.{first_between, first_map, get_viewed}
-use Rattle.basics.specs.Order.{text_cmp, text_total}
+use Rattle.text_and_lists.proofs.Viewed.{first_between, first_map, get_viewed}
+use Rattle.text_and_lists.specs.Order.{text_cmp, text_total}
 use Rattle.object_store.specs.Held.{AreOwn, contents, lent}
 use Rattle.object_store.specs.declared.objects.Held.{Held}
 use Rattle.s3_types.specs.declared.object.Object.{Object}

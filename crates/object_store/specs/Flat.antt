@@ -1,5 +1,5 @@
 -- Pages without a delimiter, in which each key is its own entry.
-use Rattle.basics.specs.Order.{text_cmp}
+use Rattle.text_and_lists.specs.Order.{text_cmp}
 use Rattle.object_store.specs.declared.objects.Held.{Held}
 use Rattle.s3_types.specs.Pages.{begins}
 use Rattle.s3_types.specs.declared.reply.PageEntry.{PageEntry}

@@ -1,5 +1,5 @@
 -- Single objects of a bucket.
-use Rattle.basics.specs.Order.{text_cmp}
+use Rattle.text_and_lists.specs.Order.{text_cmp}
 use Rattle.s3_types.specs.Store.{Objects}
 use Rattle.s3_types.specs.declared.object.Head.{Head}
 use Rattle.s3_types.specs.declared.object.Object.{Object}

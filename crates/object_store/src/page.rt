@@ -3,7 +3,7 @@ ghost use Rattle.std.specs.Prelude.{◌≡◌, ℕ, ◌<◌, [], ◌∷◌, ◌+
 ghost use Rattle.std.specs.FinMap as map;
 ghost use Rattle.std.specs.BTreeMap.Range.{entries_between};
 ghost use Rattle.std.specs.declared.ops.Bound.TheVariants.{Unbounded};
-ghost use Rattle.basics.specs.Order.{text_cmp};
+ghost use Rattle.text_and_lists.specs.Order.{text_cmp};
 ghost use Rattle.std.specs.Range.Bound.{bound_map};
 ghost use Rattle.s3_types.specs.Pages.{stem, entry_of, listed};
 ghost use Rattle.object_store.specs.Held.{AreOwn};

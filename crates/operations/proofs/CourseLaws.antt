@@ -1,12 +1,12 @@
 -- The laws of a machine, for every operation that is a course.
 use Rattle.machine.proofs.Keeping.{Keeps}
-use Rattle.machine.specs.Laws.{Laws}
+use Rattle.machine.specs.MachineLaws.{Laws}
 use Rattle.machine.specs.Standing.{Fine}
 use Rattle.operations.specs.Courses.{IsCalm, IsCourse, unlost}
 use Rattle.operations.specs.Operations.{IsReady, Kept, after, any_reply, got, led, left, standing, wanted}
 use Rattle.operations.specs.Plans.{Falls, Goes}
-use Rattle.operations.specs.declared.operation.Stage.{Stage}
-use Rattle.operations.specs.declared.operation.Stage.TheVariants.{On, Over}
+use Rattle.operations.specs.declared.operation.OperationStage.{OperationStage}
+use Rattle.operations.specs.declared.operation.OperationStage.TheVariants.{On, Over}
 use Rattle.operations.specs.declared.plan.Step.{Step}
 use Rattle.operations.specs.declared.plan.Step.TheVariants.{End, Next}
 use Rattle.s3_types.specs.Answer.{answer, apply}
@@ -23,19 +23,19 @@ fine_led (End a) = refl
 module _ {P A : Type 0} {starts : P → Type 0} {asks : P → Request} {goes : P → Reply → Bool → Step P A}
     {holds : P → Scene → P → Scene → Bool → Type 0} {gives : P → Scene → A → Scene → Type 0} {always : P → Scene → Scene → Type 0}
     {more : P → Scene → ℕ} (c : IsCourse starts asks goes holds gives always more) where
-  standing_on : (m : Stage P A) (r : Request) (a : Reply) (b : Bool) → wanted asks m ≡ Some r → standing (got goes m a b) ≡ standing m
+  standing_on : (m : OperationStage P A) (r : Request) (a : Reply) (b : Bool) → wanted asks m ≡ Some r → standing (got goes m a b) ≡ standing m
   standing_on (On p) r a b w = fine_led (goes p a b)
   standing_on _ r a b w = absurd (cc)
 
   module _ (o : P) (z : Scene) where
-    abbrev K : Stage P A → Scene → Bool → Type 0
+    abbrev K : OperationStage P A → Scene → Bool → Type 0
     K m s b = Kept (holds o z) (gives o z) (always o z) m s b
 
-    lost : (m : Stage P A) (s : Scene) (b : Bool) → K m s b → K m s true
+    lost : (m : OperationStage P A) (s : Scene) (b : Bool) → K m s b → K m s true
     lost (On p) s b h = c.lost o z p s b h
     lost _ s b h = h
 
-    hidden : (m : Stage P A) (s : Scene) (r : Request) (b : Bool) → wanted asks m ≡ Some r → K m s b → K m (apply s r) true
+    hidden : (m : OperationStage P A) (s : Scene) (r : Request) (b : Bool) → wanted asks m ≡ Some r → K m s b → K m (apply s r) true
     hidden (On p) s r b w h = let e : asks p ≡ r = cc in subst (λ v. holds o z p (apply s v) true) e (c.hidden o z p s b h)
     hidden _ s r b w h = absurd (cc)
 
@@ -43,13 +43,13 @@ module _ {P A : Type 0} {starts : P → Type 0} {asks : P → Request} {goes : P
     kept_led (Next p) s h = h
     kept_led (End a) s h = h
 
-    took : (m : Stage P A) (s : Scene) (r : Request) (b : Bool) → wanted asks m ≡ Some r → K m s b
+    took : (m : OperationStage P A) (s : Scene) (r : Request) (b : Bool) → wanted asks m ≡ Some r → K m s b
         → K (got goes m (answer s r) b) (apply s r) false
     took (On p) s r b w h = let e : asks p ≡ r = cc in subst (λ v. K (led (goes p (answer s v) b)) (apply s v) false) e
         (kept_led _ _ (c.goes_on o z p s b h))
     took _ s r b w h = absurd (cc)
 
-    pub at_any : (m : Stage P A) (s : Scene) (b : Bool) → K m s b → always o z s
+    pub at_any : (m : OperationStage P A) (s : Scene) (b : Bool) → K m s b → always o z s
     at_any (On p) s b h = c.during o z p s b h
     at_any (Over a) s b h = c.at_end o z a s h
     at_any _ s b h = h
@@ -66,23 +66,23 @@ module _ {P A : Type 0} {starts : P → Type 0} {asks : P → Request} {goes : P
     less_led (Next p) s n h = omega arith
     less_led (End a) s n h = omega arith
 
-    pub falls : (m : Stage P A) (s : Scene) (r : Request) (b : Bool) → wanted asks m ≡ Some r → K m s b
+    pub falls : (m : OperationStage P A) (s : Scene) (r : Request) (b : Bool) → wanted asks m ≡ Some r → K m s b
         → left more (got goes m (answer s r) b) (apply s r) < left more m s
     falls (On p) s r b w h = let e : asks p ≡ r = cc in subst (λ v. left more (led (goes p (answer s v) b)) (apply s v) < 1 + more p s) e
         (less_led _ _ _ (c.falls o z p s b h))
     falls _ s r b w h = absurd (cc)
 
-    pub no_rise : (m : Stage P A) (s : Scene) (r : Request) (b : Bool) → wanted asks m ≡ Some r → K m s b
+    pub no_rise : (m : OperationStage P A) (s : Scene) (r : Request) (b : Bool) → wanted asks m ≡ Some r → K m s b
         → left more m (apply s r) ≤ left more m s
     no_rise (On p) s r b w h = let e : asks p ≡ r = cc in let n = subst (λ v. more p (apply s v) ≤ more p s) e (c.no_rise o z p s b h) in
         omega (arith, n)
     no_rise _ s r b w h = absurd (cc)
 
-  pub some_left : (m : Stage P A) (s : Scene) (r : Request) → wanted asks m ≡ Some r → 0 < left more m s
+  pub some_left : (m : OperationStage P A) (s : Scene) (r : Request) → wanted asks m ≡ Some r → 0 < left more m s
   some_left (On p) s r w = omega arith
   some_left _ s r w = absurd (cc)
 
-  pub course_laws : Laws {M = Stage P A} (wanted asks) (after goes) any_reply (IsReady holds gives always) (left more) standing
+  pub course_laws : Laws {M = OperationStage P A} (wanted asks) (after goes) any_reply (IsReady holds gives always) (left more) standing
   course_laws = record {
     fit = λ m s r b w h. tt;
     lost = λ m s b h. record { first = h.first; opening = h.opening; kept = lost h.first h.opening m s b h.kept };

@@ -5,8 +5,8 @@ use Rattle.machine.specs.declared.retrying.Retrying.{Retrying}
 use Rattle.operations.proofs.CourseLaws.{falls, keeps, no_rise, some_left}
 use Rattle.operations.specs.Courses.{IsCourse}
 use Rattle.operations.specs.Operations.{Kept, after, got, left, wanted}
-use Rattle.operations.specs.declared.operation.Stage.{Stage}
-use Rattle.operations.specs.declared.operation.Stage.TheVariants.{On}
+use Rattle.operations.specs.declared.operation.OperationStage.{OperationStage}
+use Rattle.operations.specs.declared.operation.OperationStage.TheVariants.{On}
 use Rattle.operations.specs.declared.plan.Step.{Step}
 use Rattle.retries.specs.Operation.{Follows}
 use Rattle.retries.specs.Retries.{Retried, fresh, step, unanswered_by, wants_of}
@@ -26,24 +26,24 @@ use Rattle.std.specs.Prelude.{Bool, List, Some, false, length, suc, true, zero, 
 module _ {P A : Type 0} {starts : P → Type 0} {asks : P → Request} {goes : P → Reply → Bool → Step P A}
     {holds : P → Scene → P → Scene → Bool → Type 0} {gives : P → Scene → A → Scene → Type 0} {always : P → Scene → Scene → Type 0}
     {more : P → Scene → ℕ} (course : IsCourse starts asks goes holds gives always more) (o : P) (z : Scene) (retries : ℕ) where
-  abbrev K : Stage P A → Scene → Bool → Type 0
+  abbrev K : OperationStage P A → Scene → Bool → Type 0
   K m s b = Kept (holds o z) (gives o z) (always o z) m s b
 
   -- The most sends that are to come.
-  abbrev most : Retried (Stage P A) → Scene → ℕ
+  abbrev most : Retried (OperationStage P A) → Scene → ℕ
   most t s = left more t.operation s * (retries + 1) - (retries - t.spare)
 
   room : (a b : ℕ) → a ≤ b → a * (retries + 1) ≤ b * (retries + 1)
   room a b h = mul-le-mul_right (retries + 1) h
 
   -- A send without an answer.
-  unanswered_most : (m : Stage P A) (spare : ℕ) (s u : Scene) (b : Bool) (n : ℕ) → 0 < left more m s → left more m u ≤ left more m s
+  unanswered_most : (m : OperationStage P A) (spare : ℕ) (s u : Scene) (b : Bool) (n : ℕ) → 0 < left more m s → left more m u ≤ left more m s
       → spare ≤ retries
       → n ≤ most (unanswered_by retries (after goes) m b spare) u → suc n ≤ left more m s * (retries + 1) - (retries - spare)
   unanswered_most m zero s u b n some same few h = omega (arith, room 1 (left more m s) some)
   unanswered_most m (suc k) s u b n some same few h = omega (arith, room 1 (left more m s) some, room (left more m u) (left more m s) same)
 
-  one_most : (t : Retried (Stage P A)) (s : Scene) (r : Request) (x : Outcome) (n : ℕ) → wanted asks t.operation ≡ Some r
+  one_most : (t : Retried (OperationStage P A)) (s : Scene) (r : Request) (x : Outcome) (n : ℕ) → wanted asks t.operation ≡ Some r
       → K t.operation s t.repeated → IsHonestOutcome x (answer s r) → t.spare ≤ retries
       → n ≤ most (step retries (after goes) t x) (effect s r x) → suc n ≤ most t s
   one_most t s r (Answered a) n w k honest few h =
@@ -58,17 +58,17 @@ module _ {P A : Type 0} {starts : P → Type 0} {asks : P → Request} {goes : P
   one_most t s r ReplyLost n w k honest few h = unanswered_most t.operation t.spare s (apply s r) true n
       (some_left course t.operation s r w) (no_rise course o z t.operation s r t.repeated w k) few h
 
-  spare_by : (m : Stage P A) (spare : ℕ) (b : Bool) → spare ≤ retries → (unanswered_by retries (after goes) m b spare).spare ≤ retries
+  spare_by : (m : OperationStage P A) (spare : ℕ) (b : Bool) → spare ≤ retries → (unanswered_by retries (after goes) m b spare).spare ≤ retries
   spare_by m zero b h = omega arith
   spare_by m (suc k) b h = omega (arith, h)
 
-  spare_still : (t : Retried (Stage P A)) (x : Outcome) → t.spare ≤ retries → (step retries (after goes) t x).spare ≤ retries
+  spare_still : (t : Retried (OperationStage P A)) (x : Outcome) → t.spare ≤ retries → (step retries (after goes) t x).spare ≤ retries
   spare_still t (Answered a) h = omega arith
   spare_still t Slow h = spare_by t.operation t.spare t.repeated h
   spare_still t RequestLost h = spare_by t.operation t.spare true h
   spare_still t ReplyLost h = spare_by t.operation t.spare true h
 
-  few_sent : (t : Retried (Stage P A)) (s : Scene) (part : List Entry) → Follows (wants_of (wanted asks)) (step retries (after goes)) t part
+  few_sent : (t : Retried (OperationStage P A)) (s : Scene) (part : List Entry) → Follows (wants_of (wanted asks)) (step retries (after goes)) t part
       → AreHonest s part → K t.operation s t.repeated → t.spare ≤ retries → length part ≤ most t s
   few_sent t s [] f h k few = omega arith
   few_sent t s (e ∷ es) f h k few =
@@ -77,12 +77,12 @@ module _ {P A : Type 0} {starts : P → Type 0} {asks : P → Request} {goes : P
       (kept_run (keeps course o z) retries t s (e ∷ []) (f.0, tt) (h.0, tt) k) (spare_still t e.outcome few))
 
   -- From the start of the operation.
-  pub few_of : (m : Stage P A) → m ≡ On o → starts o → (t : Retried (Stage P A)) → t ≡ fresh retries m → (all : List Entry)
+  pub few_of : (m : OperationStage P A) → m ≡ On o → starts o → (t : Retried (OperationStage P A)) → t ≡ fresh retries m → (all : List Entry)
       → Follows (wants_of (wanted asks)) (step retries (after goes)) t all → AreHonest z all
       → (old new part : List Entry) → new ≡ old ++ all → new ≡ old ++ part → length part ≤ (more o z + 1) * (retries + 1)
   few_of m e h t first all f honest old new part appended same =
       let begun : t ≡ fresh retries (On o) = first ∙ ap (fresh retries) e in
-      let most_all = subst (λ (t : Retried (Stage P A)). Follows (wants_of (wanted asks)) (step retries (after goes)) t all
+      let most_all = subst (λ (t : Retried (OperationStage P A)). Follows (wants_of (wanted asks)) (step retries (after goes)) t all
       → length all ≤ (1 + more o z) * (retries + 1)) (sym begun)
       (λ g. let l = few_sent (fresh retries (On o)) z all g honest (course.begin o z h) (omega arith) in omega (arith, l)) f in
       let one : length part ≡ length all = ap length (append_cancel_left old part all (sym same ∙ appended)) in

@@ -13,8 +13,8 @@ use Rattle.operations.specs.Courses.{IsCalm, IsCourse, MaySend}
 use Rattle.operations.specs.Operations.{IsReady, Kept, after, got, led, wanted}
 use Rattle.operations.specs.Performed.{Performed, Seen}
 use Rattle.operations.specs.Plans.{Goes}
-use Rattle.operations.specs.declared.operation.Stage.{Stage}
-use Rattle.operations.specs.declared.operation.Stage.TheVariants.{On, Over}
+use Rattle.operations.specs.declared.operation.OperationStage.{OperationStage}
+use Rattle.operations.specs.declared.operation.OperationStage.TheVariants.{On, Over}
 use Rattle.operations.specs.declared.plan.Step.{Step}
 use Rattle.operations.specs.declared.plan.Step.TheVariants.{End, Next}
 use Rattle.retries.proofs.Runs.{follows_take}
@@ -107,31 +107,31 @@ module _ {P A : Type 0} {starts : P → Type 0} {asks : P → Request} {goes : P
   pub kept_start : starts o → Kept (holds o z) (gives o z) (always o z) (On o) z false
   kept_start h = plan.begin o z h
 
-  pub ready_start : starts o → (m : Stage P A) → m ≡ On o → (s : Scene) → s ≡ z → (b : Bool) → b ≡ false → IsReady holds gives always m s b
+  pub ready_start : starts o → (m : OperationStage P A) → m ≡ On o → (s : Scene) → s ≡ z → (b : Bool) → b ≡ false → IsReady holds gives always m s b
   ready_start h m e s f b q =
       subst (λ m. IsReady holds gives always m s b) (sym e)
       (subst (λ s. IsReady holds gives always (On o) s b) (sym f)
       (subst (λ b. IsReady holds gives always (On o) z b) (sym q) (record { first = o; opening = z; kept = kept_start h })))
 
   -- The operation after these entries.
-  abbrev Led : Retrying (Stage P A) → List Entry → Retried (Stage P A)
+  abbrev Led : Retrying (OperationStage P A) → List Entry → Retried (OperationStage P A)
   Led t part = run (step t.retries (after goes)) (retried t) part
 
-  abbrev Ran : Retrying (Stage P A) → List Entry → Type 0
+  abbrev Ran : Retrying (OperationStage P A) → List Entry → Type 0
   Ran t part = Follows (wants_of (wanted asks)) (step t.retries (after goes)) (retried t) part
 
-  kept_at : (t : Retrying (Stage P A)) → t.machine ≡ On o → t.repeated ≡ false → starts o
+  kept_at : (t : Retrying (OperationStage P A)) → t.machine ≡ On o → t.repeated ≡ false → starts o
       → Kept (holds o z) (gives o z) (always o z) t.machine z t.repeated
   kept_at t e q h = subst (λ m. Kept (holds o z) (gives o z) (always o z) m z t.repeated) (sym e)
       (subst (λ b. Kept (holds o z) (gives o z) (always o z) (On o) z b) (sym q) (kept_start h))
 
-  pub kept_all : (t : Retrying (Stage P A)) → t.machine ≡ On o → t.repeated ≡ false → starts o → (part : List Entry) → Ran t part
+  pub kept_all : (t : Retrying (OperationStage P A)) → t.machine ≡ On o → t.repeated ≡ false → starts o → (part : List Entry) → Ran t part
       → AreHonest z part
       → Kept (holds o z) (gives o z) (always o z) (Led t part).operation (after_all z part) (Led t part).repeated
   kept_all t e q h part f a =
       kept_run (keeps plan o z) t.retries (retried t) z part f a (kept_at t e q h)
 
-  pub moments : (t : Retrying (Stage P A)) → t.machine ≡ On o → t.repeated ≡ false → starts o → (part : List Entry) → Ran t part
+  pub moments : (t : Retrying (OperationStage P A)) → t.machine ≡ On o → t.repeated ≡ false → starts o → (part : List Entry) → Ran t part
       → AreHonest z part
       → (m : ℕ) → always o z (after_all z (take m part))
   moments t e q h part f a m = at_any plan o z _ _ _ (kept_all t e q h (take m part)
@@ -140,13 +140,13 @@ module _ {P A : Type 0} {starts : P → Type 0} {asks : P → Request} {goes : P
   -- ---- the requests that are sent
 
   module _ (sends : Request → Type 0) (may : (p : P) (s : Scene) (b : Bool) → holds o z p s b → sends (asks p)) where
-    sent_now : (m : Stage P A) (s : Scene) (b : Bool) (r : Request) → wanted asks m ≡ Some r
+    sent_now : (m : OperationStage P A) (s : Scene) (b : Bool) (r : Request) → wanted asks m ≡ Some r
         → Kept (holds o z) (gives o z) (always o z) m s b → sends r
     sent_now (On p) s b r w k = let e : asks p ≡ r = cc in subst sends e (may p s b k)
     sent_now _ s b r w k = absurd (cc)
 
     -- Each request that is sent is one that the phases may send.
-    all_sent : (retries : ℕ) (t : Retried (Stage P A)) (s : Scene) (part : List Entry)
+    all_sent : (retries : ℕ) (t : Retried (OperationStage P A)) (s : Scene) (part : List Entry)
         → Follows (wants_of (wanted asks)) (step retries (after goes)) t part → AreHonest s part
         → Kept (holds o z) (gives o z) (always o z) t.operation s t.repeated → AllByRecursion (λ e. sends e.request) part
     all_sent retries t s [] f h k = tt
@@ -157,7 +157,7 @@ module _ {P A : Type 0} {starts : P → Type 0} {asks : P → Request} {goes : P
     )
 
   pub performed : {U : Type 0} (sends : P → Scene → Request → Type 0) (may : MaySend asks holds sends) (result : Result U DriveStop)
-      (actor : Actor) (event retries : ℕ) (t : Retrying (Stage P A)) (s : Scene) (old new part : List Entry) (first requests before now : ℕ)
+      (actor : Actor) (event retries : ℕ) (t : Retrying (OperationStage P A)) (s : Scene) (old new part : List Entry) (first requests before now : ℕ)
       (told tells : ℕ → Option Fate) → t.machine ≡ On o → t.repeated ≡ false → starts o
       → IsRun (wanted asks) (after goes) actor event t z part s → new ≡ old ++ part → AreForetold told (first + 1) part
       → Tried retries retries part result → IsFaultBy retries part result → Counted old new first requests before now told tells
@@ -176,13 +176,13 @@ module _ {P A : Type 0} {starts : P → Type 0} {asks : P → Request} {goes : P
     counts = n;
   }
 
-  pub given : (t t' : Retrying (Stage P A)) (s : Scene) (part : List Entry) (a : A) → t.machine ≡ On o → t.repeated ≡ false → starts o
+  pub given : (t t' : Retrying (OperationStage P A)) (s : Scene) (part : List Entry) (a : A) → t.machine ≡ On o → t.repeated ≡ false → starts o
       → Ran t part → AreHonest z part
       → retried t' ≡ Led t part → s ≡ after_all z part → t'.machine ≡ Over a → gives o z a s
   given t t' s part a e q h f honest there scene over =
       subst (λ v. gives o z a v) (sym scene)
       (subst (λ m. Kept (holds o z) (gives o z) (always o z) m (after_all z part) (Led t part).repeated)
-      (sym (ap (λ (t : Retried (Stage P A)). t.operation) there) ∙ over)
+      (sym (ap (λ (t : Retried (OperationStage P A)). t.operation) there) ∙ over)
       (kept_all t e q h part f honest))
 
   pub nothing_done : {U : Type 0} (sends : Request → Type 0) (actor : Actor) (event retries : ℕ) (es : List Entry) (first before : ℕ)
@@ -208,7 +208,7 @@ module _ {P A : Type 0} {starts : P → Type 0} {asks : P → Request} {goes : P
 module _ {P A : Type 0} {starts : P → Type 0} {asks : P → Request} {goes : P → Reply → Bool → Step P A}
     {calm : P → Scene → P → Scene → Type 0} {leaves : P → Scene → A → Scene → Type 0} (k : IsCalm starts asks goes calm leaves) (o : P)
     (z : Scene) where
-  abbrev InCalm : Stage P A → Scene → Type 0
+  abbrev InCalm : OperationStage P A → Scene → Type 0
   InCalm (On p) s = calm o z p s
   InCalm (Over a) s = leaves o z a s
   InCalm _ s = Unit {0}
@@ -217,13 +217,13 @@ module _ {P A : Type 0} {starts : P → Type 0} {asks : P → Request} {goes : P
   calm_led (Next p) s h = h
   calm_led (End a) s h = h
 
-  calm_got : (m : Stage P A) (s : Scene) (r : Request) → wanted asks m ≡ Some r → InCalm m s
+  calm_got : (m : OperationStage P A) (s : Scene) (r : Request) → wanted asks m ≡ Some r → InCalm m s
       → InCalm (got goes m (answer s r) false) (apply s r)
   calm_got (On p) s r w h = let e : asks p ≡ r = cc in subst (λ v. InCalm (led (goes p (answer s v) false)) (apply s v)) e
       (calm_led _ _ (k.goes_on o z p s h))
   calm_got _ s r w h = absurd (cc)
 
-  calm_step : (retries : ℕ) (t : Retried (Stage P A)) (s : Scene) (r : Request) (x : Outcome) → t.repeated ≡ false
+  calm_step : (retries : ℕ) (t : Retried (OperationStage P A)) (s : Scene) (r : Request) (x : Outcome) → t.repeated ≡ false
       → wanted asks t.operation ≡ Some r → IsHonestOutcome x (answer s r) → is_unanswered x ≡ false → InCalm t.operation s
       → InCalm (step retries (after goes) t x).operation (effect s r x) × ((step retries (after goes) t x).repeated ≡ false)
   calm_step retries t s r (Answered a) q w h n c = (
@@ -234,7 +234,7 @@ module _ {P A : Type 0} {starts : P → Type 0} {asks : P → Request} {goes : P
   calm_step retries t s r Slow q w h n c = absurd (cc)
   calm_step retries t s r _ q w h n c = absurd (cc)
 
-  calm_all : (retries : ℕ) (t : Retried (Stage P A)) (s : Scene) (part : List Entry) → t.repeated ≡ false
+  calm_all : (retries : ℕ) (t : Retried (OperationStage P A)) (s : Scene) (part : List Entry) → t.repeated ≡ false
       → Follows (wants_of (wanted asks)) (step retries (after goes)) t part → AreHonest s part → AreAnswered part → InCalm t.operation s
       → InCalm (run (step retries (after goes)) t part).operation (after_all s part)
   calm_all retries t s [] q f h n c = c
@@ -242,7 +242,7 @@ module _ {P A : Type 0} {starts : P → Type 0} {asks : P → Request} {goes : P
       let one = calm_step retries t s e.request e.outcome q f.0 h.0 n.0 c in
       calm_all retries (step retries (after goes) t e.outcome) (effect s e.request e.outcome) es one.1 f.1 h.1 n.1 one.0
 
-  pub left_calm : (t t' : Retrying (Stage P A)) (s : Scene) (old new part all : List Entry) (a : A) → t.machine ≡ On o → t.repeated ≡ false
+  pub left_calm : (t t' : Retrying (OperationStage P A)) (s : Scene) (old new part all : List Entry) (a : A) → t.machine ≡ On o → t.repeated ≡ false
       → starts o → Follows (wants_of (wanted asks)) (step t.retries (after goes)) (retried t) all → AreHonest z all
       → retried t' ≡ run (step t.retries (after goes)) (retried t) all → s ≡ after_all z all → t'.machine ≡ Over a → new ≡ old ++ all
       → new ≡ old ++ part → AreAnswered part → leaves o z a s
@@ -250,7 +250,7 @@ module _ {P A : Type 0} {starts : P → Type 0} {asks : P → Request} {goes : P
       let each : AreAnswered all = subst AreAnswered (append_cancel_left old part all (sym same ∙ appended)) answered in
       let first : InCalm t.machine z = subst (λ m. InCalm m z) (sym e) (k.begin o z h) in
       subst (λ v. leaves o z a v) (sym scene)
-      (subst (λ m. InCalm m (after_all z all)) (sym (ap (λ (t : Retried (Stage P A)). t.operation) there) ∙ over)
+      (subst (λ m. InCalm m (after_all z all)) (sym (ap (λ (t : Retried (OperationStage P A)). t.operation) there) ∙ over)
       (calm_all t.retries (retried t) z all q f honest each first))
 
 -- What holds always holds at the end.

@@ -18,6 +18,6 @@ mod operation;
 mod performing;
 mod plan;
 
-pub use operation::{Operation, Stage};
+pub use operation::{Operation, OperationStage};
 pub use performing::perform;
 pub use plan::{Plan, Step};

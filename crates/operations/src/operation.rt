@@ -10,7 +10,7 @@ use std::mem;
 
 /// The stage of an operation: in a phase, ended with an answer, or stopped.
 #[derive(Drop)]
-pub enum Stage<P, A> {
+pub enum OperationStage<P, A> {
     On(P),
     Over(A),
     /// A request exhausted its retries.
@@ -21,16 +21,16 @@ pub enum Stage<P, A> {
 /// An operation as a machine.
 #[derive(Drop)]
 pub struct Operation<P: Plan> {
-    stage: Stage<P, P::Answer>,
+    stage: OperationStage<P, P::Answer>,
     asked: Option<Request>,
 }
 
 impl<P: Plan> Model for Operation<P> {
     ghost use Rattle.std.specs.Prelude.{◌≡◌};
-    ghost use Rattle.operations.specs.declared.operation.Stage.{Stage};
+    ghost use Rattle.operations.specs.declared.operation.OperationStage.{OperationStage};
     ghost use Rattle.operations.specs.Operations.{wanted};
 
-    ghost Value = { Stage P P.Answer };
+    ghost Value = { OperationStage P P.Answer };
 
     ghost view = { λ o. o.stage };
 
@@ -40,24 +40,24 @@ impl<P: Plan> Model for Operation<P> {
 impl<P: Plan> Operation<P> {
     /// An operation before anything was sent.
     pub fn new(plan: P) -> Result<Operation<P>, AllocError>
-        ensures { IfOk result (λ operation. operation ≡ Stage.On plan) }
+        ensures { IfOk result (λ operation. operation ≡ OperationStage.On plan) }
     {
         let asked = plan.ask()?;
         Ok(Operation {
-            stage: Stage::On(plan),
+            stage: OperationStage::On(plan),
             asked: Some(asked),
         })
     }
 
     /// Returns its stage. Takes no memory.
-    pub fn stage(&self) -> &Stage<P, P::Answer>
+    pub fn stage(&self) -> &OperationStage<P, P::Answer>
         ensures { result.now ≡ self.now }
     {
         &self.stage
     }
 
     /// Gives its stage up. Takes no memory.
-    pub fn into_stage(self) -> Stage<P, P::Answer>
+    pub fn into_stage(self) -> OperationStage<P, P::Answer>
         ensures { result ≡ self }
     {
         let Operation { stage, asked } = self;
@@ -65,7 +65,7 @@ impl<P: Plan> Operation<P> {
         stage
     }
 
-    fn stop(&mut self, stage: Stage<P, P::Answer>)
+    fn stop(&mut self, stage: OperationStage<P, P::Answer>)
         requires { wanted P.asks stage ≡ None }
         ensures { self.new ≡ stage }
     {
@@ -75,10 +75,10 @@ impl<P: Plan> Operation<P> {
 
     fn go_on(&mut self, plan: P, asked: Request)
         requires { asked ≡ P.asks plan }
-        ensures { self.new ≡ Stage.On plan }
+        ensures { self.new ≡ OperationStage.On plan }
     {
         put(&mut self.asked, Some(asked));
-        put(&mut self.stage, Stage::On(plan));
+        put(&mut self.stage, OperationStage::On(plan));
     }
 
     fn step(&mut self, step: Step<P, P::Answer>) -> Result<(), AllocError>
@@ -91,18 +91,18 @@ impl<P: Plan> Operation<P> {
                 let asked = plan.ask()?;
                 self.go_on(plan, asked);
             }
-            Step::End(answer) => self.stop(Stage::Over(answer)),
+            Step::End(answer) => self.stop(OperationStage::Over(answer)),
         }
         Ok(())
     }
 
     /// Takes the stage out, and leaves NoMemory in its place.
-    fn taken(&mut self) -> Stage<P, P::Answer>
+    fn taken(&mut self) -> OperationStage<P, P::Answer>
         ensures result { result ≡ self.old }
-        ensures rest { self.new ≡ Stage.NoMemory }
+        ensures rest { self.new ≡ OperationStage.NoMemory }
     {
         put(&mut self.asked, None);
-        mem::replace(&mut self.stage, Stage::NoMemory)
+        mem::replace(&mut self.stage, OperationStage::NoMemory)
     }
 }
 
@@ -125,7 +125,7 @@ impl<P: Plan> Machine for Operation<P> {
 
     fn take(&mut self, reply: &Reply, repeated: bool) -> Result<(), AllocError> {
         match self.taken() {
-            Stage::On(plan) => {
+            OperationStage::On(plan) => {
                 let step = plan.next(reply, repeated)?;
                 self.step(step)
             }
@@ -137,7 +137,7 @@ impl<P: Plan> Machine for Operation<P> {
     }
 
     fn worn(&mut self) -> Result<(), AllocError> {
-        self.stop(Stage::StoreFault);
+        self.stop(OperationStage::StoreFault);
         Ok(())
     }
 

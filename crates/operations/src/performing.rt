@@ -3,7 +3,7 @@ ghost use Rattle.s3_types.specs.declared.journal.Entry.{Entry};
 ghost use Rattle.machine.specs.Counted.{AreAnswered};
 ghost use Rattle.operations.specs.Performed.{Performed, seen};
 
-use crate::operation::{Operation, Stage};
+use crate::operation::{Operation, OperationStage};
 use crate::plan::Plan;
 use machine::{DriveStop, Retrying, drive};
 use s3_types::{Actor, Journal, ObjectStore};
@@ -12,17 +12,17 @@ use std::alloc::Global;
 /// Returns the answer of an operation that was driven to its end.
 fn answer_of<P: Drop, A: Drop>(
     driven: Result<(), DriveStop>,
-    stage: Stage<P, A>,
+    stage: OperationStage<P, A>,
 ) -> Result<A, DriveStop>
     ensures driven { OnOk result (driven ≡ Ok tt) }
-    ensures answer { IfOk result (λ answer. stage ≡ Stage.Over answer) }
+    ensures answer { IfOk result (λ answer. stage ≡ OperationStage.Over answer) }
     ensures fault { IsErrOf result DriveStop.StoreFault → driven ≡ Err DriveStop.StoreFault }
 {
     if let Err(stop) = driven {
         return Err(stop);
     }
     match stage {
-        Stage::Over(answer) => Ok(answer),
+        OperationStage::Over(answer) => Ok(answer),
         _ => Err(DriveStop::NoMemory),
     }
 }

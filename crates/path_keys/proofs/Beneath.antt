@@ -1,8 +1,8 @@
 -- Texts after a key and a `/`.
-use Rattle.basics.proofs.Bools.{all_three}
-use Rattle.basics.proofs.Lists.{drop_front}
-use Rattle.basics.proofs.Pieces.{parts_append}
-use Rattle.basics.specs.Parts.{parts_from, parts_of}
+use Rattle.text_and_lists.proofs.Bools.{all_three}
+use Rattle.text_and_lists.proofs.Lists.{drop_front}
+use Rattle.text_and_lists.proofs.Pieces.{parts_append}
+use Rattle.text_and_lists.specs.Parts.{parts_from, parts_of}
 use Rattle.path_keys.proofs.Ends.{no_end}
 use Rattle.path_keys.proofs.Faults.{no_fault}
 use Rattle.path_keys.proofs.Keys.{key_from, some_key}

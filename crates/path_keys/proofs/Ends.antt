@@ -1,5 +1,5 @@
 -- A text that ends without a `/`.
-use Rattle.basics.proofs.Lists.{last_is}
+use Rattle.text_and_lists.proofs.Lists.{last_is}
 use Rattle.s3_types.specs.Names.{trimmed}
 use Rattle.std.proofs.Common.{Bool, List, arith, false, length, nat_lt, refl, slice_index, take, true, ℕ, [], ◌&&◌, ◌++◌, ◌-◌, ◌<◌, ◌==◌}
 use Rattle.std.proofs.Common.{◌∷◌, ◌≡◌, ◌≢◌}

@@ -1,6 +1,6 @@
 -- Faults of a key's elements.
-use Rattle.basics.proofs.Pieces.{join_parts}
-use Rattle.basics.specs.Parts.{parts_of}
+use Rattle.text_and_lists.proofs.Pieces.{join_parts}
+use Rattle.text_and_lists.specs.Parts.{parts_of}
 use Rattle.path_keys.proofs.Keys.{key_from}
 use Rattle.path_keys.specs.Paths.{checked, first_fault, is_key, key_of}
 use Rattle.path_keys.specs.declared.fault.PathFault.{PathFault}

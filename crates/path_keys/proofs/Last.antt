@@ -1,6 +1,6 @@
 -- A text cut at its last `/`.
-use Rattle.basics.proofs.Pieces.{join_parts, one_part, others_from_bytes, parts_append}
-use Rattle.basics.specs.Parts.{is_other, parts_of}
+use Rattle.text_and_lists.proofs.Pieces.{join_parts, one_part, others_from_bytes, parts_append}
+use Rattle.text_and_lists.specs.Parts.{is_other, parts_of}
 use Rattle.path_keys.proofs.Keys.{key_from, some_key}
 use Rattle.path_keys.specs.Paths.{is_key, without_last}
 use Rattle.s3_types.specs.Names.{are_elements, is_element}

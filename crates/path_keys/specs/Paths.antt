@@ -1,6 +1,6 @@
 -- Paths `s3a://BUCKET/KEY` (Hadoop FileSystem specification, paths; Amazon S3, object key names).
-use Rattle.basics.specs.Parts.{parts_of}
-use Rattle.basics.specs.Reading.{need, ◌>>=◌}
+use Rattle.text_and_lists.specs.Parts.{parts_of}
+use Rattle.text_and_lists.specs.Reading.{need, ◌>>=◌}
 use Rattle.path_keys.specs.declared.fault.PathFault.{PathFault}
 use Rattle.path_keys.specs.declared.fault.PathFault.TheVariants.{BadBucket, BadScheme, DotElement, EmptyElement, NoMemory, TooLong}
 use Rattle.s3_types.specs.Names.{are_elements, is_bucket, is_element, trimmed}
@@ -8,7 +8,7 @@ use Rattle.std.specs.List.{join_with_byte, starts_with}
 use Rattle.std.specs.Option.{option_or}
 use Rattle.std.specs.Prelude.{Bool, Err, List, None, Ok, Option, Result, Some, codes, drop, false, if◌then◌else◌, length, nat_eq, nat_le}
 use Rattle.std.specs.Prelude.{true, ℕ, [], ◌&&◌, ◌++◌, ◌==◌, ◌∷◌}
-use Rattle.basics.specs.Reading as reading
+use Rattle.text_and_lists.specs.Reading as reading
 
 -- A path: its bucket and its key. The key is empty at the bucket's root.
 pub record Path : Type 0 where

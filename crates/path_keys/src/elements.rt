@@ -1,10 +1,10 @@
 ghost use Rattle.std.specs.Prelude.{◌≡◌, Some, None, length, nat_lt, if◌then◌else◌};
-ghost use Rattle.basics.specs.Parts.{parts_of};
+ghost use Rattle.text_and_lists.specs.Parts.{parts_of};
 ghost use Rattle.path_keys.specs.Paths.{element_fault, first_fault, checked};
 
 use crate::fault::PathFault;
-use basics::next_part;
 use s3_types::is_element;
+use text_and_lists::next_part;
 
 fn element_fault(element: &[u8]) -> Option<PathFault>
     ensures { result ≡ element_fault element.now }

@@ -1,5 +1,5 @@
 ghost use Rattle.std.specs.Prelude.{◌≡◌, true, length, nat_le, ◌==◌, IfOk, option_map};
-ghost use Rattle.basics.specs.Parts.{parts_of, parts_after};
+ghost use Rattle.text_and_lists.specs.Parts.{parts_of, parts_after};
 ghost use Rattle.s3_types.specs.Names.{is_bucket};
 ghost use Rattle.path_keys.specs.Paths.{Gives, is_key, bucket_in, key_of, path_in};
 

@@ -1,6 +1,6 @@
 ghost use Rattle.std.specs.Prelude.{◌≡◌, true, IfOk, option_map, string_bytes, length, ◌<◌};
 ghost use Rattle.std.specs.List.{join_with_byte};
-ghost use Rattle.basics.specs.Parts.{parts_of};
+ghost use Rattle.text_and_lists.specs.Parts.{parts_of};
 ghost use Rattle.path_keys.specs.Paths.{Gives, is_key, first_fault, checked, below, joined, without_last, parent_of, relative_in};
 
 use crate::elements::first_fault;

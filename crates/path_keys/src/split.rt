@@ -1,5 +1,5 @@
 ghost use Rattle.std.specs.Prelude.{◌≡◌, ◌∷◌, ◌++◌, IfSome, option_map};
-ghost use Rattle.basics.specs.Parts.{parts_of, parts_after};
+ghost use Rattle.text_and_lists.specs.Parts.{parts_of, parts_after};
 ghost use Rattle.s3_types.specs.Names as names;
 ghost use Rattle.path_keys.specs.Paths.{without_scheme};
 

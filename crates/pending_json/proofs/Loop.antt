@@ -1,13 +1,13 @@
 -- One more pending upload of a list.
-use Rattle.basics.proofs.Reading.{with_front}
-use Rattle.basics.specs.Reading.{Fails}
+use Rattle.text_and_lists.proofs.Reading.{with_front}
+use Rattle.text_and_lists.specs.Reading.{Fails}
 use Rattle.pending_json.specs.Fault.{wanting}
 use Rattle.pending_json.specs.Pending.{Pending}
 use Rattle.pending_json.specs.Reading.{pending_in, pendings_in}
 use Rattle.pending_json.specs.declared.fault.RecordFault.{RecordFault}
 use Rattle.serde_json.specs.Data.{Data, Items, item}
 use Rattle.std.proofs.Common.{List, Ok, Result, [], ◌++◌, ◌∷◌, ◌≡◌}
-use Rattle.basics.proofs.Reading as reading
+use Rattle.text_and_lists.proofs.Reading as reading
 
 pub one_more : (front : List Pending) (d : Data) (ds : Items) (p : Pending) (total : Result (List Pending) RecordFault)
     → pending_in d ≡ Ok p

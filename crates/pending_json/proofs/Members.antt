@@ -1,5 +1,5 @@
 -- Members whose names rise by their bytes, each once.
-use Rattle.basics.proofs.Less.{less_of}
+use Rattle.text_and_lists.proofs.Less.{less_of}
 use Rattle.pending_json.specs.Fields.{is_one_of, only_fields}
 use Rattle.pending_json.specs.declared.fault.RecordFault.TheVariants.{ExtraField}
 use Rattle.serde_json.specs.Data.{Data, Members, array, boolean, member, no_members, null, number, object, put, string}

@@ -1,5 +1,5 @@
 -- Each part of a file is at most as long as the file.
-use Rattle.basics.proofs.Lists.{sum_first}
+use Rattle.text_and_lists.proofs.Lists.{sum_first}
 use Rattle.pending_json.specs.Pending.{fit}
 use Rattle.std.proofs.Common.{List, arith, length, true, ℕ, [], ◌<◌, ◌==◌, ◌^◌, ◌∷◌, ◌≡◌, ◌≤◌}
 use Rattle.std.proofs.lemmas.Bool.{and_parts, eqb-true}

@@ -1,6 +1,6 @@
 -- The tree that is read is the one tree of its value, and reading the tree of a value gives the value.
-use Rattle.basics.proofs.Reading.{needed, parted, same_ok}
-use Rattle.basics.specs.Reading.{◌>>=◌}
+use Rattle.text_and_lists.proofs.Reading.{needed, parted, same_ok}
+use Rattle.text_and_lists.specs.Reading.{◌>>=◌}
 use Rattle.pending_json.proofs.Members.{Rising, inside, one_table, rising_by}
 use Rattle.pending_json.proofs.Ordered.{ItemsOrdered, Ordered, field_ordered, tree_ordered}
 use Rattle.pending_json.proofs.Values.{committer_again, field_ok, is_an_object, is_array, is_committer, is_kept, is_number, is_string}

@@ -1,6 +1,6 @@
 -- The tree of a value of each kind, and how reading it gives the value.
-use Rattle.basics.proofs.Options.{end_of}
-use Rattle.basics.proofs.Reading.{parted, passed, same_ok}
+use Rattle.text_and_lists.proofs.Options.{end_of}
+use Rattle.text_and_lists.proofs.Reading.{parted, passed, same_ok}
 use Rattle.pending_json.specs.Committers.{committer_among, committer_of, committer_word, committers}
 use Rattle.pending_json.specs.Fields.{all_of, as_committer, as_sizes, as_tag, as_tags, as_texts, as_u32, as_whole, as_word, field, is_count}
 use Rattle.pending_json.specs.Fields.{is_sized, is_tag_text, kept, of_kind, present, sizes_in, tag_of, version_in}

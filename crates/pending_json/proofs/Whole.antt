@@ -1,5 +1,5 @@
 -- Reading a record in groups of fields gives the same as reading it as a whole.
-use Rattle.basics.specs.Reading.{◌>>=◌}
+use Rattle.text_and_lists.specs.Reading.{◌>>=◌}
 use Rattle.pending_json.specs.Fields.{as_bucket, as_committer, as_key, as_tags, as_texts, as_u32, as_whole, as_word, field, is_sized}
 use Rattle.pending_json.specs.Fields.{members_in, of_kind_if, sizes_in, version_in}
 use Rattle.pending_json.specs.Groups.{attempt_in, commits_in, mark_end_in, numbers_in, parts_in, pending_by, set_by, set_end_in, success_by}

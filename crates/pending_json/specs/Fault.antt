@@ -1,6 +1,6 @@
 -- How a call's result relates to the definition of reading a record.
 use Rattle.std.specs.Prelude.{◌≡◌, Bool, true, false, Result}
-use Rattle.basics.specs.Reading as reading
+use Rattle.text_and_lists.specs.Reading as reading
 use Rattle.pending_json.specs.declared.fault.RecordFault.{RecordFault}
 use Rattle.pending_json.specs.declared.fault.RecordFault.TheVariants.{NoMemory}
 

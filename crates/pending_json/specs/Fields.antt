@@ -1,5 +1,5 @@
 -- The fields of a JSON object and their kinds.
-use Rattle.basics.specs.Reading.{◌>>=◌}
+use Rattle.text_and_lists.specs.Reading.{◌>>=◌}
 use Rattle.pending_json.specs.Committers.{committer_of}
 use Rattle.pending_json.specs.Pending.{fit}
 use Rattle.pending_json.specs.declared.fault.RecordFault.{RecordFault}

@@ -1,5 +1,5 @@
 -- Reading a record in groups of fields, as the code does. Each group ends at its first fault. The result is the same as that of `Reading`.
-use Rattle.basics.specs.Reading.{◌>>=◌}
+use Rattle.text_and_lists.specs.Reading.{◌>>=◌}
 use Rattle.pending_json.specs.Fields.{as_bucket, as_committer, as_key, as_tags, as_texts, as_u32, as_whole, as_word, field, is_sized}
 use Rattle.pending_json.specs.Fields.{members_in, of_kind_if, only_fields, sizes_in, version_in}
 use Rattle.pending_json.specs.Pending.{Pending}

@@ -1,5 +1,5 @@
 -- Reading a JSON tree as a record. The result is the record, or the first fault in the order of the checks.
-use Rattle.basics.specs.Reading.{need, ◌>>=◌}
+use Rattle.text_and_lists.specs.Reading.{need, ◌>>=◌}
 use Rattle.pending_json.specs.Fields.{as_bucket, as_committer, as_key, as_tags, as_texts, as_u32, as_whole, as_word, field, is_one_of}
 use Rattle.pending_json.specs.Fields.{is_sized, members_in, of_kind_if, only_fields, sizes_in, version_in}
 use Rattle.pending_json.specs.Pending.{Pending}

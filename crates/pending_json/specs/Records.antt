@@ -1,5 +1,5 @@
 -- The bounds of records, and the bytes that spell one.
-use Rattle.basics.specs.Order.{text_cmp}
+use Rattle.text_and_lists.specs.Order.{text_cmp}
 use Rattle.pending_json.specs.Pending.{Pending, are_sizes, are_tags}
 use Rattle.pending_json.specs.Reading.{is_field_of, tree_read}
 use Rattle.pending_json.specs.declared.records.PendingSet.{PendingSet}

@@ -1,5 +1,5 @@
 -- There is one answer to which request wore out first; it is computed, and a counter of one request at a time finds it.
-use Rattle.basics.proofs.Members.{false_true, some_is, true_or_false}
+use Rattle.text_and_lists.proofs.Members.{false_true, some_is, true_or_false}
 use Rattle.retries.proofs.Lists.{parted}
 use Rattle.retries.proofs.Misses.{streak_other, streak_same, worn_grows, worn_more, worn_now}
 use Rattle.retries.proofs.SameRequest.{same_is, same_self}

@@ -1,6 +1,6 @@
 -- The count of the last misses, and whether there is a row of them somewhere.
-use Rattle.basics.proofs.Lists.{get_before, get_left}
-use Rattle.basics.proofs.Members.{true_or_false}
+use Rattle.text_and_lists.proofs.Lists.{get_before, get_left}
+use Rattle.text_and_lists.proofs.Members.{true_or_false}
 use Rattle.retries.specs.Same.{same_request}
 use Rattle.retries.specs.Worn.{IsWorn, answers, streak, trail, was_answered}
 use Rattle.s3_types.specs.declared.journal.Entry.{Entry}

@@ -1,6 +1,6 @@
 -- Requests that are the same by the test are equal.
-use Rattle.basics.proofs.Members.{eq_nat as number_is, false_true, nat_true, text_is, text_true}
-use Rattle.basics.specs.Order.{text_eq}
+use Rattle.text_and_lists.proofs.Members.{eq_nat as number_is, false_true, nat_true, text_is, text_true}
+use Rattle.text_and_lists.specs.Order.{text_eq}
 use Rattle.retries.specs.Same.{same_bool, same_list, same_option, same_part, same_ref, same_request}
 use Rattle.s3_types.specs.Tags.{Spelled}
 use Rattle.s3_types.specs.declared.request.NamedPart.{NamedPart}

@@ -2,4 +2,4 @@ pub mod Same
 pub mod Operation
 pub mod Worn
 pub mod Retries
-pub mod Laws
+pub mod RetryLaws

@@ -11,7 +11,7 @@
 //!   exactly if the entries alone say so.
 #![tactic(auto)]
 
-ghost use Rattle.retries.specs.Laws.{SameRequests, WornOnce, CounterIsLiteral};
+ghost use Rattle.retries.specs.RetryLaws.{SameRequests, WornOnce, CounterIsLiteral};
 
 /// Two requests are the same exactly if the test says so.
 pub fn requests()

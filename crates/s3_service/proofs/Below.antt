@@ -1,6 +1,6 @@
 -- The ids of all uploads are below the next id.
-use Rattle.basics.proofs.Naturals.{next_most}
-use Rattle.basics.specs.Order.{text_cmp, text_total}
+use Rattle.text_and_lists.proofs.Naturals.{next_most}
+use Rattle.text_and_lists.specs.Order.{text_cmp, text_total}
 use Rattle.s3_service.proofs.Changed.{absent, present}
 use Rattle.s3_service.specs.Changed.{with_bucket}
 use Rattle.s3_service.specs.Ids.{AreBelow, IsFresh}

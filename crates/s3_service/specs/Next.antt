@@ -1,5 +1,5 @@
 -- The buckets, one after another.
-use Rattle.basics.specs.Order.{text_cmp}
+use Rattle.text_and_lists.specs.Order.{text_cmp}
 use Rattle.s3_types.specs.Store.{BucketContent, Buckets}
 use Rattle.std.specs.List.{filter}
 use Rattle.std.specs.Ordering.{is_lt}

@@ -5,7 +5,7 @@ ghost use Rattle.std.specs.Iterator.{YieldsFirstBy, item_count};
 ghost use Rattle.std.specs.Range.Bound.{bound_map};
 ghost use Rattle.std.specs.BTreeMap.Range.{entries_between};
 ghost use Rattle.std.specs.declared.ops.Bound.TheVariants.{Unbounded};
-ghost use Rattle.basics.specs.Order.{text_cmp};
+ghost use Rattle.text_and_lists.specs.Order.{text_cmp};
 ghost use Rattle.s3_types.specs.Store.{BucketContent};
 ghost use Rattle.s3_service.specs.Next.{next_of, IsNext};
 

@@ -1,6 +1,6 @@
 -- The order of texts, and which texts begin with which.
-use Rattle.basics.proofs.Less.{lt}
-use Rattle.basics.specs.Order.{text_cmp}
+use Rattle.text_and_lists.proofs.Less.{lt}
+use Rattle.text_and_lists.specs.Order.{text_cmp}
 use Rattle.s3_types.specs.Pages.{begins}
 use Rattle.std.proofs.Common.{Bool, List, ap, arith, false, nat_eq, refl, true, ℕ, [], ◌&&◌, ◌∷◌, ◌≡◌}
 use Rattle.std.proofs.lemmas.Bool.{false≢true, true≢false}

@@ -1,6 +1,6 @@
 -- The laws of a file's parts: how many there are, how long each is, and that together they are the file.
-use Rattle.basics.proofs.Lists.{sum_first}
-use Rattle.basics.proofs.Options.{none_some}
+use Rattle.text_and_lists.proofs.Lists.{sum_first}
+use Rattle.text_and_lists.proofs.Options.{none_some}
 use Rattle.s3_types.specs.Blocks.{block_of, blocks, greater, parts_of, quotient_up}
 use Rattle.std.proofs.Common.{Bool, List, Some, add-one, ap, arith, cond, drop, false, inl, inr, length, length-append, length-drop}
 use Rattle.std.proofs.Common.{length-take-le, map, nat_lt, refl, slice_get, subst, suc, sym, take, true, zero, ℕ, [], ◌*◌, ◌++◌, ◌+◌, ◌-◌}

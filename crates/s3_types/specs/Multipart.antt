@@ -1,5 +1,5 @@
 -- Multipart uploads (Amazon S3 API: UploadPart, CompleteMultipartUpload, ListParts, ListMultipartUploads).
-use Rattle.basics.specs.Order.{text_cmp, text_eq}
+use Rattle.text_and_lists.specs.Order.{text_cmp, text_eq}
 use Rattle.s3_types.specs.Pages.{begins}
 use Rattle.s3_types.specs.Store.{Parts, Upload, Uploads}
 use Rattle.s3_types.specs.Tags.{Spelled, plain_tag}

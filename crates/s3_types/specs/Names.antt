@@ -1,5 +1,5 @@
 -- The names of buckets, of objects and of jobs.
-use Rattle.basics.specs.Parts.{parts_of}
+use Rattle.text_and_lists.specs.Parts.{parts_of}
 use Rattle.s3_types.specs.declared.limits.TheConstants.{MOST_KEY_BYTES}
 use Rattle.std.specs.List.{list_all}
 use Rattle.std.specs.Prelude.{Bool, List, bytes_eq, codes, if◌then◌else◌, length, nat_eq, nat_le, nat_lt, not, slice_index, take, ℕ, ◌&&◌}

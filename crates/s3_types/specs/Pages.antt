@@ -1,5 +1,5 @@
 -- Pages of a bucket's objects (Amazon S3 API: ListObjectsV2).
-use Rattle.basics.specs.Order.{text_cmp}
+use Rattle.text_and_lists.specs.Order.{text_cmp}
 use Rattle.s3_types.specs.Store.{Objects}
 use Rattle.s3_types.specs.declared.object.Object.{Object}
 use Rattle.s3_types.specs.declared.reply.PageEntry.{PageEntry}

@@ -1,5 +1,5 @@
 -- What the store and the cluster file system beside it hold.
-use Rattle.basics.specs.Order.{text_cmp}
+use Rattle.text_and_lists.specs.Order.{text_cmp}
 use Rattle.s3_types.specs.declared.object.Object.{Object}
 use Rattle.std.specs.Ordering.{nat_cmp}
 use Rattle.std.specs.Prelude.{List, ℕ}

@@ -1,17 +1,17 @@
 ghost use Rattle.std.specs.Prelude.{◌≡◌, ◌↔◌, ◌&&◌, ℕ, List, IfOk, IfSome, IsErrOf, is_some, Some, refl, true, false, length};
 ghost use Rattle.std.specs.List.{list_all};
 ghost use Rattle.std.specs.Str.{is_utf8};
-ghost use Rattle.basics.specs.Parts.{parts_of};
-ghost use Rattle.basics.specs.Order.{text_cmp, text_eq, text_partial_cmp, text_per, text_equiv, text_po, text_total, text_ties};
+ghost use Rattle.text_and_lists.specs.Parts.{parts_of};
+ghost use Rattle.text_and_lists.specs.Order.{text_cmp, text_eq, text_partial_cmp, text_per, text_equiv, text_po, text_total, text_ties};
 ghost use Rattle.s3_types.specs.Names.{is_key, is_key_path, is_element, are_elements, trimmed, is_bucket, is_name_byte, is_letter_or_digit};
 ghost use Rattle.s3_types.specs.declared.names.NameFault.TheVariants.{NoMemory};
 
 use crate::limits::MOST_KEY_BYTES;
 use crate::text::Text;
-use basics::next_part;
 use std::alloc::{AllocError, AllocFailed, Global};
 use std::cmp::Ordering;
 use std::marker::Model;
+use text_and_lists::next_part;
 use thiserror::Error;
 
 /// Why a text is not a name.

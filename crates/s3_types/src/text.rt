@@ -1,7 +1,7 @@
 ghost use Rattle.std.specs.Prelude.{◌≡◌, ℕ, List, [], IfOk, refl, string_bytes};
 ghost use Rattle.std.proofs.Common.{rules};
 ghost use Rattle.std.specs.Cmp.Rules.{comparing, hashing};
-ghost use Rattle.basics.specs.Order.{text_cmp, text_eq, text_partial_cmp, text_hash, text_per, text_equiv, text_po, text_total, text_ties};
+ghost use Rattle.text_and_lists.specs.Order.{text_cmp, text_eq, text_partial_cmp, text_hash, text_per, text_equiv, text_po, text_total, text_ties};
 ghost use Rattle.s3_types.specs.Pages.{begins};
 
 use std::alloc::{AllocError, Global};

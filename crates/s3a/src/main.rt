@@ -3,11 +3,11 @@
 
 ghost use Rattle.std.specs.Prelude.{◌≡◌, IfOk};
 
+use devices::{StdSink, StdSource};
 use exit_status::Status;
 use folder_log::{FileDisk, Lockable, LogShelf};
 use s3_types::Text;
 use s3a_top::run;
-use shelf::{StdSink, StdSource};
 use std::alloc::{AllocError, Global};
 use std::process::ExitCode;
 use std::rt::{Env, Files};

@@ -1,6 +1,6 @@
 -- What is left after uploads were aborted one by one.
-use Rattle.basics.proofs.Members.{nat_gone, nat_left, same_or_not, some_is}
-use Rattle.basics.specs.Members.{IsIn}
+use Rattle.text_and_lists.proofs.Members.{nat_gone, nat_left, same_or_not, some_is}
+use Rattle.text_and_lists.specs.Members.{IsIn}
 use Rattle.bucket_ops.specs.Uploads.{IsStill, uploads_from}
 use Rattle.fs_files.proofs.WritingLaws.{placed_by, placed_same}
 use Rattle.fs_files.specs.Placed.{placed}

@@ -1,6 +1,6 @@
 -- The requests that a session sends to its store.
-use Rattle.basics.proofs.Members.{in_back, in_front, same_or_other, some_is}
-use Rattle.basics.specs.Members.{IsIn}
+use Rattle.text_and_lists.proofs.Members.{in_back, in_front, same_or_other, some_is}
+use Rattle.text_and_lists.specs.Members.{IsIn}
 use Rattle.bucket_ops.specs.Asks.{Ask, is_look, objects_at}
 use Rattle.bucket_ops.specs.Phases.{AlwaysIn, SendsAt, SendsIn}
 use Rattle.bucket_ops.specs.Uploads.{IsPageOf, uploads_from}

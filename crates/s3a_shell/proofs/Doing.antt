@@ -2,7 +2,7 @@
 use Rattle.durable_store.proofs.Found.{few_ids}
 use Rattle.durable_store.specs.Outcomes.{IsSound}
 use Rattle.durable_store.specs.Works.{Work}
-use Rattle.durable_store.specs.declared.held.Held.TheVariants.{Store}
+use Rattle.durable_store.specs.declared.shelf_state.ShelfState.TheVariants.{Store}
 use Rattle.machine.specs.Counted.{AreAnswered}
 use Rattle.machine.specs.Turns.{AreBy}
 use Rattle.s3_types.specs.Moment.{IsHonest, moment}

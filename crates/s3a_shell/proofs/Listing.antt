@@ -1,5 +1,5 @@
 -- What is listed of uploads.
-use Rattle.basics.proofs.Members.{some_is}
+use Rattle.text_and_lists.proofs.Members.{some_is}
 use Rattle.bucket_ops.specs.Uploads.{uploads_from}
 use Rattle.path_keys.specs.Paths.{Path, below}
 use Rattle.s3_types.specs.Answer.{answer_at}

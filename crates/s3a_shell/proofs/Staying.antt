@@ -1,5 +1,5 @@
 -- What a command leaves: other buckets and uploads unchanged, no upload of its own, and all unchanged if it was refused.
-use Rattle.basics.proofs.Members.{same_or_other, text_here, text_other}
+use Rattle.text_and_lists.proofs.Members.{same_or_other, text_here, text_other}
 use Rattle.bucket_ops.proofs.AskLaws.{with_same}
 use Rattle.bucket_ops.specs.Asks.{objects_of, with_objects, with_objects_if}
 use Rattle.bucket_ops.specs.Phases.{GivesIn, InScene}

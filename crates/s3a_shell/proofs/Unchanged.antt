@@ -1,6 +1,6 @@
 -- If no request is a change, the store stays as it is.
-use Rattle.basics.proofs.Tree.{insert_same}
-use Rattle.basics.specs.Order.{text_total}
+use Rattle.text_and_lists.proofs.Tree.{insert_same}
+use Rattle.text_and_lists.specs.Order.{text_total}
 use Rattle.journal_log.proofs.Journals.{others_leave}
 use Rattle.log_format.specs.Change.{is_changing}
 use Rattle.machine.specs.Counted.{AreAnswered}

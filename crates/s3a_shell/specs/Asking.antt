@@ -1,5 +1,5 @@
 -- The requests that each command may send: those of its operation, and no other (Amazon S3 API reference; Hadoop FileSystem specification).
-use Rattle.basics.specs.Members.{IsIn}
+use Rattle.text_and_lists.specs.Members.{IsIn}
 use Rattle.bucket_ops.specs.Asks.{Ask, is_look, request_of}
 use Rattle.bucket_ops.specs.Phases.{SendsIn}
 use Rattle.bucket_ops.specs.Uploads.{IsPageOf}

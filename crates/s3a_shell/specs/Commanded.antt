@@ -1,8 +1,8 @@
 -- The work of a command, given what is held.
 use Rattle.durable_store.specs.Stores.{fault_text}
 use Rattle.durable_store.specs.Works.{Saves, Says, Work}
-use Rattle.durable_store.specs.declared.held.Held.{Held}
-use Rattle.durable_store.specs.declared.held.Held.TheVariants.{Faulty, Nothing, Store}
+use Rattle.durable_store.specs.declared.shelf_state.ShelfState.{ShelfState}
+use Rattle.durable_store.specs.declared.shelf_state.ShelfState.TheVariants.{Faulty, Nothing, Store}
 use Rattle.machine.specs.Counted.{AreAnswered}
 use Rattle.machine.specs.Turns.{AreBy}
 use Rattle.s3_types.specs.Moment.{IsHonest, moment}
@@ -39,7 +39,7 @@ minimum_of None = MOST_MINIMUM
 minimum_of (Some bytes) = bytes
 
 -- `init`: if nothing is held, a store with no bucket; otherwise a refusal or the fault of what is held.
-unfoldable pub init_work : Option ℕ → Held → Work
+unfoldable pub init_work : Option ℕ → ShelfState → Work
 init_work minimum Nothing = Saves (new_content (minimum_of minimum)) [] []
 init_work minimum (Store c) = Says statuses.Refused (Some (refused_line (codes "exists") None)) []
 init_work minimum (Faulty number place) = Says statuses.BadImage (Some (fault_text number place)) []
@@ -78,12 +78,12 @@ pub record Done (command : Command) (bytes : List ℕ) (c : Content) (work : Wor
   pub is : work ≡ work_said what.refused (has_changed sent) c what.text sent
 
 -- The command was done on what is held, or on a new store if nothing is held.
-abbrev pub DoneOn : Command → List ℕ → Held → Work → Type 0
+abbrev pub DoneOn : Command → List ℕ → ShelfState → Work → Type 0
 DoneOn command bytes Nothing work = Done command bytes (new_content MOST_MINIMUM) work
 DoneOn command bytes (Store c) work = Done command bytes c work
 DoneOn command bytes (Faulty number place) work = work ≡ Says statuses.BadImage (Some (fault_text number place)) []
 
 -- Holds if this is the work of the command on what is held.
-abbrev pub IsWork : Command → List ℕ → Held → Work → Type 0
+abbrev pub IsWork : Command → List ℕ → ShelfState → Work → Type 0
 IsWork (Init minimum) bytes held work = work ≡ init_work minimum held
 IsWork command bytes held work = DoneOn command bytes held work

@@ -1,5 +1,5 @@
 -- What a command leaves unchanged.
-use Rattle.basics.specs.Members.{IsIn}
+use Rattle.text_and_lists.specs.Members.{IsIn}
 use Rattle.path_keys.specs.Paths.{Path}
 use Rattle.s3_types.specs.Store.{BucketContent, Content}
 use Rattle.s3_types.specs.declared.request.UploadRef.{UploadRef}

@@ -1,5 +1,5 @@
 -- What the commands on uploads do and say (Amazon S3 API: ListMultipartUploads, ListParts, AbortMultipartUpload).
-use Rattle.basics.specs.Members.{IsIn}
+use Rattle.text_and_lists.specs.Members.{IsIn}
 use Rattle.fs_files.specs.Placed.{placed}
 use Rattle.path_keys.specs.Paths.{Path, below}
 use Rattle.s3_types.specs.Answer.{answer, apply}

@@ -10,7 +10,7 @@ ghost use Rattle.s3a_shell.specs.Texts.{refused_line};
 ghost use Rattle.s3a_shell.specs.Commanded.{takes_input, plays, minimum_of, init_work, work_said, Done, DoneOn, IsWork};
 
 use crate::{ShellEnd, only_looks, shell};
-use durable_store::{Answer, Held, Work, fault_text};
+use durable_store::{CommandAnswer, ShelfState, Work, fault_text};
 use exit_status::Status;
 use s3_service::Service;
 use s3_types::{Bytes, Journal, MOST_MINIMUM, let_go};
@@ -35,7 +35,7 @@ pub fn plays(command: &Command) -> bool
 fn faulty(alloc: Global, number: u8, place: u64) -> Result<Work, AllocError>
     ensures { IfOk result (λ work. work_in work ≡ works.Says Status.BadImage (Some (fault_text number place)) []) }
 {
-    Ok(Work::Says(Answer {
+    Ok(Work::Says(CommandAnswer {
         due: Status::BadImage,
         text: Some(fault_text(alloc, number, place)?),
         sent: Journal::new(alloc),
@@ -47,7 +47,7 @@ fn exists(alloc: Global) -> Result<Work, AllocError>
     ensures { IfOk result (λ work.
         work_in work ≡ works.Says Status.Refused (Some (refused_line (codes "exists") None)) []) }
 {
-    Ok(Work::Says(Answer {
+    Ok(Work::Says(CommandAnswer {
         due: Status::Refused,
         text: Some(Bytes::from_slice(alloc, b"refused exists\n")?),
         sent: Journal::new(alloc),
@@ -55,13 +55,13 @@ fn exists(alloc: Global) -> Result<Work, AllocError>
 }
 
 #[tactic(auto, unfolding(crate::specs::Commanded::init_work))]
-fn init_work(alloc: Global, minimum: Option<u64>, held: Held) -> Result<Work, AllocError>
+fn init_work(alloc: Global, minimum: Option<u64>, held: ShelfState) -> Result<Work, AllocError>
     requires some { 1 ≤ minimum_of minimum }
     requires most { minimum_of minimum ≤ MOST_MINIMUM }
     ensures { IfOk result (λ work. work_in work ≡ init_work minimum held) }
 {
     match held {
-        Held::Nothing => {
+        ShelfState::Nothing => {
             let text = Bytes::empty(alloc)?;
             Ok(Work::Saves {
                 opening: Service::new(alloc, minimum.unwrap_or(MOST_MINIMUM)),
@@ -69,11 +69,11 @@ fn init_work(alloc: Global, minimum: Option<u64>, held: Held) -> Result<Work, Al
                 sent: Journal::new(alloc),
             })
         }
-        Held::Store(service) => {
+        ShelfState::Store(service) => {
             let_go(service);
             exists(alloc)
         }
-        Held::Faulty { number, place } => faulty(alloc, number, place),
+        ShelfState::Faulty { number, place } => faulty(alloc, number, place),
     }
 }
 
@@ -90,7 +90,7 @@ fn said(end: ShellEnd) -> Work
         journal,
     } = end;
     let_go(service);
-    Work::Says(Answer {
+    Work::Says(CommandAnswer {
         due: if refused {
             Status::Refused
         } else {
@@ -171,15 +171,20 @@ fn done(
 }
 
 /// Does a command on what is held.
-fn done_on(alloc: Global, command: &Command, bytes: Bytes, held: Held) -> Result<Work, AllocError>
+fn done_on(
+    alloc: Global,
+    command: &Command,
+    bytes: Bytes,
+    held: ShelfState,
+) -> Result<Work, AllocError>
     requires one { is_of_shell command.now ≡ true }
     requires sound { IsSound held }
     ensures { IfOk result (λ work. DoneOn command.now bytes held (work_in work)) }
 {
     match held {
-        Held::Nothing => done(alloc, command, bytes, Service::new(alloc, MOST_MINIMUM)),
-        Held::Store(service) => done(alloc, command, bytes, service),
-        Held::Faulty { number, place } => {
+        ShelfState::Nothing => done(alloc, command, bytes, Service::new(alloc, MOST_MINIMUM)),
+        ShelfState::Store(service) => done(alloc, command, bytes, service),
+        ShelfState::Faulty { number, place } => {
             let_go(bytes);
             faulty(alloc, number, place)
         }
@@ -200,7 +205,7 @@ pub fn work_of(
     alloc: Global,
     command: &Command,
     bytes: Bytes,
-    held: Held,
+    held: ShelfState,
 ) -> Result<Work, AllocError>
     requires no_job { plays command.now ≡ false }
     requires fit { IsBounded command.now }

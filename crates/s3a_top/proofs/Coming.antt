@@ -14,8 +14,8 @@ use Rattle.s3a_top.specs.declared.stop.Stop.{Stop}
 use Rattle.s3a_top.specs.declared.stop.Stop.TheVariants.{NoMemory, Usage}
 use Rattle.s3a_top.specs.declared.work.Work.{Work}
 use Rattle.s3a_words.specs.declared.command.Command.{Command}
-use Rattle.shelf.specs.Logged.{CrashesLeave, IsTimed, Sight}
-use Rattle.shelf.specs.Logged.Call.{Load}
+use Rattle.devices.specs.Logged.{CrashesLeave, IsTimed, Sight}
+use Rattle.devices.specs.Logged.Call.{Load}
 use Rattle.std.proofs.Common.{Bool, Err, List, None, Ok, Option, Result, Some, false, inl, inr, refl, subst, sym, true, ℕ, ◌≡◌, ◌⊎◌}
 
 pub not_both : {A : Type 0} (b : Bool) → b ≡ true → b ≡ false → A

@@ -3,27 +3,27 @@ use Rattle.durable_job.specs.declared.jobs.Jobs.{Jobs}
 use Rattle.durable_store.specs.Outcomes.{MightLeave}
 use Rattle.durable_store.specs.Stores.{found}
 use Rattle.durable_store.specs.Works.{Saves, Says, Work}
-use Rattle.durable_store.specs.declared.held.Held.{Held}
+use Rattle.durable_store.specs.declared.shelf_state.ShelfState.{ShelfState}
 use Rattle.journal_log.proofs.Leaving.{started, then_on, told_all, told_more, widened}
 use Rattle.journal_log.specs.Kept.{IsMoment}
 use Rattle.s3_types.specs.Store.{Content}
 use Rattle.s3a_top.specs.Jobs.{MayHaveLeft}
 use Rattle.s3a_top.specs.Openings.{AreJobsOf, IsFound, Opens, opening_in}
 use Rattle.s3a_words.specs.declared.command.Command.{Command}
-use Rattle.shelf.specs.Logged.{CrashesLeave, Holding, IsTimed, Sight, Stored, fresh}
+use Rattle.devices.specs.Logged.{CrashesLeave, Holding, IsTimed, Sight, Stored, fresh}
 use Rattle.std.proofs.Common.{List, None, Option, Some, ap, inl, inr, refl, sym, ℕ, ⊎_elim, ◌∙◌, ◌≡◌, ◌⊎◌}
 use Rattle.store_image.specs.Image.{image}
 
 -- ---- what was found
 
-pub as_found : (told : Option Stored) (before : Held) → ((s : Stored) → told ≡ Some s → before ≡ found s) → IsFound told before
+pub as_found : (told : Option Stored) (before : ShelfState) → ((s : Stored) → told ≡ Some s → before ≡ found s) → IsFound told before
 as_found None before h = tt
 as_found (Some s) before h = h s refl
 
-pub opens_so : (told : Option Stored) (before : Held) (jobs : Jobs) (c : Content) → IsFound told before → opening_in before jobs ≡ Some c
+pub opens_so : (told : Option Stored) (before : ShelfState) (jobs : Jobs) (c : Content) → IsFound told before → opening_in before jobs ≡ Some c
     → Opens told jobs c
 opens_so None before jobs c f e = tt
-opens_so (Some s) before jobs c f e = ap (λ (b : Held). opening_in b jobs) (sym f) ∙ e
+opens_so (Some s) before jobs c f e = ap (λ (b : ShelfState). opening_in b jobs) (sym f) ∙ e
 
 -- ---- a command
 

@@ -17,7 +17,7 @@ use Rattle.s3a_top.specs.Works.{IsWritten}
 use Rattle.s3a_top.specs.declared.work.Work.{Work}
 use Rattle.s3a_words.specs.Words.{command_of}
 use Rattle.s3a_words.specs.declared.command.Command.{Command}
-use Rattle.shelf.specs.Logged.{Sight}
+use Rattle.devices.specs.Logged.{Sight}
 use Rattle.std.proofs.Common.{Bool, List, None, Option, Some, false, refl, sym, true, ℕ, ◌∙◌, ◌≡◌, ◌⊎◌}
 
 -- All that `run` says of the status, of what was done or traced, and of words that are no command.

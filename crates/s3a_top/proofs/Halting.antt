@@ -2,8 +2,8 @@
 use Rattle.durable_job.specs.declared.jobs.Jobs.{Jobs}
 use Rattle.durable_job.specs.declared.jobs.Told.{Told}
 use Rattle.durable_store.specs.Outcomes.{Tells}
-use Rattle.durable_store.specs.declared.held.Held.{Held}
-use Rattle.durable_store.specs.declared.held.Held.TheVariants.{Faulty}
+use Rattle.durable_store.specs.declared.shelf_state.ShelfState.{ShelfState}
+use Rattle.durable_store.specs.declared.shelf_state.ShelfState.TheVariants.{Faulty}
 use Rattle.exit_status.specs.Statuses.{code, memory_text, usage_text}
 use Rattle.exit_status.specs.declared.statuses.Status.{Status}
 use Rattle.journal_log.specs.Images.{NotReplaced}
@@ -23,25 +23,25 @@ use Rattle.s3a_top.specs.declared.stop.Stop.{Stop}
 use Rattle.s3a_top.specs.declared.stop.Stop.TheVariants.{Image, NoMemory, ReadFault, Script as BadScript, ShelfFault, Twins as BadTwins}
 use Rattle.s3a_top.specs.declared.stop.Stop.TheVariants.{Usage}
 use Rattle.s3a_words.specs.declared.command.Command.{Command}
-use Rattle.shelf.specs.Logged.{CrashesLeave, IsTimed, Sight, Stored}
-use Rattle.shelf.specs.Logged.Call.{Load}
-use Rattle.shelf.specs.declared.kept.ShelfStop.{ShelfStop}
+use Rattle.devices.specs.Logged.{CrashesLeave, IsTimed, Sight, Stored}
+use Rattle.devices.specs.Logged.Call.{Load}
+use Rattle.devices.specs.declared.kept.ShelfStop.{ShelfStop}
 use Rattle.std.proofs.Common.{Err, IsErrOf, List, None, Option, Some, ap, inl, inr, refl, subst, sym, true, ℕ, ◌∙◌, ◌≡◌, ◌⊎◌}
-use Rattle.shelf.specs.declared.kept.ShelfStop.TheVariants as shelves
+use Rattle.devices.specs.declared.kept.ShelfStop.TheVariants as shelves
 use Rattle.exit_status.specs.declared.statuses.Status.TheVariants as statuses
 
 -- ---- causes, where it is known what the shelf held
 
-pub sound_of : (told : Option Stored) (before : Held) → IsFound told before → is_sound before → IsSoundly told
+pub sound_of : (told : Option Stored) (before : ShelfState) → IsFound told before → is_sound before → IsSoundly told
 sound_of None before f h = tt
 sound_of (Some s) before f h = subst is_sound f h
 
-pub faulty_of : (told : Option Stored) (before : Held) (number place : ℕ) → IsFound told before → before ≡ Faulty number place
+pub faulty_of : (told : Option Stored) (before : ShelfState) (number place : ℕ) → IsFound told before → before ≡ Faulty number place
     → IsFaulty told number place
 faulty_of None before number place f h = tt
 faulty_of (Some s) before number place f h = sym f ∙ h
 
-pub held_sound : (before : Held) → ((number place : ℕ) → before ≡ Faulty number place → ⊥) → is_sound before
+pub held_sound : (before : ShelfState) → ((number place : ℕ) → before ≡ Faulty number place → ⊥) → is_sound before
 held_sound (Faulty number place) n = n number place refl
 held_sound _ n = tt
 
@@ -50,8 +50,8 @@ held_sound _ n = tt
 module _ {S : Type 0} (F : Sight S) (command : Command) (left rest : Option (List ℕ)) where
   -- the load failed
   pub load_halted : (old new : S) (fault : ShelfStop) → rest ≡ left → F.held new ≡ F.held old → CrashesLeave F old new (F.may_leave old)
-      → ((IsErrOf {T = Held} {E = ShelfStop} (Err fault) shelves.Failed → ⊥) → F.answers Load old new)
-      → (IsErrOf {T = Held} {E = ShelfStop} (Err fault) shelves.Failed → F.fails Load old new)
+      → ((IsErrOf {T = ShelfState} {E = ShelfStop} (Err fault) shelves.Failed → ⊥) → F.answers Load old new)
+      → (IsErrOf {T = ShelfState} {E = ShelfStop} (Err fault) shelves.Failed → F.fails Load old new)
       → JobHalted F command left rest old new (of_shelf fault)
   load_halted old new shelves.Failed unread same leaves answered broken = record {
     cause = inl unread;

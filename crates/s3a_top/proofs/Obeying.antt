@@ -2,9 +2,9 @@
 use Rattle.durable_store.specs.Outcomes.{CallsBy, HasImages, IsAnswer, IsDurableNow, IsHeld, IsSound, MightLeave, WhereSound}
 use Rattle.durable_store.specs.Outcomes.IsAnswer.{said, saved}
 use Rattle.durable_store.specs.Works.{IsPlain, IsSaid, Work as Doing}
-use Rattle.durable_store.specs.declared.held.Held.{Held}
-use Rattle.durable_store.specs.declared.held.Held.TheVariants.{Faulty, Nothing, Store}
-use Rattle.durable_store.specs.declared.work.Answer.{Answer}
+use Rattle.durable_store.specs.declared.shelf_state.ShelfState.{ShelfState}
+use Rattle.durable_store.specs.declared.shelf_state.ShelfState.TheVariants.{Faulty, Nothing, Store}
+use Rattle.durable_store.specs.declared.work.CommandAnswer.{CommandAnswer}
 use Rattle.exit_status.specs.declared.statuses.Status.{Status}
 use Rattle.s3_types.specs.declared.journal.Entry.{Entry}
 use Rattle.s3a_shell.specs.Commanded.{IsWork, takes_input}
@@ -22,12 +22,12 @@ use Rattle.s3a_top.specs.declared.stop.Stop.{Stop}
 use Rattle.s3a_top.specs.declared.stop.Stop.TheVariants.{NoMemory, ReadFault}
 use Rattle.s3a_top.specs.declared.work.Work.{Work}
 use Rattle.s3a_words.specs.declared.command.Command.{Command}
-use Rattle.shelf.specs.Logged.{CrashesLeave, IsDurable, IsTimed, Sight, Stored}
-use Rattle.shelf.specs.Logged.Call.{Load}
-use Rattle.shelf.specs.declared.kept.ShelfStop.{ShelfStop}
+use Rattle.devices.specs.Logged.{CrashesLeave, IsDurable, IsTimed, Sight, Stored}
+use Rattle.devices.specs.Logged.Call.{Load}
+use Rattle.devices.specs.declared.kept.ShelfStop.{ShelfStop}
 use Rattle.std.proofs.Common.{Bool, Err, IsErrOf, List, Ok, Option, Result, false, inl, inr, refl, subst, sym, true, ℕ, ◌≡◌}
 use Rattle.exit_status.specs.declared.statuses.Status.TheVariants as statuses
-use Rattle.shelf.specs.declared.kept.ShelfStop.TheVariants as shelves
+use Rattle.devices.specs.declared.kept.ShelfStop.TheVariants as shelves
 
 -- ---- what was done
 
@@ -45,8 +45,8 @@ answer_own _ _ _ _ (saved c t es) plain = tt
 answer_own _ _ _ _ _ plain = tt
 
 module _ {S : Type 0} (F : Sight S) where
-  pub over_of : (command : Command) (before : Held) (left rest : Option (List ℕ)) (bytes : List ℕ) (work : Doing) (old new : S)
-      (answer : Answer) (done : Work) → IsInput (reads_input command before) left rest bytes → IsWork command bytes before work
+  pub over_of : (command : Command) (before : ShelfState) (left rest : Option (List ℕ)) (bytes : List ℕ) (work : Doing) (old new : S)
+      (answer : CommandAnswer) (done : Work) → IsInput (reads_input command before) left rest bytes → IsWork command bytes before work
       → IsAnswer work answer.due answer.text answer.sent.entries
       → IsHeld work answer.due (F.held old) (F.held new) → CrashesLeave F old new (MightLeave work (F.held new) (F.may_leave old))
       → IsDurableNow work answer.due (F.held new) (F.may_leave new) → HasImages work → CallsBy F work answer.due old new
@@ -88,7 +88,7 @@ module _ {S : Type 0} (F : Sight S) where
 
 -- ---- causes, where it is known what the shelf held
 
-pub reason_of : (stop : Stop) (command : Command) (told : Option Stored) (before : Held) (left rest : Option (List ℕ)) → IsFound told before
+pub reason_of : (stop : Stop) (command : Command) (told : Option Stored) (before : ShelfState) (left rest : Option (List ℕ)) → IsFound told before
     → HasReasonIn stop command before left rest → HasReason stop command told left rest
 reason_of ReadFault command told before left rest f h = (sound_of told before f h.0, h.1)
 reason_of NoMemory command told before left rest f (inl h) = inl h
@@ -96,12 +96,12 @@ reason_of NoMemory command told before left rest f (inr h) = inr (sound_of told 
 reason_of _ command told before left rest f h = absurd h
 
 -- Memory ran out after the input was read.
-wanting_behind : (takes : Bool) (command : Command) (before : Held) (left rest : Option (List ℕ)) (bytes : List ℕ) → is_sound before
+wanting_behind : (takes : Bool) (command : Command) (before : ShelfState) (left rest : Option (List ℕ)) (bytes : List ℕ) → is_sound before
     → takes_input command ≡ takes → IsInput takes left rest bytes → HasReasonIn NoMemory command before left rest
 wanting_behind true command before left rest bytes sound e h = inr (sound, (e, taken_part left rest (read_taken left rest bytes h)))
 wanting_behind false command before left rest bytes sound e h = inl h.1
 
-pub wanting_reason : (command : Command) (before : Held) (left rest : Option (List ℕ)) (bytes : List ℕ)
+pub wanting_reason : (command : Command) (before : ShelfState) (left rest : Option (List ℕ)) (bytes : List ℕ)
     → IsInput (reads_input command before) left rest bytes → HasReasonIn NoMemory command before left rest
 wanting_reason command Nothing left rest bytes h = wanting_behind (takes_input command) command Nothing left rest bytes tt refl h
 wanting_reason command (Store c) left rest bytes h = wanting_behind (takes_input command) command (Store c) left rest bytes tt refl h
@@ -112,15 +112,15 @@ wanting_reason command (Faulty number place) left rest bytes h = inl h.1
 module _ {S : Type 0} (F : Sight S) (command : Command) (left rest : Option (List ℕ)) where
   -- the load failed
   pub load_stopped : (old new : S) (fault : ShelfStop) → rest ≡ left → F.held new ≡ F.held old → CrashesLeave F old new (F.may_leave old)
-      → ((IsErrOf {T = Held} {E = ShelfStop} (Err fault) shelves.Failed → ⊥) → F.answers Load old new)
-      → (IsErrOf {T = Held} {E = ShelfStop} (Err fault) shelves.Failed → F.fails Load old new)
+      → ((IsErrOf {T = ShelfState} {E = ShelfStop} (Err fault) shelves.Failed → ⊥) → F.answers Load old new)
+      → (IsErrOf {T = ShelfState} {E = ShelfStop} (Err fault) shelves.Failed → F.fails Load old new)
       → StoreHalted F command left rest old new (of_shelf fault)
   load_stopped old new shelves.Failed unread same leaves answered broken = record
       { reason = unread; same = same; calls = inr (inl (broken refl)); leaves = leaves }
   load_stopped old new shelves.NoMemory unread same leaves answered broken = record
       { reason = inl unread; same = same; calls = inr (inr (answered (λ e. cc))); leaves = leaves }
 
-  pub store_from : (result : Result Work Stop) → IsTimed F → (before : Held) (old mid new : S) → IsFound (F.held old) before
+  pub store_from : (result : Result Work Stop) → IsTimed F → (before : ShelfState) (old mid new : S) → IsFound (F.held old) before
       → IsSound before → F.held mid ≡ F.held old → F.answers Load old mid → CrashesLeave F old mid (F.may_leave old)
       → WhereSound before (IsDurable (F.held mid) (F.may_leave mid))
       → StoreSince F command before left rest mid new result → StoreGoes F command left rest old new result

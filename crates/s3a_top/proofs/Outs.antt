@@ -14,7 +14,7 @@ use Rattle.s3a_top.specs.Workings.{Comes}
 use Rattle.s3a_top.specs.Works.{IsWritten}
 use Rattle.s3a_top.specs.declared.work.Work.{Work}
 use Rattle.s3a_words.specs.declared.command.Command.{Command}
-use Rattle.shelf.specs.Logged.{Sight}
+use Rattle.devices.specs.Logged.{Sight}
 use Rattle.std.proofs.Common.{List, Option, inl, inr, subst, sym, ℕ, ⊎_elim, ◌≡◌, ◌⊎◌}
 
 -- One of two texts, each mapped.

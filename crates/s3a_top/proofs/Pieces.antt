@@ -1,6 +1,6 @@
 -- What was read and what was written so far.
 use Rattle.s3a_top.specs.Bytes.{IsRead, IsTaken, TakesPart, WritesSome}
-use Rattle.shelf.specs.Devices.{Appends, Takes}
+use Rattle.devices.specs.Devices.{Appends, Takes}
 use Rattle.std.proofs.Common.{Err, List, None, Ok, OnErr, Option, Result, Some, ap, append_assoc, arith, drop, length, length-append, lit≤}
 use Rattle.std.proofs.Common.{refl, subst, sym, take, ℕ, [], ◌++◌, ◌+◌, ◌<◌, ◌∙◌, ◌≡◌, ◌≤◌}
 use Rattle.std.proofs.lemmas.List.{append-nil, drop_all, drop_at, length-take, take-append-drop, take_all, take_at}

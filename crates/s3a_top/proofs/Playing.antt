@@ -20,10 +20,10 @@ use Rattle.s3a_top.specs.Plays.{IsReported, IsTold, JobOver}
 use Rattle.s3a_top.specs.Works.{IsWritten}
 use Rattle.s3a_top.specs.declared.work.Work.{Work}
 use Rattle.s3a_words.specs.declared.command.Command.{Command}
-use Rattle.shelf.specs.Logged.{CrashesLeave, Holding, IsTimed, Sight, Stored}
-use Rattle.shelf.specs.Logged.Call.{Load}
-use Rattle.shelf.specs.declared.kept.ShelfStop.{ShelfStop}
-use Rattle.shelf.specs.declared.kept.ShelfStop.TheVariants.{Failed, NoMemory}
+use Rattle.devices.specs.Logged.{CrashesLeave, Holding, IsTimed, Sight, Stored}
+use Rattle.devices.specs.Logged.Call.{Load}
+use Rattle.devices.specs.declared.kept.ShelfStop.{ShelfStop}
+use Rattle.devices.specs.declared.kept.ShelfStop.TheVariants.{Failed, NoMemory}
 use Rattle.std.proofs.Common.{List, None, Option, Some, ap, append_assoc, arith, inl, inr, length, refl, subst, sym, ℕ, [], ⊎_elim, ◌++◌}
 use Rattle.std.proofs.Common.{◌∙◌, ◌∷◌, ◌≡◌, ◌⊎◌}
 use Rattle.store_image.specs.Content.{IsContent}

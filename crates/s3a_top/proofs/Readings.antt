@@ -1,5 +1,5 @@
 -- The bytes that were read from the input, and what they read as.
-use Rattle.basics.specs.Reading.{Fails}
+use Rattle.text_and_lists.specs.Reading.{Fails}
 use Rattle.durable_job.specs.declared.jobs.Jobs.{Jobs}
 use Rattle.durable_job.specs.declared.jobs.Jobs.TheVariants.{One, Two}
 use Rattle.job_model.specs.JobScript.{Script}

@@ -3,9 +3,9 @@ use Rattle.durable_job.specs.declared.jobs.Jobs.TheVariants.{Two}
 use Rattle.durable_store.proofs.Found.{few_ids}
 use Rattle.durable_store.specs.Outcomes.{IsSound, Tells}
 use Rattle.durable_store.specs.Works.{IsPlain, IsSaid, Says, Work as Doing}
-use Rattle.durable_store.specs.declared.held.Held.{Held}
-use Rattle.durable_store.specs.declared.held.Held.TheVariants.{Faulty, Nothing, Store}
-use Rattle.durable_store.specs.declared.work.Answer.{Answer}
+use Rattle.durable_store.specs.declared.shelf_state.ShelfState.{ShelfState}
+use Rattle.durable_store.specs.declared.shelf_state.ShelfState.TheVariants.{Faulty, Nothing, Store}
+use Rattle.durable_store.specs.declared.work.CommandAnswer.{CommandAnswer}
 use Rattle.exit_status.specs.Statuses.{code, written_text}
 use Rattle.exit_status.specs.declared.statuses.Status.{Status}
 use Rattle.s3_types.specs.Moment.{IsHonest}
@@ -30,13 +30,13 @@ use Rattle.s3a_top.specs.declared.stop.Stop.TheVariants.{NoMemory, Usage}
 use Rattle.s3a_top.specs.declared.work.Work.{Work}
 use Rattle.s3a_words.specs.declared.command.Command.{Command}
 use Rattle.s3a_words.specs.declared.command.Command.TheVariants.{Init, Twins}
-use Rattle.shelf.specs.Logged.{CrashesLeave, IsTimed, Sight}
-use Rattle.shelf.specs.Logged.Call.{Load}
-use Rattle.shelf.specs.declared.kept.ShelfStop.{ShelfStop}
+use Rattle.devices.specs.Logged.{CrashesLeave, IsTimed, Sight}
+use Rattle.devices.specs.Logged.Call.{Load}
+use Rattle.devices.specs.declared.kept.ShelfStop.{ShelfStop}
 use Rattle.std.proofs.Common.{Bool, Err, IfOk, IsErrOf, List, None, Ok, Option, Result, Some, ap, arith, false, inl, inr, refl, subst, sym}
 use Rattle.std.proofs.Common.{true, ℕ, ◌^◌, ◌∙◌, ◌≡◌, ◌≢◌, ◌≤◌, ◌⊎◌}
 use Rattle.exit_status.specs.declared.statuses.Status.TheVariants as statuses
-use Rattle.shelf.specs.declared.kept.ShelfStop.TheVariants as shelves
+use Rattle.devices.specs.declared.kept.ShelfStop.TheVariants as shelves
 use Rattle.twin_script.specs.TwinScripts as twin_scripts
 
 -- ---- what a command does on what is held
@@ -48,7 +48,7 @@ not_two Twins left rest t single h = single refl
 not_two _ left rest t single h = h
 
 -- The store on which a command is done has upload ids left.
-pub few_in : (held : Held) → IsSound held → (store_in held).next ≤ 2 ^ 62
+pub few_in : (held : ShelfState) → IsSound held → (store_in held).next ≤ 2 ^ 62
 few_in (Store c) sound = few_ids c sound
 few_in Nothing sound = omega arith
 few_in (Faulty number place) sound = omega arith
@@ -64,20 +64,20 @@ done_honest command bytes c work d =
     by false false text = refl
 
 -- So it is for `init`, which sends none.
-init_honest : (minimum : Option ℕ) (before : Held) → IsHonest (store_in before) (shown_sends (init_work minimum before))
+init_honest : (minimum : Option ℕ) (before : ShelfState) → IsHonest (store_in before) (shown_sends (init_work minimum before))
 unfolding init_work
 init_honest minimum Nothing = tt
 init_honest minimum (Store c) = tt
 init_honest minimum (Faulty number place) = tt
 
-held_honest : (command : Command) (bytes : List ℕ) (before : Held) (work : Doing) → DoneOn command bytes before work
+held_honest : (command : Command) (bytes : List ℕ) (before : ShelfState) (work : Doing) → DoneOn command bytes before work
     → IsHonest (store_in before) (shown_sends work)
 held_honest command bytes Nothing work d = done_honest command bytes (new_content MOST_MINIMUM) work d
 held_honest command bytes (Store c) work d = done_honest command bytes c work d
 held_honest command bytes (Faulty number place) work d =
     subst (λ (w : Doing). IsHonest (new_content MOST_MINIMUM) (shown_sends w)) (sym d) tt
 
-pub sends_honest : (command : Command) (bytes : List ℕ) (before : Held) (work : Doing) → IsWork command bytes before work
+pub sends_honest : (command : Command) (bytes : List ℕ) (before : ShelfState) (work : Doing) → IsWork command bytes before work
     → IsHonest (store_in before) (shown_sends work)
 sends_honest (Init minimum) bytes before work is =
     subst (λ (w : Doing). IsHonest (store_in before) (shown_sends w)) (sym is) (init_honest minimum before)
@@ -95,18 +95,18 @@ shown_own (Says due text sent) plain = by due plain
 shown_own _ plain = (tt, λ e. cc)
 
 -- An answer that shows the command's work shows the command.
-pub answer_shown : {E : Type 0} (command : Command) (bytes : List ℕ) (before : Held) (work : Doing) (result : Result Answer E)
+pub answer_shown : {E : Type 0} (command : Command) (bytes : List ℕ) (before : ShelfState) (work : Doing) (result : Result CommandAnswer E)
     → IsWork command bytes before work → IsPlain work → IfOk result (IsShownOf before work)
     → IfOk result (AnswerShown command bytes before)
 answer_shown command bytes before work (Ok answer) does plain shown = record { work = work; does = does; plain = plain; shown = shown }
 answer_shown command bytes before work (Err error) does plain shown = tt
 
 -- Neither the input nor the shelf failed.
-pub shown_counts : (command : Command) (bytes : List ℕ) (before : Held) (answer : Answer) (work : Work) (left rest n : ℕ)
+pub shown_counts : (command : Command) (bytes : List ℕ) (before : ShelfState) (answer : CommandAnswer) (work : Work) (left rest n : ℕ)
     → work.answer ≡ answer → AnswerShown command bytes before answer → rest ≡ left → Counted (Ok work) left rest n n
 shown_counts command bytes before answer work left rest n is h same =
     let own = shown_own h.work h.plain in
-    let due : work.answer.due ≡ shown_status h.work = ap (λ (a : Answer). a.due) is ∙ h.shown.status in
+    let due : work.answer.due ≡ shown_status h.work = ap (λ (a : CommandAnswer). a.due) is ∙ h.shown.status in
     counted_done work left rest n n (subst IsWorked (sym due) own.0) same
     (subst (λ (s : Status). Tells 5 (code s) n n) (sym due) (tells_none 5 (code (shown_status h.work)) n n own.1 refl))
 
@@ -114,8 +114,8 @@ shown_counts command bytes before answer work left rest n is h same =
 
 -- The load was answered, or failed.
 pub load_ended : {S : Type 0} (F : Sight S) (old new : S) (fault : ShelfStop)
-    → ((IsErrOf {T = Held} {E = ShelfStop} (Err fault) shelves.Failed → ⊥) → F.answers Load old new)
-    → (IsErrOf {T = Held} {E = ShelfStop} (Err fault) shelves.Failed → F.fails Load old new)
+    → ((IsErrOf {T = ShelfState} {E = ShelfStop} (Err fault) shelves.Failed → ⊥) → F.answers Load old new)
+    → (IsErrOf {T = ShelfState} {E = ShelfStop} (Err fault) shelves.Failed → F.fails Load old new)
     → IsLoaded F old new
 load_ended F old new shelves.Failed answered broken = inr (inl (broken refl))
 load_ended F old new shelves.NoMemory answered broken = inr (inr (answered (λ e. cc)))

@@ -3,7 +3,7 @@ use Rattle.durable_job.specs.Played.{Counts}
 use Rattle.durable_job.specs.declared.jobs.Jobs.{Jobs}
 use Rattle.durable_job.specs.declared.jobs.Jobs.TheVariants.{One, Two}
 use Rattle.durable_store.specs.Outcomes.{Tells}
-use Rattle.durable_store.specs.declared.held.Held.{Held}
+use Rattle.durable_store.specs.declared.shelf_state.ShelfState.{ShelfState}
 use Rattle.exit_status.specs.Statuses.{code}
 use Rattle.exit_status.specs.declared.statuses.Status.{Status}
 use Rattle.journal_log.specs.Images.{Counts as CountsLoad}
@@ -22,10 +22,10 @@ use Rattle.s3a_top.specs.declared.stop.Stop.TheVariants.{NoMemory, ReadFault, Sc
 use Rattle.s3a_top.specs.declared.work.Work.{Work}
 use Rattle.s3a_words.specs.declared.command.Command.{Command}
 use Rattle.s3a_words.specs.declared.command.Command.TheVariants.{Gen, Job, Twins}
-use Rattle.shelf.specs.Logged.{Stored}
-use Rattle.shelf.specs.declared.kept.ShelfStop.{ShelfStop}
+use Rattle.devices.specs.Logged.{Stored}
+use Rattle.devices.specs.declared.kept.ShelfStop.{ShelfStop}
 use Rattle.std.proofs.Common.{Err, List, None, Ok, Option, Some, false, inl, inr, refl, subst, sym, ℕ, ⊎_elim, ◌<◌, ◌∙◌, ◌≡◌, ◌≢◌}
-use Rattle.shelf.specs.declared.kept.ShelfStop.TheVariants as shelves
+use Rattle.devices.specs.declared.kept.ShelfStop.TheVariants as shelves
 use Rattle.exit_status.specs.declared.statuses.Status.TheVariants as statuses
 
 -- ---- counts of faults
@@ -180,7 +180,7 @@ counted_read A NoMemory command left rest before after count h counts = counted_
 counted_read A _ command left rest before after count h counts = absurd h
 
 -- The bytes of a command's input could not be read.
-pub counted_bytes : (A : Type 0) (stop : Stop) (command : Command) (held : Held) (left rest : Option (List ℕ)) (before after count : ℕ)
+pub counted_bytes : (A : Type 0) (stop : Stop) (command : Command) (held : ShelfState) (left rest : Option (List ℕ)) (before after count : ℕ)
     → HasReasonIn stop command held left rest → CountsReads {A = A} (Err stop) before after → Counted (Err stop) before after count count
 counted_bytes A ReadFault command held left rest before after count h counts = record
     { own = tt; read = tells_one 3 before after counts; shelf = tells_none 5 3 count count (λ e. cc) refl }

@@ -2,8 +2,8 @@
 use Rattle.durable_store.specs.Outcomes.{CallsBy, IsAnswer}
 use Rattle.durable_store.specs.Outcomes.IsAnswer.{said, saved}
 use Rattle.durable_store.specs.Works.{Saves, Says, Work}
-use Rattle.durable_store.specs.declared.held.Held.{Held}
-use Rattle.durable_store.specs.declared.held.Held.TheVariants.{Faulty, Nothing, Store}
+use Rattle.durable_store.specs.declared.shelf_state.ShelfState.{ShelfState}
+use Rattle.durable_store.specs.declared.shelf_state.ShelfState.TheVariants.{Faulty, Nothing, Store}
 use Rattle.exit_status.specs.declared.statuses.Status.{Status}
 use Rattle.exit_status.specs.declared.statuses.Status.TheVariants.{Refused}
 use Rattle.s3_types.specs.Store.{Content}
@@ -13,7 +13,7 @@ use Rattle.s3a_shell.specs.Doings.{is_of_shell, only_looks}
 use Rattle.s3a_shell.specs.Sendings.{has_changed}
 use Rattle.s3a_words.specs.declared.command.Command.{Command}
 use Rattle.s3a_words.specs.declared.command.Command.TheVariants.{Init}
-use Rattle.shelf.specs.Logged.{Sight}
+use Rattle.devices.specs.Logged.{Sight}
 use Rattle.std.proofs.Common.{ap, inl, inr, refl, subst, sym, ◌∙◌}
 use Rattle.std.proofs.lemmas.Bool.{false≢true}
 use Rattle.std.specs.Prelude.{Bool, List, Option, Some, false, true, ℕ, ◌≡◌, ◌⊎◌}
@@ -53,13 +53,13 @@ module _ {S : Type 0} (F : Sight S) (status : Status) (text : Option (List ℕ))
           let w = saved_sent work status text es answer c d.what.text d.sent e in
           absurd (false≢true (sym (none_changed command d.sent d.reads w.0 w.1 none) ∙ f))
 
-  on_untouched : (command : Command) (bytes : List ℕ) (before : Held) (work : Work) → DoneOn command bytes before work
+  on_untouched : (command : Command) (bytes : List ℕ) (before : ShelfState) (work : Work) → DoneOn command bytes before work
       → IsAnswer work status text es → CallsBy F work status old new → ChangesNone command → new ≡ old
   on_untouched command bytes Nothing work h answer calls none = done_untouched command bytes _ work h answer calls none
   on_untouched command bytes (Store c) work h answer calls none = done_untouched command bytes c work h answer calls none
   on_untouched command bytes (Faulty number place) work h answer calls none = said_calls work _ _ _ h calls
 
-pub untouched_of : {S : Type 0} (F : Sight S) (command : Command) (bytes : List ℕ) (before : Held) (work : Work) (status : Status)
+pub untouched_of : {S : Type 0} (F : Sight S) (command : Command) (bytes : List ℕ) (before : ShelfState) (work : Work) (status : Status)
     (text : Option (List ℕ)) (es : List Entry) (old new : S)
     → IsWork command bytes before work → IsAnswer work status text es → CallsBy F work status old new
     → is_of_shell command ≡ true → (only_looks command ≡ true) ⊎ ((status ≡ Refused) ⊎ (has_changed es ≡ false)) → new ≡ old

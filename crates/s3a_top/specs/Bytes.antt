@@ -1,6 +1,6 @@
 -- The bytes that were read from the input and written to the output.
 use Rattle.s3_types.specs.declared.limits.TheConstants.{MOST_SCRIPT_BYTES}
-use Rattle.shelf.specs.Devices.{Appends}
+use Rattle.devices.specs.Devices.{Appends}
 use Rattle.std.specs.Prelude.{List, None, Option, Some, drop, take, ℕ, ◌+◌, ◌≡◌, ◌≤◌}
 
 -- Holds if all bytes left in the input were taken, but at most `MOST_SCRIPT_BYTES + 1`. For an input whose bytes are not known it only says

@@ -2,8 +2,8 @@
 use Rattle.durable_job.specs.declared.jobs.Told.{Told}
 use Rattle.durable_store.specs.Outcomes.{CallsBy, HasImages, IsAnswer, IsDurableNow, IsHeld, IsSound, MightLeave, WhereSound}
 use Rattle.durable_store.specs.Works.{Work}
-use Rattle.durable_store.specs.declared.held.Held.{Held}
-use Rattle.durable_store.specs.declared.held.Held.TheVariants.{Faulty}
+use Rattle.durable_store.specs.declared.shelf_state.ShelfState.{ShelfState}
+use Rattle.durable_store.specs.declared.shelf_state.ShelfState.TheVariants.{Faulty}
 use Rattle.exit_status.specs.Statuses.{code, memory_text, usage_text, written_text}
 use Rattle.exit_status.specs.declared.statuses.Status.{Status}
 use Rattle.exit_status.specs.declared.statuses.Status.TheVariants.{Refused}
@@ -19,8 +19,8 @@ use Rattle.s3a_top.specs.declared.stop.Stop.{Stop}
 use Rattle.s3a_top.specs.declared.stop.Stop.TheVariants.{NoMemory, ReadFault, ShelfFault}
 use Rattle.s3a_words.specs.declared.command.Command.{Command}
 use Rattle.s3a_words.specs.declared.command.Command.TheVariants.{Job, Twins}
-use Rattle.shelf.specs.Logged.{CrashesLeave, IsDurable, Sight, Stored}
-use Rattle.shelf.specs.Logged.Call.{Load}
+use Rattle.devices.specs.Logged.{CrashesLeave, IsDurable, Sight, Stored}
+use Rattle.devices.specs.Logged.Call.{Load}
 use Rattle.std.specs.Prelude.{Bool, List, None, Option, Some, false, true, ℕ, [], ◌≡◌, ◌⊎◌}
 
 -- The outcome of words that are no command: the usage line, or the line for memory that ran out, is written, and nothing is done.
@@ -39,7 +39,7 @@ may_read (Some Twins) = true
 may_read (Some command) = takes_input command
 
 -- True if the command reads its input: it has one, and the shelf holds a store or nothing.
-abbrev pub reads_input : Command → Held → Bool
+abbrev pub reads_input : Command → ShelfState → Bool
 reads_input command (Faulty number place) = false
 reads_input command before = takes_input command
 
@@ -91,7 +91,7 @@ pub record WorkDone {S : Type 0} (F : Sight S) (work : Work) (old new : S) (stat
 pub record StoreDone {S : Type 0} (F : Sight S) (command : Command) (left rest : Option (List ℕ)) (old new : S)
     (due : ℕ) (es : List Entry) (Says : List ℕ → Type 0) : Type 0 where
   -- what the shelf held
-  pub before : Held
+  pub before : ShelfState
   pub found : IsFound (F.held old) before
   -- a store that was found can be written as an image
   pub sound : IsSound before

@@ -6,7 +6,7 @@ use Rattle.durable_job.specs.declared.jobs.Jobs.{Jobs}
 use Rattle.durable_job.specs.declared.jobs.Jobs.TheVariants.{One, Two}
 use Rattle.durable_job.specs.declared.jobs.Told.{Told}
 use Rattle.durable_store.specs.Stores.{found}
-use Rattle.durable_store.specs.declared.held.Held.TheVariants.{Faulty}
+use Rattle.durable_store.specs.declared.shelf_state.ShelfState.TheVariants.{Faulty}
 use Rattle.exit_status.specs.Statuses.{code, memory_text, shelf_text}
 use Rattle.job_gen.specs.Summary.{summary}
 use Rattle.job_model.specs.JobScript.{Script}
@@ -29,8 +29,8 @@ use Rattle.s3a_top.specs.declared.stop.Stop.TheVariants.{Image, NoMemory, ReadFa
 use Rattle.s3a_top.specs.declared.stop.Stop.TheVariants.{Usage}
 use Rattle.s3a_words.specs.declared.command.Command.{Command}
 use Rattle.s3a_words.specs.declared.command.Command.TheVariants.{Gen, Job, Twins}
-use Rattle.shelf.specs.Logged.{CrashesLeave, Holding, IsDurable, Sight, Stored, fresh}
-use Rattle.shelf.specs.Logged.Call.{Load, Replace}
+use Rattle.devices.specs.Logged.{CrashesLeave, Holding, IsDurable, Sight, Stored, fresh}
+use Rattle.devices.specs.Logged.Call.{Load, Replace}
 use Rattle.std.specs.Prelude.{Err, List, None, Option, Result, Some, length, true, ℕ, ◌≡◌, ◌≢◌, ◌⊎◌}
 use Rattle.store_image.specs.Content.{IsContent}
 use Rattle.store_image.specs.Image.{image}

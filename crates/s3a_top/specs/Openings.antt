@@ -3,8 +3,8 @@ use Rattle.durable_job.specs.Jobs.{dest_of}
 use Rattle.durable_job.specs.declared.jobs.Jobs.{Jobs}
 use Rattle.durable_job.specs.declared.jobs.Jobs.TheVariants.{One, Two}
 use Rattle.durable_store.specs.Stores.{found}
-use Rattle.durable_store.specs.declared.held.Held.{Held}
-use Rattle.durable_store.specs.declared.held.Held.TheVariants.{Faulty, Nothing, Store}
+use Rattle.durable_store.specs.declared.shelf_state.ShelfState.{ShelfState}
+use Rattle.durable_store.specs.declared.shelf_state.ShelfState.TheVariants.{Faulty, Nothing, Store}
 use Rattle.job_gen.specs.Made.{made_script}
 use Rattle.job_script.specs.Script.{script_of}
 use Rattle.s3_types.specs.Answer.{apply_store}
@@ -14,7 +14,7 @@ use Rattle.s3_types.specs.declared.request.Request.TheVariants.{MakeBucket}
 use Rattle.s3a_top.specs.Bytes.{TakesPart}
 use Rattle.s3a_words.specs.declared.command.Command.{Command}
 use Rattle.s3a_words.specs.declared.command.Command.TheVariants.{Gen, Job, Twins}
-use Rattle.shelf.specs.Logged.{Stored}
+use Rattle.devices.specs.Logged.{Stored}
 use Rattle.std.specs.Prelude.{Bool, List, None, Ok, Option, Result, Some, false, true, ℕ, [], ◌≡◌, ◌⊎◌}
 use Rattle.twin_script.specs.Twins.{twins_of}
 
@@ -47,7 +47,7 @@ abbrev pub TakesJobs : Command → (left rest : Option (List ℕ)) → Type 0
 TakesJobs command left rest = (rest ≡ left) ⊎ ((jobs : Jobs) × AreJobsOf command left rest jobs)
 
 -- The store with which jobs open: the one that is held, or a new one with their destination's bucket.
-abbrev pub opening_in : Held → Jobs → Option Content
+abbrev pub opening_in : ShelfState → Jobs → Option Content
 opening_in Nothing jobs = Some (apply_store (new_content MOST_MINIMUM) (MakeBucket (dest_of jobs).bucket))
 opening_in (Store c) jobs = Some c
 opening_in (Faulty number place) jobs = None
@@ -58,7 +58,7 @@ Opens None jobs c = Unit {0}
 Opens (Some s) jobs c = opening_in (found s) jobs ≡ Some c
 
 -- Holds if what was found is a store or nothing.
-abbrev pub is_sound : Held → Type 0
+abbrev pub is_sound : ShelfState → Type 0
 is_sound (Faulty number place) = ⊥
 is_sound _ = Unit {0}
 
@@ -68,6 +68,6 @@ IsSoundly None = Unit {0}
 IsSoundly (Some s) = is_sound (found s)
 
 -- Holds if this is what was found on the shelf. Says nothing if what the shelf holds is not known.
-abbrev pub IsFound : Option Stored → Held → Type 0
+abbrev pub IsFound : Option Stored → ShelfState → Type 0
 IsFound None before = Unit {0}
 IsFound (Some s) before = before ≡ found s

@@ -12,10 +12,10 @@ use Rattle.s3a_top.specs.Works.{IsWritten}
 use Rattle.s3a_top.specs.declared.stop.Stop.{Stop}
 use Rattle.s3a_top.specs.declared.work.Work.{Work}
 use Rattle.s3a_words.specs.declared.command.Command.{Command}
-use Rattle.shelf.specs.Logged.{CrashesLeave, Sight, fresh}
-use Rattle.shelf.specs.Logged.Call.{Replace}
-use Rattle.shelf.specs.declared.kept.ShelfStop.{ShelfStop}
-use Rattle.shelf.specs.declared.kept.ShelfStop.TheVariants.{Failed, NoMemory}
+use Rattle.devices.specs.Logged.{CrashesLeave, Sight, fresh}
+use Rattle.devices.specs.Logged.Call.{Replace}
+use Rattle.devices.specs.declared.kept.ShelfStop.{ShelfStop}
+use Rattle.devices.specs.declared.kept.ShelfStop.TheVariants.{Failed, NoMemory}
 use Rattle.std.specs.Prelude.{Err, List, None, Ok, Option, Result, Some, length, ℕ, ◌≡◌, ◌⊎◌}
 use Rattle.store_image.specs.Image.{image}
 use Rattle.exit_status.specs.declared.statuses.Status.TheVariants as statuses

@@ -8,7 +8,7 @@ use Rattle.job_script.specs.Fault.{line_of, number_of}
 use Rattle.job_script.specs.declared.fault.ScriptFault.{ScriptFault}
 use Rattle.s3_types.specs.declared.journal.Entry.{Entry}
 use Rattle.s3a_top.specs.Bytes.{WritesSome}
-use Rattle.shelf.specs.Devices.{Appends}
+use Rattle.devices.specs.Devices.{Appends}
 use Rattle.std.specs.Fmt.{decimal}
 use Rattle.std.specs.Prelude.{List, Option, codes, ℕ, [], ◌++◌, ◌∷◌, ◌≡◌, ◌≢◌}
 use Rattle.twin_script.specs.declared.fault.TwinFault.{TwinFault}

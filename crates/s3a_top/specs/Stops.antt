@@ -6,9 +6,9 @@ use Rattle.s3a_top.specs.Statuses.{script_fault_text, twin_fault_text}
 use Rattle.s3a_top.specs.declared.stop.Stop.{Stop}
 use Rattle.s3a_top.specs.declared.stop.Stop.TheVariants.{Image, NoMemory, ReadFault, Script as BadScript, ShelfFault, Twins as BadTwins}
 use Rattle.s3a_top.specs.declared.stop.Stop.TheVariants.{Usage}
-use Rattle.shelf.specs.declared.kept.ShelfStop.{ShelfStop}
+use Rattle.devices.specs.declared.kept.ShelfStop.{ShelfStop}
 use Rattle.std.specs.Prelude.{List, ℕ}
-use Rattle.shelf.specs.declared.kept.ShelfStop.TheVariants as shelves
+use Rattle.devices.specs.declared.kept.ShelfStop.TheVariants as shelves
 use Rattle.exit_status.specs.declared.statuses.Status.TheVariants as statuses
 
 -- The exit status of each stop.

@@ -4,8 +4,8 @@ use Rattle.durable_job.specs.declared.jobs.Jobs.TheVariants.{One}
 use Rattle.durable_job.specs.declared.jobs.Told.{Told}
 use Rattle.durable_store.specs.Outcomes.{Tells}
 use Rattle.durable_store.specs.Works.{Saves, Says, Work}
-use Rattle.durable_store.specs.declared.held.Held.{Held}
-use Rattle.durable_store.specs.declared.held.Held.TheVariants.{Store}
+use Rattle.durable_store.specs.declared.shelf_state.ShelfState.{ShelfState}
+use Rattle.durable_store.specs.declared.shelf_state.ShelfState.TheVariants.{Store}
 use Rattle.exit_status.specs.Statuses.{code, written_text}
 use Rattle.exit_status.specs.declared.statuses.Status.{Status}
 use Rattle.job_model.specs.JobScript.{Script}
@@ -22,8 +22,8 @@ use Rattle.s3a_top.specs.Statuses.{IsDue}
 use Rattle.s3a_words.specs.Words.{command_of}
 use Rattle.s3a_words.specs.declared.command.Command.{Command}
 use Rattle.s3a_words.specs.declared.command.Command.TheVariants.{Init, Twins}
-use Rattle.shelf.specs.Logged.{Sight}
-use Rattle.shelf.specs.Logged.Call.{Load}
+use Rattle.devices.specs.Logged.{Sight}
+use Rattle.devices.specs.Logged.Call.{Load}
 use Rattle.std.specs.Prelude.{Bool, List, None, Option, Some, bytes_eq, codes, cond, false, option_and_then, true, ℕ, ◌∷◌, ◌≡◌, ◌⊎◌}
 use Rattle.trace_text.specs.Trace.{requests_text, trace_text}
 use Rattle.exit_status.specs.declared.statuses.Status.TheVariants as statuses
@@ -76,12 +76,12 @@ pub record JobTraced {S : Type 0} (F : Sight S) (command : Command) (left rest :
 -- ---- another command
 
 -- The store on which a command is done: a new one if none is held.
-abbrev pub store_in : Held → Content
+abbrev pub store_in : ShelfState → Content
 store_in (Store c) = c
 store_in _ = new_content MOST_MINIMUM
 
 -- The text of a traced command: the trace of its requests, or its own text if it is refused or finds no store.
-abbrev pub shown_text : Held → Work → List ℕ
+abbrev pub shown_text : ShelfState → Work → List ℕ
 shown_text before (Says statuses.Done text sent) = requests_text (store_in before) sent
 shown_text before (Says due text sent) = written_text due text
 shown_text before (Saves opening text sent) = requests_text (store_in before) sent
@@ -100,7 +100,7 @@ shown_sends (Saves opening text sent) = sent
 pub record StoreTraced {S : Type 0} (F : Sight S) (command : Command) (left rest : Option (List ℕ)) (old new : S)
     (due : ℕ) (es : List Entry) (Says : List ℕ → Type 0) : Type 0 where
   -- what the shelf held
-  pub before : Held
+  pub before : ShelfState
   pub found : IsFound (F.held old) before
   -- the bytes of the input
   pub bytes : List ℕ

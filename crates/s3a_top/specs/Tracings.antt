@@ -3,8 +3,8 @@ use Rattle.durable_job.specs.Jobs.{KeepsOne}
 use Rattle.durable_job.specs.declared.jobs.Jobs.TheVariants.{One}
 use Rattle.durable_job.specs.declared.jobs.Told.{Told}
 use Rattle.durable_store.specs.Works.{IsPlain, Work as Doing}
-use Rattle.durable_store.specs.declared.held.Held.{Held}
-use Rattle.durable_store.specs.declared.work.Answer.{Answer}
+use Rattle.durable_store.specs.declared.shelf_state.ShelfState.{ShelfState}
+use Rattle.durable_store.specs.declared.work.CommandAnswer.{CommandAnswer}
 use Rattle.exit_status.specs.Statuses.{code}
 use Rattle.job_model.specs.JobScript.{Script}
 use Rattle.job_model.specs.declared.ends.EventEnd.{EventEnd}
@@ -22,7 +22,7 @@ use Rattle.s3a_top.specs.Works.{IsWritten}
 use Rattle.s3a_top.specs.declared.stop.Stop.{Stop}
 use Rattle.s3a_top.specs.declared.work.Work.{Work}
 use Rattle.s3a_words.specs.declared.command.Command.{Command}
-use Rattle.shelf.specs.Logged.{Sight, Stored}
+use Rattle.devices.specs.Logged.{Sight, Stored}
 use Rattle.std.specs.Prelude.{Err, List, Ok, Option, Result, false, true, ℕ, [], ◌≡◌}
 use Rattle.trace_text.specs.Trace.{trace_text}
 
@@ -53,13 +53,13 @@ JobShows command told left rest (Ok work) = JobShown command told left rest work
 JobShows command told left rest (Err stop) = HasCause stop command told left rest
 
 -- The answer shows what a command does: the trace of what it sends, or the text that the command itself says.
-pub record IsShownOf (before : Held) (work : Doing) (answer : Answer) : Type 0 where
+pub record IsShownOf (before : ShelfState) (work : Doing) (answer : CommandAnswer) : Type 0 where
   pub sent : answer.sent.entries ≡ shown_sends work
   pub status : answer.due ≡ shown_status work
   pub said : IsWritten answer (shown_text before work)
 
 -- A command was done on what is held, and the answer shows it.
-pub record AnswerShown (command : Command) (bytes : List ℕ) (before : Held) (answer : Answer) : Type 0 where
+pub record AnswerShown (command : Command) (bytes : List ℕ) (before : ShelfState) (answer : CommandAnswer) : Type 0 where
   pub work : Doing
   pub does : IsWork command bytes before work
   pub plain : IsPlain work
@@ -67,7 +67,7 @@ pub record AnswerShown (command : Command) (bytes : List ℕ) (before : Held) (a
 
 -- The bytes of that command are its input, and it was done on what was found on the shelf.
 pub record StoreShown (command : Command) (told : Option Stored) (left rest : Option (List ℕ)) (work : Work) : Type 0 where
-  pub before : Held
+  pub before : ShelfState
   pub found : IsFound told before
   pub bytes : List ℕ
   pub input : IsInput (reads_input command before) left rest bytes

@@ -3,8 +3,8 @@ use Rattle.durable_job.specs.Jobs.{nothing_told}
 use Rattle.durable_job.specs.declared.jobs.Told.{Told}
 use Rattle.durable_store.specs.Outcomes.{CallsBy, Tells}
 use Rattle.durable_store.specs.Works.{Work as Doing}
-use Rattle.durable_store.specs.declared.held.Held.{Held}
-use Rattle.durable_store.specs.declared.work.Answer.{Answer}
+use Rattle.durable_store.specs.declared.shelf_state.ShelfState.{ShelfState}
+use Rattle.durable_store.specs.declared.work.CommandAnswer.{CommandAnswer}
 use Rattle.exit_status.specs.Statuses.{code, memory_text, written_text}
 use Rattle.exit_status.specs.declared.statuses.Status.{Status}
 use Rattle.s3_types.specs.declared.journal.Entry.{Entry}
@@ -21,8 +21,8 @@ use Rattle.s3a_top.specs.declared.stop.Stop.TheVariants.{Image, NoMemory, ReadFa
 use Rattle.s3a_top.specs.declared.work.Work.{Work}
 use Rattle.s3a_words.specs.Words.{IsBounded}
 use Rattle.s3a_words.specs.declared.command.Command.{Command}
-use Rattle.shelf.specs.Logged.{CrashesLeave, Sight}
-use Rattle.shelf.specs.Logged.Call.{Load}
+use Rattle.devices.specs.Logged.{CrashesLeave, Sight}
+use Rattle.devices.specs.Logged.Call.{Load}
 use Rattle.std.specs.Prelude.{Err, IfOk, List, None, Ok, Option, Result, Some, false, true, ℕ, ◌-◌, ◌<◌, ◌^◌, ◌≡◌, ◌⊎◌}
 use Rattle.exit_status.specs.declared.statuses.Status.TheVariants as statuses
 
@@ -87,14 +87,14 @@ pub record StoreHalted {S : Type 0} (F : Sight S) (command : Command) (left rest
 -- ---- a command, given what was found
 
 -- The cause of each stop after the load.
-abbrev pub HasReasonIn : Stop → Command → Held → (left rest : Option (List ℕ)) → Type 0
+abbrev pub HasReasonIn : Stop → Command → ShelfState → (left rest : Option (List ℕ)) → Type 0
 HasReasonIn ReadFault command before left rest = is_sound before × ((takes_input command ≡ true) × TakesPart left rest)
 HasReasonIn NoMemory command before left rest = (rest ≡ left) ⊎ (is_sound before × ((takes_input command ≡ true) × TakesPart left rest))
 HasReasonIn _ command before left rest = ⊥
 
 -- The command was done.
-pub record StoreOver {S : Type 0} (F : Sight S) (command : Command) (before : Held) (left rest : Option (List ℕ)) (old new : S)
-    (answer : Answer) : Type 0 where
+pub record StoreOver {S : Type 0} (F : Sight S) (command : Command) (before : ShelfState) (left rest : Option (List ℕ)) (old new : S)
+    (answer : CommandAnswer) : Type 0 where
   pub bytes : List ℕ
   pub input : IsInput (reads_input command before) left rest bytes
   pub work : Doing
@@ -107,7 +107,7 @@ abbrev pub IsQuiet : Work → Type 0
 IsQuiet work = work.told ≡ nothing_told
 
 -- The outcome of another command after the load.
-abbrev pub StoreSince : {S : Type 0} → Sight S → Command → Held → (left rest : Option (List ℕ)) (old new : S) → Result Work Stop → Type 0
+abbrev pub StoreSince : {S : Type 0} → Sight S → Command → ShelfState → (left rest : Option (List ℕ)) (old new : S) → Result Work Stop → Type 0
 StoreSince F command before left rest old new (Ok work) = StoreOver F command before left rest old new work.answer × IsQuiet work
 StoreSince F command before left rest old new (Err stop) = HasReasonIn stop command before left rest × (new ≡ old)
 

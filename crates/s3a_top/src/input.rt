@@ -1,8 +1,8 @@
 ghost use Rattle.std.specs.Prelude.{◌≡◌, ◌<◌, ◌≤◌, ◌^◌, ◌-◌, ◌+◌, IfOk, OnOk, IsErrOf, vec_len};
 ghost use Rattle.s3a_top.specs.Bytes.{IsRead, TakesPart};
 
+use devices::{Failed, Source};
 use s3_types::MOST_SCRIPT_BYTES;
-use shelf::{Failed, Source};
 use std::alloc::{AllocError, AllocFailed, Global};
 
 /// Why the input could not be read.

@@ -15,18 +15,18 @@ use crate::asked::Asked;
 use crate::script::jobs_for;
 use crate::stop::Stop;
 use crate::work::Work;
-use actor_operations::Act;
+use devices::Source;
+use devices::kept::{Shelf, ShelfStop};
 use durable_job::{Jobs, Kept, Told, play};
-use durable_store::{Answer, Held};
+use durable_store::{CommandAnswer, ShelfState};
 use exit_status::Status;
 use job_gen::summary_text;
 use job_model::Script;
+use job_operations::Act;
 use job_report::{SideReport, report_text, twins_report};
 use s3_service::Service;
 use s3_types::{Bytes, MOST_MINIMUM, Request, let_go};
 use s3a_words::Command;
-use shelf::Source;
-use shelf::kept::{Shelf, ShelfStop};
 use std::alloc::{AllocError, Global};
 use twin_script::Twins;
 
@@ -49,7 +49,7 @@ fn make_bucket(service: &mut Service, jobs: &Jobs) -> Result<(), AllocError>
 
 /// Makes a new store that has the destination's bucket.
 fn new_store(alloc: Global, jobs: &Jobs) -> Result<Service, AllocError>
-    ensures opening { IfOk result (λ service. opening_in Held.Nothing jobs.now ≡ Some service) }
+    ensures opening { IfOk result (λ service. opening_in ShelfState.Nothing jobs.now ≡ Some service) }
     ensures image { IfOk result IsContent }
 {
     let mut service = Service::new(alloc, MOST_MINIMUM);
@@ -177,7 +177,7 @@ fn answered(alloc: Global, command: &Command, kept: Kept) -> Work
     let_go(jobs);
     let_go(service);
     Work {
-        answer: Answer {
+        answer: CommandAnswer {
             due,
             text,
             sent: journal,
@@ -187,16 +187,16 @@ fn answered(alloc: Global, command: &Command, kept: Kept) -> Work
 }
 
 /// The store with which jobs open: the one that the shelf holds, or a new one with their bucket.
-pub fn opened(alloc: Global, held: Held, jobs: &Jobs) -> Result<Service, AllocError>
+pub fn opened(alloc: Global, held: ShelfState, jobs: &Jobs) -> Result<Service, AllocError>
     requires some { is_sound held }
     requires sound { IsSound held }
     ensures opening { IfOk result (λ service. opening_in held jobs.now ≡ Some service) }
     ensures image { IfOk result IsContent }
 {
     match held {
-        Held::Nothing => new_store(alloc, jobs),
-        Held::Store(service) => Ok(service),
-        Held::Faulty { .. } => unreachable!(),
+        ShelfState::Nothing => new_store(alloc, jobs),
+        ShelfState::Store(service) => Ok(service),
+        ShelfState::Faulty { .. } => unreachable!(),
     }
 }
 
@@ -205,7 +205,7 @@ pub fn job<Q: Source, F: Shelf>(
     input: &mut Q,
     shelf: &mut F,
     asked: Asked<'_>,
-    held: Held,
+    held: ShelfState,
 ) -> Result<Work, Stop>
     requires ready { MayDo (Q.faults input.old) (F.faults shelf.old) asked.command.now }
     requires one { plays asked.command.now ≡ true }
@@ -217,7 +217,7 @@ pub fn job<Q: Source, F: Shelf>(
         (F.faults shelf.new) }
     ensures unread { may_read (Some asked.entry.command.now) ≡ false → input.new ≡ input.old }
 {
-    if let Held::Faulty { number, place } = held {
+    if let ShelfState::Faulty { number, place } = held {
         return Err(Stop::Image { number, place });
     }
     let jobs = match jobs_for(asked.alloc, input, asked.command) {

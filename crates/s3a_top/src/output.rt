@@ -1,8 +1,8 @@
 ghost use Rattle.std.specs.Prelude.{◌≡◌, ◌<◌, ◌^◌, ◌-◌, OnOk, OnErr};
-ghost use Rattle.shelf.specs.Devices.{Appends};
+ghost use Rattle.devices.specs.Devices.{Appends};
 ghost use Rattle.s3a_top.specs.Bytes.{WritesSome};
 
-use shelf::{Failed, Sink};
+use devices::{Failed, Sink};
 
 /// Writes all bytes, piece by piece, and flushes the output. After `Failed` some first bytes of
 /// them may have been written.

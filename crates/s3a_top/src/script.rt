@@ -7,11 +7,11 @@ ghost use Rattle.s3a_top.specs.Reads.{reader, AreJobsIn, IsReadStop, IsNone, Cou
 
 use crate::input::{InputFault, read_input};
 use crate::stop::Stop;
+use devices::Source;
 use durable_job::Jobs;
 use job_gen::make_script;
 use job_script::{ScriptFault, read_script};
 use s3a_words::Command;
-use shelf::Source;
 use std::alloc::Global;
 use twin_script::{TwinFault, read_twins};
 

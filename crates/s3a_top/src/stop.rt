@@ -5,11 +5,11 @@ ghost use Rattle.s3a_top.specs.Stops.{status_of, of_shelf, stop_text};
 ghost use Rattle.s3a_top.specs.Workings.{IsAnswered, IsMade, IsStopped};
 
 use crate::work::{Work, quiet};
-use durable_store::{Answer, fault_text};
+use devices::kept::ShelfStop;
+use durable_store::{CommandAnswer, fault_text};
 use exit_status::Status;
 use job_script::ScriptFault;
 use s3_types::{Bytes, Journal};
-use shelf::kept::ShelfStop;
 use std::alloc::{AllocError, Global};
 use twin_script::TwinFault;
 
@@ -101,7 +101,7 @@ fn said(alloc: Global, due: Status, text: Option<Bytes>) -> Work
     ensures idle { IsIdle result.answer.sent.entries result.told }
 {
     let sent = Journal::new(alloc);
-    quiet(alloc, Answer { due, text, sent })
+    quiet(alloc, CommandAnswer { due, text, sent })
 }
 
 /// The work that reports a stop. If memory runs out for its text, the status is `NoMemory`.

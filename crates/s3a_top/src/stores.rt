@@ -10,22 +10,22 @@ use crate::asked::Asked;
 use crate::input::{InputFault, read_input};
 use crate::stop::Stop;
 use crate::work::{Work, quiet};
-use durable_store::{Held, obey};
+use devices::Source;
+use devices::kept::Shelf;
+use durable_store::{ShelfState, obey};
 use s3_types::{Bytes, let_go};
 use s3a_shell::{takes_input, work_of};
 use s3a_words::Command;
-use shelf::Source;
-use shelf::kept::Shelf;
 use std::alloc::Global;
 
 /// True if the command reads its input, given what was found on the shelf.
-fn reads_input(command: &Command, held: &Held) -> bool
+fn reads_input(command: &Command, held: &ShelfState) -> bool
     ensures exact { result ≡ reads_input command.now held.now }
     ensures takes { result ≡ true → takes_input command.now ≡ true }
     ensures sound { result ≡ true → is_sound held.now }
 {
     match held {
-        Held::Faulty { .. } => false,
+        ShelfState::Faulty { .. } => false,
         _ => takes_input(command),
     }
 }
@@ -35,7 +35,7 @@ pub fn read_bytes<Q: Source>(
     alloc: Global,
     input: &mut Q,
     command: &Command,
-    held: &Held,
+    held: &ShelfState,
 ) -> Result<Bytes, Stop>
     requires { Q.faults input.old < 2 ^ 64 - 1 }
     ensures read { IfOk result (λ bytes. IsInput (reads_input command.now held.now) (Q.left input.old)
@@ -66,7 +66,7 @@ pub fn commanded<Q: Source, F: Shelf>(
     input: &mut Q,
     shelf: &mut F,
     asked: Asked<'_>,
-    held: Held,
+    held: ShelfState,
 ) -> Result<Work, Stop>
     requires ready { MayDo (Q.faults input.old) (F.faults shelf.old) asked.command.now }
     requires no_job { plays asked.command.now ≡ false }

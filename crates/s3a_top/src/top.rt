@@ -20,13 +20,13 @@ use crate::stop::{Stop, answered, stopped};
 use crate::stores::commanded;
 use crate::tracing::{asks_trace, traced};
 use crate::work::Work;
+use devices::kept::Shelf;
+use devices::{Sink, Source};
 use durable_store::load;
 use exit_status::Status;
 use s3_types::{Text, let_go};
 use s3a_shell::plays;
 use s3a_words::{Command, WordFault, read_words};
-use shelf::kept::Shelf;
-use shelf::{Sink, Source};
 use std::alloc::Global;
 
 /// Loads the shelf and does a command on what it holds.

@@ -1,5 +1,5 @@
 ghost use Rattle.std.specs.Prelude.{◌≡◌, ℕ, ◌<◌, ◌≤◌, ◌^◌, ◌-◌, true, false, None, Some, Option, IfOk};
-ghost use Rattle.shelf.specs.Logged.{Stored};
+ghost use Rattle.devices.specs.Logged.{Stored};
 ghost use Rattle.durable_store.specs.Doing.{work_in};
 ghost use Rattle.durable_store.specs.Outcomes.{IsSound};
 ghost use Rattle.durable_store.specs.Works as works;
@@ -28,17 +28,17 @@ use crate::script::jobs_for;
 use crate::stop::{Stop, answered, stopped};
 use crate::stores::read_bytes;
 use crate::work::{Work, quiet};
-use actor_operations::Act;
+use devices::Source;
+use devices::kept::Shelf;
 use durable_job::{Jobs, Told};
-use durable_store::{Answer, Held, Work as Doing, load};
+use durable_store::{CommandAnswer, ShelfState, Work as Doing, load};
 use exit_status::Status;
 use job_model::{EndList, PickList, Script};
+use job_operations::Act;
 use s3_service::Service;
 use s3_types::{Bytes, Journal, MOST_MINIMUM, Text, let_go};
 use s3a_shell::{plays, work_of};
 use s3a_words::{Command, WordFault, read_words};
-use shelf::Source;
-use shelf::kept::Shelf;
 use std::alloc::{AllocError, Global};
 use trace_text::{DryRun, dry_run, requests_text};
 
@@ -126,7 +126,7 @@ fn shown_run(alloc: Global, run: DryRun) -> Result<Work, AllocError>
     let_go(script);
     match Bytes::new(alloc, text.into_bytes()) {
         Ok(text) => Ok(Work {
-            answer: Answer {
+            answer: CommandAnswer {
                 due: status_of(status),
                 text: Some(text),
                 sent: journal,
@@ -160,7 +160,7 @@ fn show_job(alloc: Global, script: Script, service: Service) -> Result<Work, All
 }
 
 /// Runs the job of a command over what was found on the shelf, and shows the run.
-fn trace_job<Q: Source>(input: &mut Q, asked: Asked<'_>, held: Held) -> Result<Work, Stop>
+fn trace_job<Q: Source>(input: &mut Q, asked: Asked<'_>, held: ShelfState) -> Result<Work, Stop>
     requires count { Q.faults input.old < 2 ^ 64 - 1 }
     requires fit { IsBounded asked.command.now }
     requires one { plays asked.command.now ≡ true }
@@ -171,7 +171,7 @@ fn trace_job<Q: Source>(input: &mut Q, asked: Asked<'_>, held: Held) -> Result<W
     ensures counted { (n : ℕ) → Counted result (Q.faults input.old) (Q.faults input.new) n n }
     ensures unread { may_read (Some asked.entry.command.now) ≡ false → input.new ≡ input.old }
 {
-    if let Held::Faulty { number, place } = held {
+    if let ShelfState::Faulty { number, place } = held {
         return Err(Stop::Image { number, place });
     }
     let jobs = match jobs_for(asked.alloc, input, asked.command) {
@@ -197,17 +197,17 @@ fn trace_job<Q: Source>(input: &mut Q, asked: Asked<'_>, held: Held) -> Result<W
 // ---- another command
 
 /// A copy of the store on which a command is done, or a new store if none is held.
-fn store_of(alloc: Global, held: &Held) -> Result<Service, AllocError>
+fn store_of(alloc: Global, held: &ShelfState) -> Result<Service, AllocError>
     ensures { IfOk result (λ service. service ≡ store_in held.now) }
 {
     match held {
-        Held::Store(service) => service.copy(),
+        ShelfState::Store(service) => service.copy(),
         _ => Ok(Service::new(alloc, MOST_MINIMUM)),
     }
 }
 
 /// The answer that shows the requests that a command sent.
-fn shown_sends(alloc: Global, opening: Service, sent: Journal) -> Result<Answer, AllocError>
+fn shown_sends(alloc: Global, opening: Service, sent: Journal) -> Result<CommandAnswer, AllocError>
     requires next { opening.next ≤ 2 ^ 62 }
     requires honest { IsHonest opening sent.entries }
     ensures due { IfOk result (λ answer. answer.due ≡ Status.Done) }
@@ -219,7 +219,7 @@ fn shown_sends(alloc: Global, opening: Service, sent: Journal) -> Result<Answer,
         return Err(AllocError);
     };
     match Bytes::new(alloc, text.into_bytes()) {
-        Ok(text) => Ok(Answer {
+        Ok(text) => Ok(CommandAnswer {
             due: Status::Done,
             text: Some(text),
             sent,
@@ -233,15 +233,19 @@ fn shown_sends(alloc: Global, opening: Service, sent: Journal) -> Result<Answer,
 
 /// The answer that shows the requests that a command sent. If the command did not end with `Done`,
 /// its own answer.
-fn shown_answer(alloc: Global, opening: Service, answer: Answer) -> Result<Answer, AllocError>
+fn shown_answer(
+    alloc: Global,
+    opening: Service,
+    answer: CommandAnswer,
+) -> Result<CommandAnswer, AllocError>
     requires next { opening.next ≤ 2 ^ 62 }
     requires honest { IsHonest opening answer.sent.entries }
-    ensures { (before : Held) → store_in before ≡ opening
+    ensures { (before : ShelfState) → store_in before ≡ opening
         → IfOk result (IsShownOf before (works.Says answer.due answer.text answer.sent.entries)) }
 {
     match answer.due {
         Status::Done => {
-            let Answer { due: _, text, sent } = answer;
+            let CommandAnswer { due: _, text, sent } = answer;
             let_go(text);
             shown_sends(alloc, opening, sent)
         }
@@ -254,10 +258,10 @@ fn shown_answer(alloc: Global, opening: Service, answer: Answer) -> Result<Answe
 
 /// The answer that shows the requests of a command's work. If the command did not end with `Done`,
 /// its own answer.
-fn shown_work(alloc: Global, opening: Service, work: Doing) -> Result<Answer, AllocError>
+fn shown_work(alloc: Global, opening: Service, work: Doing) -> Result<CommandAnswer, AllocError>
     requires next { opening.next ≤ 2 ^ 62 }
     requires honest { IsHonest opening (sends_in (work_in work)) }
-    ensures { (before : Held) → store_in before ≡ opening → IfOk result (IsShownOf before (work_in work)) }
+    ensures { (before : ShelfState) → store_in before ≡ opening → IfOk result (IsShownOf before (work_in work)) }
 {
     match work {
         Doing::Says(answer) => shown_answer(alloc, opening, answer),
@@ -278,8 +282,8 @@ fn show_store(
     alloc: Global,
     command: &Command,
     bytes: Bytes,
-    held: Held,
-) -> Result<Answer, AllocError>
+    held: ShelfState,
+) -> Result<CommandAnswer, AllocError>
     requires no_job { plays command.now ≡ false }
     requires fit { IsBounded command.now }
     requires sound { IsSound held }
@@ -304,7 +308,7 @@ fn show_store(
 
 /// Does a command that runs no job on what was found on the shelf, with its input if it has one,
 /// and shows what it sent.
-fn trace_store<Q: Source>(input: &mut Q, asked: Asked<'_>, held: Held) -> Result<Work, Stop>
+fn trace_store<Q: Source>(input: &mut Q, asked: Asked<'_>, held: ShelfState) -> Result<Work, Stop>
     requires count { Q.faults input.old < 2 ^ 64 - 1 }
     requires fit { IsBounded asked.command.now }
     requires no_job { plays asked.command.now ≡ false }

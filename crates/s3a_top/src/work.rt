@@ -4,14 +4,14 @@ ghost use Rattle.durable_job.specs.Jobs.{nothing_told};
 ghost use Rattle.s3a_top.specs.Workings.{IsQuiet};
 
 use durable_job::Told;
-use durable_store::Answer;
+use durable_store::CommandAnswer;
 use job_model::{EndList, PickList};
 use std::alloc::Global;
 
 /// What the program is to answer, with the ends and chosen attempts of the jobs that it ran.
 #[derive(Drop)]
 pub struct Work {
-    pub answer: Answer,
+    pub answer: CommandAnswer,
     pub told: Told,
 }
 
@@ -28,7 +28,7 @@ fn nothing(alloc: Global) -> Told
 }
 
 /// Makes the work of a command that ran no job.
-pub fn quiet(alloc: Global, answer: Answer) -> Work
+pub fn quiet(alloc: Global, answer: CommandAnswer) -> Work
     ensures answer { result.answer ≡ answer }
     ensures quiet { IsQuiet result }
 {

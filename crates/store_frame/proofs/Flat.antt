@@ -1,11 +1,11 @@
 -- A listing without a delimiter has the existing keys, in order.
-use Rattle.basics.proofs.Bools.{contrary}
-use Rattle.basics.proofs.Less.{irrefl, lt, lt_trans}
-use Rattle.basics.proofs.Members.{false_true, filter_in, in_filter, in_map, map_in, none_some, some_is, text_exact, text_false, text_true}
-use Rattle.basics.proofs.Members.{true_or_false}
-use Rattle.basics.proofs.Tree.{map_sorted, tied}
-use Rattle.basics.specs.Members.{IsIn, RisesFrom, last_from}
-use Rattle.basics.specs.Order.{text_cmp, text_ties, text_total}
+use Rattle.text_and_lists.proofs.Bools.{contrary}
+use Rattle.text_and_lists.proofs.Less.{irrefl, lt, lt_trans}
+use Rattle.text_and_lists.proofs.Members.{false_true, filter_in, in_filter, in_map, map_in, none_some, some_is, text_exact, text_false, text_true}
+use Rattle.text_and_lists.proofs.Members.{true_or_false}
+use Rattle.text_and_lists.proofs.Tree.{map_sorted, tied}
+use Rattle.text_and_lists.specs.Members.{IsIn, RisesFrom, last_from}
+use Rattle.text_and_lists.specs.Order.{text_cmp, text_ties, text_total}
 use Rattle.s3_types.specs.Pages.{begins, entry_of, folded_from, is_again, listed, text_in}
 use Rattle.s3_types.specs.Store.{Objects}
 use Rattle.s3_types.specs.declared.object.Object.{Object}
@@ -20,7 +20,7 @@ use Rattle.std.specs.List.Sorted.{IsStrictlySortedBy}
 use Rattle.std.specs.Map.{keys_of}
 use Rattle.std.specs.Ordering.{eq_by_cmp, is_lt}
 use Rattle.std.specs.declared.cmp.Ordering.TheVariants.{Less}
-use Rattle.store_frame.specs.Laws.{keys_listed}
+use Rattle.store_frame.specs.PageLaws.{keys_listed}
 use Rattle.std.specs.FinMap as fin
 
 -- ---- the listed keys rise

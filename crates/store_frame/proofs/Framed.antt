@@ -1,7 +1,7 @@
 -- A request changes only the keys, the upload and the paths that it names, and the ids that it uses.
-use Rattle.basics.proofs.Members.{nat_gone, nat_left, nat_other, none_some, same_or_not, same_or_other, text_here, text_left, text_other}
-use Rattle.basics.proofs.Naturals.{next_most}
-use Rattle.basics.specs.Members.{IsIn}
+use Rattle.text_and_lists.proofs.Members.{nat_gone, nat_left, nat_other, none_some, same_or_not, same_or_other, text_here, text_left, text_other}
+use Rattle.text_and_lists.proofs.Naturals.{next_most}
+use Rattle.text_and_lists.specs.Members.{IsIn}
 use Rattle.s3_types.specs.Answer.{aborted, apply, apply_at, apply_in, bucket_of, completed, copied, draws, made, part_put, renamed, without}
 use Rattle.s3_types.specs.Multipart.{joined, live, with_key}
 use Rattle.s3_types.specs.Names.{is_bucket}

@@ -1,8 +1,8 @@
 -- The walk finds exactly what is listed.
-use Rattle.basics.proofs.Bools.{contrary}
-use Rattle.basics.proofs.Less.{irrefl, le_lt, lt_back, lt_le}
-use Rattle.basics.proofs.Tree.{map_sorted, tied}
-use Rattle.basics.specs.Order.{text_cmp, text_total}
+use Rattle.text_and_lists.proofs.Bools.{contrary}
+use Rattle.text_and_lists.proofs.Less.{irrefl, le_lt, lt_back, lt_le}
+use Rattle.text_and_lists.proofs.Tree.{map_sorted, tied}
+use Rattle.text_and_lists.specs.Order.{text_cmp, text_total}
 use Rattle.s3_types.proofs.Begins.{between}
 use Rattle.s3_types.specs.Pages.{begins, entry_by, entry_of, folded_from, is_again, listed, stem_if, text_in}
 use Rattle.s3_types.specs.Store.{Objects}

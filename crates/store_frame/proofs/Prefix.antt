@@ -1,12 +1,12 @@
 -- Prefixes of texts, and the order of texts.
-use Rattle.basics.specs.Order.{text_cmp, text_total}
+use Rattle.text_and_lists.specs.Order.{text_cmp, text_total}
 use Rattle.s3_types.specs.Pages.{begins}
 use Rattle.std.proofs.Common.{Bool, List, arith, false, nat_eq, refl, true, ℕ, [], ◌&&◌, ◌++◌, ◌∷◌, ◌≡◌}
 use Rattle.std.proofs.lemmas.Bool.{false≢true, true≢false}
 use Rattle.std.proofs.lemmas.Bool.Decides.{nat_tests}
 use Rattle.std.specs.Ordering.{is_lt, nat_cmp, ordering_then}
 use Rattle.std.specs.declared.cmp.Ordering.{Ordering}
-use Rattle.basics.proofs.Less as less
+use Rattle.text_and_lists.proofs.Less as less
 
 -- True if one text is less than another.
 abbrev pub lt : List ℕ → List ℕ → Bool

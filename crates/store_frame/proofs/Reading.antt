@@ -1,7 +1,7 @@
 -- A request that only reads changes nothing.
-use Rattle.basics.proofs.Members.{false_true, text_exact}
-use Rattle.basics.proofs.Tree.{insert_same}
-use Rattle.basics.specs.Order.{text_total}
+use Rattle.text_and_lists.proofs.Members.{false_true, text_exact}
+use Rattle.text_and_lists.proofs.Tree.{insert_same}
+use Rattle.text_and_lists.specs.Order.{text_total}
 use Rattle.s3_types.specs.Answer.{apply, apply_at, apply_in, bucket_of, draws}
 use Rattle.s3_types.specs.Requests.{only_reads}
 use Rattle.s3_types.specs.Store.{BucketContent, Content, Scene}

@@ -1,5 +1,5 @@
 -- Common prefixes.
-use Rattle.basics.proofs.Members.{some_is}
+use Rattle.text_and_lists.proofs.Members.{some_is}
 use Rattle.s3_types.specs.Pages.{before_slash, begins, stem}
 use Rattle.std.proofs.Common.{Bool, List, Option, Some, ap, arith, false, inl, inr, nat_eq, refl, subst, sym, true, ℕ, [], ◌&&◌, ◌++◌, ◌∙◌}
 use Rattle.std.proofs.Common.{◌∷◌, ◌≡◌}

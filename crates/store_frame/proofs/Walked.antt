@@ -1,8 +1,8 @@
 -- The walk after a text begins at the first key from `start` on.
-use Rattle.basics.proofs.Bools.{contrary}
-use Rattle.basics.proofs.Less.{irrefl, le_lt, le_not, lt_le, lt_trans}
-use Rattle.basics.proofs.Members.{false_true, none_or_some, none_some, some_is}
-use Rattle.basics.specs.Order.{text_cmp, text_total}
+use Rattle.text_and_lists.proofs.Bools.{contrary}
+use Rattle.text_and_lists.proofs.Less.{irrefl, le_lt, le_not, lt_le, lt_trans}
+use Rattle.text_and_lists.proofs.Members.{false_true, none_or_some, none_some, some_is}
+use Rattle.text_and_lists.specs.Order.{text_cmp, text_total}
 use Rattle.s3_types.proofs.Begins.{between, from_prefix}
 use Rattle.s3_types.specs.Pages.{begins, stem_if}
 use Rattle.s3_types.specs.declared.object.Object.{Object}

@@ -1,5 +1,5 @@
 -- Which keys, uploads and cluster files a request names; nothing else changes.
-use Rattle.basics.specs.Members.{IsIn}
+use Rattle.text_and_lists.specs.Members.{IsIn}
 use Rattle.s3_types.specs.Answer.{bucket_of}
 use Rattle.s3_types.specs.Store.{BucketContent, Scene, Upload}
 use Rattle.s3_types.specs.declared.request.Request.{Request}

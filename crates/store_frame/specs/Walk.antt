@@ -1,5 +1,5 @@
 -- Pages by a walk over the entries. It finds the place of each next entry.
-use Rattle.basics.specs.Order.{text_cmp}
+use Rattle.text_and_lists.specs.Order.{text_cmp}
 use Rattle.s3_types.specs.Pages.{begins, entry_of, stem_if}
 use Rattle.s3_types.specs.declared.object.Object.{Object}
 use Rattle.s3_types.specs.declared.reply.PageEntry.{PageEntry}

@@ -10,7 +10,7 @@
 //!   key.
 #![tactic(auto)]
 
-ghost use Rattle.store_frame.specs.Laws.{PagesCover, RequestsKeep};
+ghost use Rattle.store_frame.specs.PageLaws.{PagesCover, RequestsKeep};
 
 /// What a request may change.
 pub fn requests()

@@ -1,8 +1,8 @@
 -- Entries that rise: a reader takes them and reads them again, and they are the entries of the map that they make.
-use Rattle.basics.proofs.Bytes.{IsBytes, IsReader, IsWide, Takes, Takes-then}
-use Rattle.basics.proofs.Less.{less_of}
-use Rattle.basics.proofs.Reading.{parted, same_ok}
-use Rattle.basics.proofs.Tree.{entries_empty}
+use Rattle.text_and_lists.proofs.Bytes.{IsBytes, IsReader, IsWide, Takes, Takes-then}
+use Rattle.text_and_lists.proofs.Less.{less_of}
+use Rattle.text_and_lists.proofs.Reading.{parted, same_ok}
+use Rattle.text_and_lists.proofs.Tree.{entries_empty}
 use Rattle.std.proofs.Common.{Bool, List, None, Ok, Option, Some, T, ap, append_assoc, arith, false, length, length-append, refl, subst}
 use Rattle.std.proofs.Common.{suc, sym, true, zero, ℕ, [], ◌++◌, ◌+◌, ◌<◌, ◌^◌, ◌∙◌, ◌∷◌, ◌≡◌, ◌≤◌}
 use Rattle.std.proofs.Math.Facts.{and_yes}

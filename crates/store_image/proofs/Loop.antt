@@ -1,6 +1,6 @@
 -- One more entry of a map that is read.
-use Rattle.basics.proofs.Reading.{unless_more}
-use Rattle.basics.specs.Reading.{Fails, made, ◌>>=◌}
+use Rattle.text_and_lists.proofs.Reading.{unless_more}
+use Rattle.text_and_lists.specs.Reading.{Fails, made, ◌>>=◌}
 use Rattle.s3_types.specs.Names.{is_key}
 use Rattle.s3_types.specs.Store.{Content, Parts, Uploads}
 use Rattle.std.proofs.Common.{Err, List, None, Ok, Option, Some, ap, arith, refl, suc, sym, ℕ, ◌+◌, ◌-◌, ◌<◌, ◌∙◌, ◌∷◌, ◌≡◌, ◌≤◌}

@@ -1,6 +1,6 @@
 -- Maps that grow by rising keys.
-use Rattle.basics.proofs.Less.{less_of}
-use Rattle.basics.specs.Order.{text_equiv}
+use Rattle.text_and_lists.proofs.Less.{less_of}
+use Rattle.text_and_lists.specs.Order.{text_equiv}
 use Rattle.s3_types.specs.Answer.{part_put}
 use Rattle.s3_types.specs.Multipart.{is_part_number, live, with_key, with_part}
 use Rattle.s3_types.specs.Store.{Parts, Upload, Uploads}

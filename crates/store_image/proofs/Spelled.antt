@@ -1,8 +1,8 @@
 -- For each kind of value: the value that is read has the bytes as its text, and its text is read as that value.
-use Rattle.basics.proofs.Bytes.{IsBytes, IsReader, Takes, Takes-then, wide16, wide64}
-use Rattle.basics.proofs.Reading.{parted, same_ok, tested, tested_again}
-use Rattle.basics.specs.Order.{text_cmp, text_total}
-use Rattle.basics.specs.Reading.{◌>>=◌}
+use Rattle.text_and_lists.proofs.Bytes.{IsBytes, IsReader, Takes, Takes-then, wide16, wide64}
+use Rattle.text_and_lists.proofs.Reading.{parted, same_ok, tested, tested_again}
+use Rattle.text_and_lists.specs.Order.{text_cmp, text_total}
+use Rattle.text_and_lists.specs.Reading.{◌>>=◌}
 use Rattle.s3_types.specs.Multipart.{is_part_number}
 use Rattle.s3_types.specs.Names.{are_elements, is_bucket, is_key, is_key_path, is_letter_or_digit, is_name_byte, trimmed}
 use Rattle.s3_types.specs.Store.{BucketContent, Upload}

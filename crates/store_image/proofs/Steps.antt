@@ -1,7 +1,7 @@
 -- Steps of reading: each takes a text from the front, and reads again the text that was written.
-use Rattle.basics.proofs.Bytes.{IsBytes, IsReader, IsWide, Takes, Takes-then, front_again, front_takes, wide64}
-use Rattle.basics.proofs.Reading.{parted, same_ok}
-use Rattle.basics.specs.Reading.{◌>>=◌}
+use Rattle.text_and_lists.proofs.Bytes.{IsBytes, IsReader, IsWide, Takes, Takes-then, front_again, front_takes, wide64}
+use Rattle.text_and_lists.proofs.Reading.{parted, same_ok}
+use Rattle.text_and_lists.specs.Reading.{◌>>=◌}
 use Rattle.std.proofs.Common.{List, Ok, ap, append_assoc, arith, length, refl, subst, sym, ℕ, ◌++◌, ◌+◌, ◌<◌, ◌^◌, ◌∙◌, ◌≡◌}
 use Rattle.std.proofs.lemmas.List.{length-append}
 use Rattle.std.specs.Int.{Width, byte_len, from_be_bytes, to_be_bytes, w64}

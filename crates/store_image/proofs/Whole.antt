@@ -1,8 +1,8 @@
 -- The two laws of the whole image: the content that is read has the bytes as its image, and its image is read as that content.
-use Rattle.basics.proofs.Bytes.{IsBytes, Takes, Takes-then, wide64}
-use Rattle.basics.proofs.Reading.{parted, passed, same_ok}
-use Rattle.basics.specs.Order.{text_cmp}
-use Rattle.basics.specs.Reading.{passing, ◌>>=◌}
+use Rattle.text_and_lists.proofs.Bytes.{IsBytes, Takes, Takes-then, wide64}
+use Rattle.text_and_lists.proofs.Reading.{parted, passed, same_ok}
+use Rattle.text_and_lists.specs.Order.{text_cmp}
+use Rattle.text_and_lists.specs.Reading.{passing, ◌>>=◌}
 use Rattle.s3_types.specs.Names.{is_bucket}
 use Rattle.s3_types.specs.Store.{Content}
 use Rattle.std.proofs.Common.{Err, List, Ok, ap, append_assoc, arith, cond, eqb, leb, length, refl, subst, sym, true, ℕ, [], ◌++◌, ◌<◌, ◌^◌}

@@ -1,6 +1,6 @@
 -- The numbers and places of faults, and what a call returned, compared with what reading gives.
 use Rattle.std.specs.Prelude.{ℕ, Bool, true, false, Result}
-use Rattle.basics.specs.Reading as reading
+use Rattle.text_and_lists.specs.Reading as reading
 use Rattle.store_image.specs.declared.fault.ImageFault.{ImageFault}
 use Rattle.store_image.specs.declared.fault.ImageFault.TheVariants.{BadHead, Short, BadOrder, BadName, CounterTooHigh, Trailing, NoMemory}
 

@@ -1,7 +1,7 @@
 -- Reading an image from left to right, up to the first fault. The place of a field is the number of bytes before it; it is computed from
 -- the length of the whole.
-use Rattle.basics.specs.Order.{text_cmp}
-use Rattle.basics.specs.Reading.{made, passing, ◌>>=◌}
+use Rattle.text_and_lists.specs.Order.{text_cmp}
+use Rattle.text_and_lists.specs.Reading.{made, passing, ◌>>=◌}
 use Rattle.s3_types.specs.Multipart.{is_part_number}
 use Rattle.s3_types.specs.Names.{is_bucket, is_key}
 use Rattle.s3_types.specs.Store.{BucketContent, Content, Parts, Upload}
@@ -16,7 +16,7 @@ use Rattle.store_image.specs.Image.{magic}
 use Rattle.store_image.specs.declared.fault.ImageFault.{ImageFault}
 use Rattle.store_image.specs.declared.fault.ImageFault.TheVariants.{BadHead, BadName, BadOrder, CounterTooHigh, Short, Trailing}
 use Rattle.std.specs.FinMap as fin
-use Rattle.basics.specs.Reading as reading
+use Rattle.text_and_lists.specs.Reading as reading
 
 -- A value with the bytes that are left after it, or a fault.
 abbrev pub Read : Type 0 → Type 0

@@ -2,7 +2,7 @@ ghost use Rattle.std.specs.Prelude.{◌≡◌, ◌<◌, ◌≤◌, ◌^◌, ℕ,
 ghost use Rattle.std.specs.FinMap as fin;
 ghost use Rattle.std.specs.Int.{w64};
 ghost use Rattle.std.specs.Ordering.{nat_cmp};
-ghost use Rattle.basics.specs.Reading.{made};
+ghost use Rattle.text_and_lists.specs.Reading.{made};
 ghost use Rattle.s3_types.specs.Store.{Content};
 ghost use Rattle.s3_types.specs.Names.{is_bucket, is_key};
 ghost use Rattle.s3_types.specs.Multipart.{live, is_part_number};

@@ -1,5 +1,5 @@
 -- A commit after a reply, by the places of the files that it commits.
-use Rattle.basics.proofs.Naturals.{at_most_is, at_most_not, below_is}
+use Rattle.text_and_lists.proofs.Naturals.{at_most_is, at_most_not, below_is}
 use Rattle.job_model.specs.Attempts.{Who}
 use Rattle.job_model.specs.Files.{File}
 use Rattle.job_model.specs.JobScript.{Script}
@@ -28,7 +28,7 @@ use Rattle.std.proofs.lemmas.Bool.{and_parts}
 use Rattle.std.proofs.lemmas.List.{drop_all, length-map, take_all}
 use Rattle.std.proofs.lemmas.Option.{slice_get-get_or, slice_get_past, slice_get_within}
 use Rattle.std.specs.Cmp.Lexicographic.{bytes_decides}
-use Rattle.task_machines.specs.Commits.{FitsCommit}
+use Rattle.task_operation.specs.Commits.{FitsCommit}
 use Rattle.task_magic.proofs.Listed.{missing_by}
 use Rattle.task_magic.specs.Committing.{AreRecords, HoldsCommit, commit_by, commit_of, is_no_key, known_if, least_unseen, publishes}
 use Rattle.task_magic.specs.Committing.{record_of, seen_in, with_sent}

@@ -1,7 +1,7 @@
 -- The files whose records are among the keys of a listing.
-use Rattle.basics.proofs.Members.{nat_true, text_false}
-use Rattle.basics.proofs.Naturals.{below_so, suc_not, suc_same, zero_not}
-use Rattle.basics.specs.Order.{text_eq}
+use Rattle.text_and_lists.proofs.Members.{nat_true, text_false}
+use Rattle.text_and_lists.proofs.Naturals.{below_so, suc_not, suc_same, zero_not}
+use Rattle.text_and_lists.specs.Order.{text_eq}
 use Rattle.job_model.specs.Files.{File}
 use Rattle.job_model.specs.Jobs.{Task}
 use Rattle.job_protocol.specs.AtWork.{task_script, who_of}

@@ -1,5 +1,5 @@
 -- A magic attempt's commit, by the keys listed, the places of the files that it commits, and how many records it has read.
-use Rattle.basics.specs.Order.{text_eq}
+use Rattle.text_and_lists.specs.Order.{text_eq}
 use Rattle.job_model.specs.Files.{File}
 use Rattle.job_model.specs.Jobs.{Task}
 use Rattle.job_model.specs.Known.{Known}

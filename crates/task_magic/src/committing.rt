@@ -5,7 +5,7 @@ ghost use Rattle.job_protocol.specs.AtWork.{task_script, who_of};
 ghost use Rattle.list_walk.specs.Walks.{page_after, keys_on};
 ghost use Rattle.job_protocol.specs.TaskCommits.{attempt_prefix, Looking, reading, task_commit_asks, task_commit_hears};
 ghost use Rattle.task_requests.specs.Publishing.{picked};
-ghost use Rattle.task_machines.specs.Commits.{FitsCommit};
+ghost use Rattle.task_operation.specs.Commits.{FitsCommit};
 ghost use Rattle.task_magic.specs.Committing.{HoldsCommit, commit_of, IsListed, Keeps, is_no_key, publishes, with_sent};
 
 use crate::listing::{Listed, files_of_keys, missing, record_at};
@@ -15,7 +15,7 @@ use list_walk::KeyWalk;
 use machine::Asked;
 use s3_types::{Key, KeyList, Refusal, Reply, Request, Sequence, both, put};
 use std::alloc::{AllocError, Global};
-use task_machines::{Holds, TaskMachine, TheCommit};
+use task_operation::{TaskMachine, TaskState, TheCommit};
 use task_requests::{bucket_of, prefix, publish_request};
 
 /// A commit in progress:
@@ -218,7 +218,7 @@ impl Committing {
     }
 }
 
-impl Holds<TheCommit> for Committing {
+impl TaskState<TheCommit> for Committing {
     ghost goes_by = { λ plan. plan.job.committer ≡ Magic };
 
     ghost keeps = { Keeps };

@@ -4,7 +4,7 @@ ghost use Rattle.job_protocol.specs.AtWork.{task_script, who_of};
 ghost use Rattle.list_walk.specs.Walks.{sweep_asks};
 ghost use Rattle.job_protocol.specs.TaskCommits.{attempt_prefix};
 ghost use Rattle.job_protocol.specs.TaskAborts.{task_abort_hears};
-ghost use Rattle.task_machines.specs.Aborts.{FitsAbort};
+ghost use Rattle.task_operation.specs.Aborts.{FitsAbort};
 ghost use Rattle.task_magic.specs.Undoing.{abort_of, kept_if};
 
 use job_model::{TaskEnd, TaskPlan};
@@ -12,7 +12,7 @@ use list_walk::{AllKeys, Sweep};
 use machine::Asked;
 use s3_types::{Reply, put};
 use std::alloc::{AllocError, Global};
-use task_machines::{Holds, TaskMachine, TheAbort};
+use task_operation::{TaskMachine, TaskState, TheAbort};
 use task_requests::{abort_request, bucket_of, made, prefix};
 
 /// An abort in progress: how many uploads it has aborted, the sweep of the attempt's directory, and
@@ -69,7 +69,7 @@ impl Undoing {
     }
 }
 
-impl Holds<TheAbort> for Undoing {
+impl TaskState<TheAbort> for Undoing {
     ghost goes_by = { λ plan. plan.job.committer ≡ Magic };
 
     ghost keeps = { λ plan _. plan.job.committer ≡ Magic };

@@ -8,7 +8,7 @@ use machine::Asked;
 use path_keys::S3Path;
 use s3_types::{Reply, Request, put};
 use std::alloc::{AllocError, Global};
-use task_machines::{Holds, TaskMachine, TheWrite};
+use task_operation::{TaskMachine, TaskState, TheWrite};
 use task_requests::{WriteStage, ask, directory};
 
 /// A write in progress: the attempt's directory, how many files are complete, the stage of the next
@@ -61,7 +61,7 @@ impl Writing {
     }
 }
 
-impl Holds<TheWrite> for Writing {
+impl TaskState<TheWrite> for Writing {
     ghost goes_by = { λ plan. plan.job.committer ≡ Magic };
 
     ghost keeps = { Keeps };

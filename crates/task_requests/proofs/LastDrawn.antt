@@ -1,6 +1,6 @@
 -- The place of a key's newest upload.
-use Rattle.basics.proofs.Lists.{get_left}
-use Rattle.basics.specs.Order.{text_eq}
+use Rattle.text_and_lists.proofs.Lists.{get_left}
+use Rattle.text_and_lists.specs.Order.{text_eq}
 use Rattle.job_model.specs.Files.{File}
 use Rattle.job_model.specs.JobScript.{Script}
 use Rattle.job_model.specs.Jobs.{Task}

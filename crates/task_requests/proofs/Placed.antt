@@ -1,9 +1,9 @@
 -- The paths of an attempt's files, as parts of keys.
-use Rattle.basics.proofs.Bools.{contrary}
-use Rattle.basics.proofs.Lists.{short_number}
-use Rattle.basics.proofs.Pieces.{join_parts, one_part}
-use Rattle.basics.proofs.Split.{lone_from}
-use Rattle.basics.specs.Parts.{is_other, parts_from, parts_of}
+use Rattle.text_and_lists.proofs.Bools.{contrary}
+use Rattle.text_and_lists.proofs.Lists.{short_number}
+use Rattle.text_and_lists.proofs.Pieces.{join_parts, one_part}
+use Rattle.text_and_lists.proofs.Split.{lone_from}
+use Rattle.text_and_lists.specs.Parts.{is_other, parts_from, parts_of}
 use Rattle.job_model.specs.Files.{File}
 use Rattle.job_model.specs.Jobs.{Job, Task}
 use Rattle.job_model.specs.Legal.{IsGiven, bytes_of}

@@ -1,5 +1,5 @@
 -- The steps of a write, by the data that its machine keeps.
-use Rattle.basics.proofs.Naturals.{at_most_so, below_is, below_not, below_so}
+use Rattle.text_and_lists.proofs.Naturals.{at_most_so, below_is, below_not, below_so}
 use Rattle.job_model.specs.Files.{File}
 use Rattle.job_model.specs.Jobs.{Task}
 use Rattle.job_model.specs.Known.{Drawn, Known}

@@ -1,9 +1,9 @@
 -- A write after a reply, at its current file.
-use Rattle.basics.proofs.Bools.{contrary, not_so}
-use Rattle.basics.proofs.Lists.{one_longer}
-use Rattle.basics.proofs.Members.{nat_true}
-use Rattle.basics.proofs.Naturals.{below_not}
-use Rattle.basics.specs.Order.{text_eq}
+use Rattle.text_and_lists.proofs.Bools.{contrary, not_so}
+use Rattle.text_and_lists.proofs.Lists.{one_longer}
+use Rattle.text_and_lists.proofs.Members.{nat_true}
+use Rattle.text_and_lists.proofs.Naturals.{below_not}
+use Rattle.text_and_lists.specs.Order.{text_eq}
 use Rattle.job_model.specs.Attempts.{Who, same_name}
 use Rattle.job_model.specs.Files.{File}
 use Rattle.job_model.specs.JobScript.{Script}

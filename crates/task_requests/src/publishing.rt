@@ -1,5 +1,5 @@
 ghost use Rattle.std.specs.Prelude.{◌≡◌, ◌<◌, ℕ, List, length, map, get_or, [], true, cond, IfOk, OnOk, Some, None};
-ghost use Rattle.basics.specs.Order.{text_eq};
+ghost use Rattle.text_and_lists.specs.Order.{text_eq};
 ghost use Rattle.indexmap.specs.IndexMap.{get};
 ghost use Rattle.job_protocol.specs.AtWork.{task_script, who_of, task_commit_wants};
 ghost use Rattle.job_protocol.specs.Knowledge.{as_made};

@@ -1,7 +1,7 @@
 -- The files of an attempt in order; each has a key of its own.
-use Rattle.basics.proofs.Bools.{contrary}
-use Rattle.basics.proofs.Lists.{front_cancels}
-use Rattle.basics.specs.Order.{text_eq}
+use Rattle.text_and_lists.proofs.Bools.{contrary}
+use Rattle.text_and_lists.proofs.Lists.{front_cancels}
+use Rattle.text_and_lists.specs.Order.{text_eq}
 use Rattle.job_model.specs.Files.{File, has_path}
 use Rattle.job_model.specs.JobScript.{Script}
 use Rattle.job_model.specs.Plans.{ArePlaced}

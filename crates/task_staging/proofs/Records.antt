@@ -1,5 +1,5 @@
 -- The records of the uploaded files stay the same while the next file is uploaded, whose record then follows them.
-use Rattle.basics.specs.Order.{text_eq}
+use Rattle.text_and_lists.specs.Order.{text_eq}
 use Rattle.job_model.specs.Files.{File}
 use Rattle.job_model.specs.Jobs.{Task}
 use Rattle.job_model.specs.Known.{Drawn, with_last}

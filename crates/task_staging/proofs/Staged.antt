@@ -1,8 +1,8 @@
 -- The requests of a staging commit, and the commit after a reply.
-use Rattle.basics.proofs.Naturals.{at_most_is, at_most_so}
+use Rattle.text_and_lists.proofs.Naturals.{at_most_is, at_most_so}
 use Rattle.conflict.proofs.Tells.{checks_tell}
 use Rattle.conflict.specs.Checks.{check_asks, found_below, is_none, left_after}
-use Rattle.conflict.specs.Laws.{commit_after_check}
+use Rattle.conflict.specs.ChecksEnd.{commit_after_check}
 use Rattle.job_model.specs.Files.{File}
 use Rattle.job_model.specs.JobScript.{Script}
 use Rattle.job_model.specs.Jobs.{Task}
@@ -32,7 +32,7 @@ use Rattle.std.proofs.Common.{length-take-le, nat_le, refl, slice_get, subst, su
 use Rattle.std.proofs.Common.{◌≡◌, ◌≤◌}
 use Rattle.std.proofs.lemmas.Bool.{true≢false}
 use Rattle.std.proofs.lemmas.List.{drop_all, take_all}
-use Rattle.task_machines.specs.Commits.{FitsCommit}
+use Rattle.task_operation.specs.Commits.{FitsCommit}
 use Rattle.task_requests.proofs.Steps.{file_is, first_part, first_tags, some_drawn}
 use Rattle.task_requests.proofs.Told.{front_is, has_more, learn_last, none_left, own_files, take_next}
 use Rattle.task_requests.specs.Writing.{FitsCreate, FitsPart, HasSent, IsBehind, asks_behind, is_new, next_stage, one_more, part_behind}
@@ -40,14 +40,14 @@ use Rattle.task_requests.specs.Writing.{parts_in, size_of, tag_in, upload_in, wi
 use Rattle.task_requests.specs.declared.stage.WriteStage.{WriteStage}
 use Rattle.task_staging.proofs.FilesApart.{all_taken, front_at}
 use Rattle.task_staging.proofs.Records.{first_known, set_closed, set_drawn, set_sent}
-use Rattle.task_staging.specs.Staging.{Holds, HoldsAt, HoldsSent, IsLastPart, IsOfKey, KeepsBy, next_asks, opening, sending_at}
+use Rattle.task_staging.specs.Staging.{HoldsSet, HoldsAt, HoldsSent, IsLastPart, IsOfKey, KeepsBy, next_asks, opening, sending_at}
 use Rattle.task_staging.specs.Staging.{sending_from, set_of, staged_at, staged_by, text_of, worn_known}
-use Rattle.task_staging.specs.declared.staging.Stage.{Stage}
+use Rattle.task_staging.specs.declared.staging.StagingStage.{StagingStage}
 use Rattle.task_staging.specs.declared.staging.Staging.{Staging}
 use Rattle.job_model.specs.declared.ends.TaskEnd.TheVariants as ends
 use Rattle.job_protocol.specs.TaskCommits as commits
 use Rattle.task_requests.specs.declared.stage.WriteStage.TheVariants as write_stages
-use Rattle.task_staging.specs.declared.staging.Stage.TheVariants as stages
+use Rattle.task_staging.specs.declared.staging.StagingStage.TheVariants as stages
 
 abbrev pub at : Task → TaskCommit → Attempting TaskCommit
 at t o = record { plan = t; operation = o }
@@ -70,13 +70,13 @@ start_is t ds h g = grind (arith, opened)
 is_empty : (ds : List (List ℕ)) → is_none ds ≡ true → ds ≡ []
 is_empty ds h = grind arith
 
-pub keeps_open : (t : Task) (h : Staging) → h.end ≡ None → Holds t h.stage h.checks h.place h.set → KeepsBy t h h.end
+pub keeps_open : (t : Task) (h : Staging) → h.end ≡ None → HoldsSet t h.stage h.checks h.place h.set → KeepsBy t h h.end
 keeps_open t h e k = subst (KeepsBy t h) (sym e) k
 
-pub holds_open : (t : Task) (h : Staging) → h.end ≡ None → KeepsBy t h h.end → Holds t h.stage h.checks h.place h.set
+pub holds_open : (t : Task) (h : Staging) → h.end ≡ None → KeepsBy t h h.end → HoldsSet t h.stage h.checks h.place h.set
 holds_open t h e k = subst (KeepsBy t h) e k
 
-module _ (t : Task) (s : Stage) (ds : List (List ℕ)) (place : ℕ) (end : Option TaskEnd) (e : end ≡ None) where
+module _ (t : Task) (s : StagingStage) (ds : List (List ℕ)) (place : ℕ) (end : Option TaskEnd) (e : end ≡ None) where
   as_open : s ≡ stages.Opening → staged_by t s ds place end ≡ opening ds (drop place t.files)
   as_open i = ap (staged_by t s ds place) e ∙ ap (λ x. staged_by t x ds place None) i
 
@@ -98,7 +98,7 @@ pub record IsSent (t : Task) (place n : ℕ) : Type 0 where
   pub sent : HasSent t.known.drawn (take n (parts_in t (file_at t place)))
   pub key : IsOfKey (file_key (task_script t) (file_at t place)) t.known.drawn
 
-pub is_sent : (t : Task) (s : Stage) (ds : List (List ℕ)) (place n : ℕ) → HoldsAt t s ds place → s ≡ stages.Sending n → IsSent t place n
+pub is_sent : (t : Task) (s : StagingStage) (ds : List (List ℕ)) (place n : ℕ) → HoldsAt t s ds place → s ≡ stages.Sending n → IsSent t place n
 is_sent t s ds place n h i = by (drop place t.files) refl (subst (λ x. HoldsAt t x ds place) i h).1
   where
     by : (l : List File) → drop place t.files ≡ l → HoldsSent (task_script t) t.minimum t.known n (drop place t.files) → IsSent t place n
@@ -110,7 +110,7 @@ is_sent t s ds place n h i = by (drop place t.files) refl (subst (λ x. HoldsAt 
         (HoldsSent (task_script t) t.minimum t.known n) (front_at t.files place within) g in
         record { within = within; more = k.0; sent = k.1; key = k.2 }
 
-pub none_checked : (t : Task) (s : Stage) (ds : List (List ℕ)) (place n : ℕ) → HoldsAt t s ds place → s ≡ stages.Sending n → ds ≡ []
+pub none_checked : (t : Task) (s : StagingStage) (ds : List (List ℕ)) (place n : ℕ) → HoldsAt t s ds place → s ≡ stages.Sending n → ds ≡ []
 none_checked t s ds place n h i = (subst (λ x. HoldsAt t x ds place) i h).0
 
 -- The same for what a commit keeps.
@@ -123,7 +123,7 @@ part_behind_is {t = t} {place = place} {n = n} k = (k.more, some_drawn t.known.d
 
 -- ---- the next request
 
-pub asks_check : (t : Task) (s : Stage) (ds : List (List ℕ)) (place : ℕ) (end : Option TaskEnd) → end ≡ None → s ≡ stages.Opening
+pub asks_check : (t : Task) (s : StagingStage) (ds : List (List ℕ)) (place : ℕ) (end : Option TaskEnd) → end ≡ None → s ≡ stages.Opening
     → is_none ds ≡ false → check_asks t.job.dest ds ≡ task_commit_wants (at t (staged_by t s ds place end))
 asks_check t s ds place end h g e = grind arith
 
@@ -132,7 +132,7 @@ next_text : (t : Task) (set : PendingSet) (place : ℕ) → set ≡ set_of t pla
 next_text t set place e n = ap text_of e ∙ ap (λ fs. set_text (task_script t) (who_of t) fs t.known)
     (all_taken t.files place n ∙ sym (own_files t))
 
-pub asks_next : (t : Task) (s : Stage) (ds : List (List ℕ)) (place : ℕ) (end : Option TaskEnd) (set : PendingSet) → end ≡ None
+pub asks_next : (t : Task) (s : StagingStage) (ds : List (List ℕ)) (place : ℕ) (end : Option TaskEnd) (set : PendingSet) → end ≡ None
     → s ≡ stages.Opening → is_none ds ≡ true → set ≡ set_of t place
     → Some (next_asks t set (drop place t.files)) ≡ task_commit_wants (at t (staged_by t s ds place end))
 asks_next t s ds place end set e i n g = by (drop place t.files) refl ∙ sym (ap (λ o. task_commit_wants (at t o))
@@ -152,18 +152,18 @@ from_part t f fs n h g =
     (sym tags)
     ∙ ap (λ l. task_commit_wants (at t (sending_from f fs l))) (sym (first_part t f n h))
 
-pub asks_part : (t : Task) (s : Stage) (ds : List (List ℕ)) (place n : ℕ) (end : Option TaskEnd) → end ≡ None → s ≡ stages.Sending n
+pub asks_part : (t : Task) (s : StagingStage) (ds : List (List ℕ)) (place n : ℕ) (end : Option TaskEnd) → end ≡ None → s ≡ stages.Sending n
     → IsSent t place n
     → Some (asks_behind t (file_at t place) (write_stages.Sending n)) ≡ task_commit_wants (at t (staged_by t s ds place end))
 asks_part t s ds place n end e i k =
     from_part t (file_at t place) (drop (place + 1) t.files) n k.more k.sent ∙ sym
     (ap (λ o. task_commit_wants (at t o)) (as_part t s ds place end e n i k.within))
 
-pub asks_rename : (t : Task) (s : Stage) (ds : List (List ℕ)) (place : ℕ) (end : Option TaskEnd) (r : Request) → end ≡ None
+pub asks_rename : (t : Task) (s : StagingStage) (ds : List (List ℕ)) (place : ℕ) (end : Option TaskEnd) (r : Request) → end ≡ None
     → s ≡ stages.Renaming → Some r ≡ task_commit_wants (at t Renaming) → Some r ≡ task_commit_wants (at t (staged_by t s ds place end))
 asks_rename t s ds place end r e i h = h ∙ sym (ap (λ o. task_commit_wants (at t o)) (as_renaming t s ds place end e i))
 
-pub asks_none : (t : Task) (s : Stage) (ds : List (List ℕ)) (place : ℕ) (end : Option TaskEnd) (x : TaskEnd) → end ≡ Some x
+pub asks_none : (t : Task) (s : StagingStage) (ds : List (List ℕ)) (place : ℕ) (end : Option TaskEnd) (x : TaskEnd) → end ≡ Some x
     → None ≡ task_commit_wants (at t (staged_by t s ds place end))
 asks_none t s ds place end x e = sym (ap (λ o. task_commit_wants (at t (staged_by t s ds place o))) e)
 
@@ -174,11 +174,11 @@ check_told : (t : Task) (d : List ℕ) (ds : List (List ℕ)) (fs : List File) (
     (at t (opening (d ∷ ds) fs)) (Got r b)
 check_told t d ds fs r b = ap (at t) (sym (checks_tell.goes (task_script t) t.minimum (who_of t) d ds r b))
 
-some_partition : (t : Task) (s : Stage) (ds : List (List ℕ)) (place : ℕ) → s ≡ stages.Opening → is_none ds ≡ false → HoldsAt t s ds place
+some_partition : (t : Task) (s : StagingStage) (ds : List (List ℕ)) (place : ℕ) → s ≡ stages.Opening → is_none ds ≡ false → HoldsAt t s ds place
     → place ≡ 0
 some_partition t s ds place h g e = grind arith
 
-module _ (t : Task) (s : Stage) (ds : List (List ℕ)) (place : ℕ) (end : Option TaskEnd) (r : Reply) (b : Bool) (e : end ≡ None)
+module _ (t : Task) (s : StagingStage) (ds : List (List ℕ)) (place : ℕ) (end : Option TaskEnd) (r : Reply) (b : Bool) (e : end ≡ None)
     (i : s ≡ stages.Opening) (n : is_none ds ≡ false) where
   checked_by : (found : Option (List ℕ)) (left : List (List ℕ)) → found ≡ found_below ds r → left ≡ left_after ds r
       → at t (commit_after_check (task_script t) (who_of t) found left) ≡ task_commit_told (at t (staged_by t s ds place end)) (Got r b)
@@ -204,7 +204,7 @@ reply_upload r id h = grind arith
 uploaded_from : (w : Script) (f : File) (fs : List File) (ps : List (List ℕ)) → uploaded w f fs (sending ps) ≡ sending_from f fs ps
 uploaded_from w f fs ps = grind arith
 
-module _ (t : Task) (s : Stage) (ds : List (List ℕ)) (place : ℕ) (end : Option TaskEnd) (e : end ≡ None) (i : s ≡ stages.Opening)
+module _ (t : Task) (s : StagingStage) (ds : List (List ℕ)) (place : ℕ) (end : Option TaskEnd) (e : end ≡ None) (i : s ≡ stages.Opening)
     (n : is_none ds ≡ true) (h : place < length t.files) where
   as_creating : staged_by t s ds place end ≡ commits.Uploads (file_at t place) (drop (place + 1) t.files) Creating
   as_creating = as_none t s ds place end e i n ∙ ap storing (front_at t.files place h)
@@ -230,7 +230,7 @@ module _ (t : Task) (s : Stage) (ds : List (List ℕ)) (place : ℕ) (end : Opti
     }
 
     pub upload_holds : (set : PendingSet) → IsTask t → is_new id t.known.drawn ≡ true → set ≡ set_of t place
-        → Holds t' (stages.Sending 0) ds place set
+        → HoldsSet t' (stages.Sending 0) ds place set
     upload_holds set h g e = grind (arith, begun_sent, set_drawn, is_empty, front_at)
 
     pub upload_next : (r : Request) → is_new id t.known.drawn ≡ true
@@ -248,7 +248,7 @@ put_known k = record { drawn = k.drawn; put_sent = true; publish_sent = k.publis
 abbrev pub published_known : Known → Known
 published_known k = record { drawn = k.drawn; put_sent = k.put_sent; publish_sent = true }
 
-module _ (t : Task) (s : Stage) (ds : List (List ℕ)) (place : ℕ) (end : Option TaskEnd) (t' : Task)
+module _ (t : Task) (s : StagingStage) (ds : List (List ℕ)) (place : ℕ) (end : Option TaskEnd) (t' : Task)
     (u : t' ≡ with_known t (put_known t.known)) (e : end ≡ None) where
   pub stored_told : (r : Reply) (b : Bool) → s ≡ stages.Opening → is_none ds ≡ true → length t.files ≤ place
       → at t' (staged_by t' stages.Renaming ds place end) ≡ task_commit_told (at t (staged_by t s ds place end)) (Got r b)
@@ -258,8 +258,8 @@ module _ (t : Task) (s : Stage) (ds : List (List ℕ)) (place : ℕ) (end : Opti
       ∙ (ap (at (with_known t (put_known t.known))) (as_renaming (with_known t (put_known t.known)) stages.Renaming ds place end e refl)
       ∙ sym (ap (λ o. task_commit_told (at t o) (Got r b)) stores))
 
-  pub stored_holds : (set : PendingSet) → set ≡ set_of t place → Holds t' stages.Renaming ds place set
-  stored_holds set g = subst (λ y. Holds y stages.Renaming ds place set) (sym u) (record { set = g; at = tt })
+  pub stored_holds : (set : PendingSet) → set ≡ set_of t place → HoldsSet t' stages.Renaming ds place set
+  stored_holds set g = subst (λ y. HoldsSet y stages.Renaming ds place set) (sym u) (record { set = g; at = tt })
 
   pub stored_next : (r : Request) → Some r ≡ task_commit_wants (at t Renaming)
       → Some r ≡ task_commit_wants (at t' (staged_by t' stages.Renaming ds place end))
@@ -273,7 +273,7 @@ part_told : (t : Task) (f : File) (fs : List File) (n : ℕ) (tag : Spelled) (b 
     task_commit_told (at t (sending_from f fs (drop n (parts_in t f)))) (Got (Part tag) b)
 part_told t f fs n tag b h g = grind (arith, uploaded_from, learn_last, first_part)
 
-module _ (t : Task) (s : Stage) (ds : List (List ℕ)) (place n : ℕ) (end : Option TaskEnd) (e : end ≡ None) (i : s ≡ stages.Sending n)
+module _ (t : Task) (s : StagingStage) (ds : List (List ℕ)) (place n : ℕ) (end : Option TaskEnd) (e : end ≡ None) (i : s ≡ stages.Sending n)
     (hold : HoldsAt t s ds place) (tag : Spelled) (size : ℕ) (z : size ≡ length (part_behind t (file_at t place).1 n))
     (plain : is_plain_tag tag ≡ true) (t' : Task) (u : t' ≡ with_known t (with_tag t.known tag size)) where
   here : IsSent t place n
@@ -324,9 +324,9 @@ module _ (t : Task) (s : Stage) (ds : List (List ℕ)) (place n : ℕ) (end : Op
         ∙ (ap (λ x. at x (sending_from (file_at t place) (drop (place + 1) t.files) (drop (n + 1) (parts_in t (file_at t place)))))
         (sym after_is) ∙ behind_told b))
 
-    pub send_holds : (set : PendingSet) → IsTask t → set ≡ set_of t place → Holds t' (stages.Sending (n + 1)) ds place set
+    pub send_holds : (set : PendingSet) → IsTask t → set ≡ set_of t place → HoldsSet t' (stages.Sending (n + 1)) ds place set
     send_holds set k g =
-        subst (λ y. Holds y (stages.Sending (n + 1)) ds place set) (sym after_is) (record {
+        subst (λ y. HoldsSet y (stages.Sending (n + 1)) ds place set) (sym after_is) (record {
           set = g ∙ set_sent t place tag (length (part_behind t (file_at t place).1 n)) k here.within here.key;
           at = (
             none_checked t s ds place n hold i,
@@ -357,7 +357,7 @@ module _ (t : Task) (s : Stage) (ds : List (List ℕ)) (place n : ℕ) (end : Op
     close_told b = closing ∙ behind_told b
 
     pub close_holds : (set : PendingSet) → set ≡ set_of (with_known t (with_tag t.known tag size)) (place + 1)
-        → Holds t' stages.Opening ds (place + 1) set
+        → HoldsSet t' stages.Opening ds (place + 1) set
     close_holds set h = grind arith
 
     pub close_next : (set : PendingSet) (r : Request) → set ≡ set_of (with_known t (with_tag t.known tag size)) (place + 1)
@@ -368,7 +368,7 @@ module _ (t : Task) (s : Stage) (ds : List (List ℕ)) (place n : ℕ) (end : Op
         (ap is_none (none_checked t s ds place n hold i)) g
         ∙ sym (ap (λ x. task_commit_wants (at x (staged_by x stages.Opening ds (place + 1) end))) u))
 
-pub fits_part : (t : Task) (s : Stage) (ds : List (List ℕ)) (place n : ℕ) (end : Option TaskEnd) (r : Reply) → end ≡ None
+pub fits_part : (t : Task) (s : StagingStage) (ds : List (List ℕ)) (place n : ℕ) (end : Option TaskEnd) (r : Reply) → end ≡ None
     → s ≡ stages.Sending n → IsSent t place n → FitsCommit (task_script t) (who_of t) t.known (staged_by t s ds place end) r → FitsPart r
 fits_part t s ds place n end r e i k f =
     let g : FitsCommit (task_script t) (who_of t) t.known (sending_from (file_at t place) (drop (place + 1) t.files)
@@ -377,7 +377,7 @@ fits_part t s ds place n end r e i k f =
     subst (λ l. FitsCommit (task_script t) (who_of t) t.known (sending_from (file_at t place) (drop (place + 1) t.files) l) r)
     (first_part t (file_at t place) n k.more) g
 
-pub gone_told : (t : Task) (s : Stage) (ds : List (List ℕ)) (place n : ℕ) (end : Option TaskEnd) (r : Reply) (b : Bool) (x : TaskEnd)
+pub gone_told : (t : Task) (s : StagingStage) (ds : List (List ℕ)) (place n : ℕ) (end : Option TaskEnd) (r : Reply) (b : Bool) (x : TaskEnd)
     → end ≡ None → s ≡ stages.Sending n → IsSent t place n → r ≡ Refused NoSuchUpload
     → x ≡ ends.Gone (file_key (task_script t) (file_at t place))
     → at t (TaskCommitOver x) ≡ task_commit_told (at t (staged_by t s ds place end)) (Got r b)
@@ -391,7 +391,7 @@ gone_told t s ds place n end r b x e i k q g =
 
 -- ---- the rename
 
-pub rename_told : (t : Task) (s : Stage) (ds : List (List ℕ)) (place : ℕ) (end : Option TaskEnd) (r : Reply) (b : Bool) (x : TaskEnd)
+pub rename_told : (t : Task) (s : StagingStage) (ds : List (List ℕ)) (place : ℕ) (end : Option TaskEnd) (r : Reply) (b : Bool) (x : TaskEnd)
     (t' : Task) → t' ≡ with_known t (published_known t.known) → end ≡ None → s ≡ stages.Renaming
     → TaskCommitOver x ≡ renamed (task_script t) (who_of t) r b
     → at t' (TaskCommitOver x) ≡ task_commit_told (at t (staged_by t s ds place end)) (Got r b)
@@ -412,7 +412,7 @@ unfolding Tells
 worn_from t f fs [] = worn_storing t fs
 worn_from t f fs (p ∷ ps) = refl
 
-worn_at : (t : Task) (s : Stage) (ds : List (List ℕ)) (fs : List File) → Tells t (staged_at (task_script t) t.minimum s ds fs)
+worn_at : (t : Task) (s : StagingStage) (ds : List (List ℕ)) (fs : List File) → Tells t (staged_at (task_script t) t.minimum s ds fs)
 unfolding Tells
 worn_at t stages.Opening [] fs = worn_storing t fs
 worn_at t stages.Opening (d ∷ ds) fs = refl
@@ -420,12 +420,12 @@ worn_at t (stages.Sending n) ds [] = refl
 worn_at t (stages.Sending n) ds (f ∷ fs) = worn_from t f fs (drop n (parts_in t f))
 worn_at t stages.Renaming ds fs = refl
 
-worn_by : (t : Task) (s : Stage) (ds : List (List ℕ)) (place : ℕ) (end : Option TaskEnd) → Tells t (staged_by t s ds place end)
+worn_by : (t : Task) (s : StagingStage) (ds : List (List ℕ)) (place : ℕ) (end : Option TaskEnd) → Tells t (staged_by t s ds place end)
 unfolding Tells
 worn_by t s ds place None = worn_at t s ds (drop place t.files)
 worn_by t s ds place (Some x) = refl
 
-pub worn_told : (t t' : Task) (s : Stage) (ds : List (List ℕ)) (place : ℕ) (end : Option TaskEnd)
+pub worn_told : (t t' : Task) (s : StagingStage) (ds : List (List ℕ)) (place : ℕ) (end : Option TaskEnd)
     → t' ≡ with_known t (worn_known (staged_by t s ds place end) t.known)
     → at t' (TaskCommitOver ends.StoreFault) ≡ task_commit_told (at t (staged_by t s ds place end)) WornOut
 unfolding Tells
@@ -433,7 +433,7 @@ worn_told t t' s ds place end u = ap (λ x. at x (TaskCommitOver ends.StoreFault
     (λ k. at (with_known t k) (TaskCommitOver ends.StoreFault)) (sym (worn_by t s ds place end))
 
 -- What is known after the put of the set exhausted its retries.
-module _ (t : Task) (s : Stage) (ds : List (List ℕ)) (place : ℕ) (end : Option TaskEnd) (e : end ≡ None) where
+module _ (t : Task) (s : StagingStage) (ds : List (List ℕ)) (place : ℕ) (end : Option TaskEnd) (e : end ≡ None) where
   pub worn_stored : s ≡ stages.Opening → (is_none ds && nat_le (length t.files) place) ≡ true
       → put_known t.known ≡ worn_known (staged_by t s ds place end) t.known
   worn_stored i h = by (is_none ds) refl h
@@ -479,7 +479,7 @@ pub stores_all : (ds : List (List ℕ)) (fs : List File) (len place : ℕ) (b : 
     → nat_le len place ≡ (is_none ds && nat_le (length fs) place)
 stores_all ds fs len place b e f g = ap (λ n. nat_le n place) g ∙ sym (ap (λ x. x && nat_le (length fs) place) (sym e ∙ f))
 
-pub worn_over : (t : Task) (s : Stage) (ds : List (List ℕ)) (place : ℕ) (end : Option TaskEnd) (x : TaskEnd) → end ≡ Some x
+pub worn_over : (t : Task) (s : StagingStage) (ds : List (List ℕ)) (place : ℕ) (end : Option TaskEnd) (x : TaskEnd) → end ≡ Some x
     → t.known ≡ worn_known (staged_by t s ds place end) t.known
 worn_over t s ds place end x e = sym (ap (λ o. worn_known (staged_by t s ds place o) t.known) e)
 
@@ -502,7 +502,7 @@ record_at t place size tag f d h g = grind (arith, file_is, first_known)
 
 -- ---- the last part of a file
 
-pub is_last : (t : Task) (s : Stage) (ds : List (List ℕ)) (place n : ℕ) (end : Option TaskEnd) → end ≡ None → (i : s ≡ stages.Sending n)
+pub is_last : (t : Task) (s : StagingStage) (ds : List (List ℕ)) (place n : ℕ) (end : Option TaskEnd) → end ≡ None → (i : s ≡ stages.Sending n)
     → (hold : HoldsAt t s ds place) → (tag : Spelled) (size : ℕ) → size ≡ length (part_behind t (file_at t place).1 n)
     → is_plain_tag tag ≡ true
     → length (parts_in t (file_at t place)) ≤ n + 1 → IsLastPart t place tag size
@@ -512,7 +512,7 @@ is_last t s ds place n end e i hold tag size z plain last = record {
 }
 
 -- The set with the record of the file.
-pub closes : (t : Task) (s : Stage) (ds : List (List ℕ)) (place n : ℕ) → (i : s ≡ stages.Sending n) → (hold : HoldsAt t s ds place)
+pub closes : (t : Task) (s : StagingStage) (ds : List (List ℕ)) (place n : ℕ) → (i : s ≡ stages.Sending n) → (hold : HoldsAt t s ds place)
     → (tag : Spelled) (size : ℕ) (set : PendingSet) (p : Pending) (commits : List Pending) → IsTask t → set ≡ set_of t place
     → p ≡ file_record (task_script t) (who_of t) (file_at t place) (one_more tag size (drawn_last t.known))
     → commits ≡ set.commits ++ p ∷ [] → record { job = set.job; task = set.task; attempt = set.attempt; commits = commits } ≡ set_of
@@ -532,7 +532,7 @@ stage_last n count s h g = grind arith
 
 -- ---- the replies that fit a stage
 
-pub open_fits : (t : Task) (s : Stage) (ds : List (List ℕ)) (place n : ℕ) (end : Option TaskEnd) (r : Reply) → end ≡ None
+pub open_fits : (t : Task) (s : StagingStage) (ds : List (List ℕ)) (place n : ℕ) (end : Option TaskEnd) (r : Reply) → end ≡ None
     → s ≡ stages.Sending n → HoldsAt t s ds place → FitsCommit (task_script t) (who_of t) t.known (staged_by t s ds place end) r
     → FitsPart r
 open_fits t s ds place n end r e i hold f = fits_part t s ds place n end r e i (is_sent t s ds place n hold i) f

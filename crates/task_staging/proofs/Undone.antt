@@ -1,5 +1,5 @@
 -- A staging attempt's abort after a reply, by how many of its uploads are aborted.
-use Rattle.basics.proofs.Naturals.{below_is, below_not}
+use Rattle.text_and_lists.proofs.Naturals.{below_is, below_not}
 use Rattle.conflict.proofs.Deleting.{first_of}
 use Rattle.job_model.specs.Jobs.{Task}
 use Rattle.job_model.specs.Known.{Known}

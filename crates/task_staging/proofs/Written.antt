@@ -8,7 +8,7 @@ use Rattle.s3_types.specs.declared.request.Committer.TheVariants.{Magic}
 use Rattle.std.proofs.Common.{refl, subst, sym, ◌≡◌}
 use Rattle.std.proofs.lemmas.Bool.{false≢true}
 use Rattle.std.specs.Prelude.{IsSome}
-use Rattle.task_machines.specs.Tasks.{at}
+use Rattle.task_operation.specs.Tasks.{at}
 use Rattle.job_model.specs.declared.ends.TaskEnd.TheVariants as ends
 use Rattle.job_protocol.specs.Writes as writes
 

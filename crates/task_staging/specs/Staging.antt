@@ -23,10 +23,10 @@ use Rattle.serde_json.specs.Written.{compact_text}
 use Rattle.std.specs.Prelude.{Bool, IfOk, List, None, OnErr, OnOk, Option, Result, Some, drop, false, get_or, length, nat_le, take, true, ℕ}
 use Rattle.std.specs.Prelude.{[], ◌&&◌, ◌<◌, ◌∷◌, ◌≡◌}
 use Rattle.task_requests.specs.Writing.{HasSent, part_behind, parts_in, with_tag}
-use Rattle.task_staging.specs.declared.staging.Stage.{Stage}
+use Rattle.task_staging.specs.declared.staging.StagingStage.{StagingStage}
 use Rattle.task_staging.specs.declared.staging.Staging.{Staging}
 use Rattle.job_protocol.specs.TaskCommits as commits
-use Rattle.task_staging.specs.declared.staging.Stage.TheVariants as stages
+use Rattle.task_staging.specs.declared.staging.StagingStage.TheVariants as stages
 
 -- ---- how far a commit has come
 
@@ -46,13 +46,13 @@ sending_at w minimum n [] = Storing
 sending_at w minimum n (f ∷ fs) = sending_from f fs (drop n (file_parts w minimum f))
 
 -- The commit at a stage.
-abbrev pub staged_at : Script → ℕ → Stage → List (List ℕ) → List File → TaskCommit
+abbrev pub staged_at : Script → ℕ → StagingStage → List (List ℕ) → List File → TaskCommit
 staged_at w minimum stages.Opening ds fs = opening ds fs
 staged_at w minimum (stages.Sending n) ds fs = sending_at w minimum n fs
 staged_at w minimum stages.Renaming ds fs = Renaming
 
 -- The commit after `place` uploaded files, or the commit that ended so.
-abbrev pub staged_by : Task → Stage → List (List ℕ) → ℕ → Option TaskEnd → TaskCommit
+abbrev pub staged_by : Task → StagingStage → List (List ℕ) → ℕ → Option TaskEnd → TaskCommit
 staged_by t s ds place None = staged_at (task_script t) t.minimum s ds (drop place t.files)
 staged_by t s ds place (Some end) = TaskCommitOver end
 
@@ -78,7 +78,7 @@ HoldsSent w minimum k n (f ∷ fs) = (n < length (file_parts w minimum f)) × Ha
     × IsOfKey (file_key w f) k.drawn
 
 -- No file is uploaded while partitions are left to check.
-abbrev pub HoldsAt : Task → Stage → List (List ℕ) → ℕ → Type 0
+abbrev pub HoldsAt : Task → StagingStage → List (List ℕ) → ℕ → Type 0
 HoldsAt t stages.Opening [] place = Unit {0}
 HoldsAt t stages.Opening (d ∷ ds) place = place ≡ 0
 HoldsAt t (stages.Sending n) ds place = (ds ≡ []) × HoldsSent (task_script t) t.minimum t.known n (drop place t.files)
@@ -89,13 +89,13 @@ abbrev pub set_of : Task → ℕ → PendingSet
 set_of t place = files_set (task_script t) (who_of t) (take place t.files) t.known
 
 -- The kept set is that of the uploaded files, and the upload of the current file is known.
-pub record Holds (t : Task) (s : Stage) (ds : List (List ℕ)) (place : ℕ) (held : PendingSet) : Type 0 where
+pub record HoldsSet (t : Task) (s : StagingStage) (ds : List (List ℕ)) (place : ℕ) (held : PendingSet) : Type 0 where
   pub set : held ≡ set_of t place
   pub at : HoldsAt t s ds place
 
 -- What a commit keeps is true until it ends.
 abbrev pub KeepsBy : Task → Staging → Option TaskEnd → Type 0
-KeepsBy t h None = Holds t h.stage h.checks h.place h.set
+KeepsBy t h None = HoldsSet t h.stage h.checks h.place h.set
 KeepsBy t h (Some end) = Unit {0}
 
 -- What a commit keeps is true of its plan.
@@ -110,7 +110,7 @@ pub record IsLastPart (t : Task) (place : ℕ) (tag : Spelled) (size : ℕ) : Ty
 -- ---- what holds before a reply, and the result after it
 
 -- The commit is at this stage and has not ended.
-pub record IsAt (t : Task) (h : Staging) (s : Stage) : Type 0 where
+pub record IsAt (t : Task) (h : Staging) (s : StagingStage) : Type 0 where
   pub stage : h.stage ≡ s
   pub end : h.end ≡ None
   pub keeps : Keeps t h

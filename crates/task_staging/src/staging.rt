@@ -9,7 +9,7 @@ ghost use Rattle.job_protocol.specs.TaskCommits.{TaskCommitOver, renamed};
 ghost use Rattle.conflict.specs.Checks.{is_none};
 ghost use Rattle.s3_types.specs.declared.reply.Reply.TheVariants.{Part};
 ghost use Rattle.task_requests.specs.Writing.{next_stage, one_more, part_behind, parts_in};
-ghost use Rattle.task_machines.specs.Commits.{commit_fits};
+ghost use Rattle.task_operation.specs.Commits.{commit_fits};
 ghost use Rattle.task_staging.specs.Staging.{commit_of, seen, Keeps, IsAt, CameBack, Heard, IsLastPart, is_no_file, stores, worn_known};
 
 use crate::opening::to_check;
@@ -20,7 +20,7 @@ use machine::Asked;
 use pending_json::{PendingSet, PendingUpload};
 use s3_types::{Refusal, Reply, Sequence, Tag, Text, both, put};
 use std::alloc::{AllocError, Global};
-use task_machines::{Holds, TaskMachine, TheCommit};
+use task_operation::{TaskMachine, TaskState, TheCommit};
 use task_requests::{
     WriteStage, begin_upload, behind, file_at, job_of, last_drawn, note_part, pending_with, tag_in,
     target, upload_in,
@@ -28,7 +28,7 @@ use task_requests::{
 
 /// How far a commit has come.
 #[derive(Clone, Copy)]
-pub enum Stage {
+pub enum StagingStage {
     /// Checks the next partition. If none is left, creates the next file's upload, and if no file
     /// is left either, puts the set.
     Opening,
@@ -45,7 +45,7 @@ pub struct Staging {
     pub checks: CheckAbsent,
     pub set: PendingSet,
     pub place: usize,
-    pub stage: Stage,
+    pub stage: StagingStage,
     pub end: Option<TaskEnd>,
 }
 
@@ -164,7 +164,7 @@ fn behind_at(plan: &TaskPlan, place: usize, sent: u64) -> (WriteStage, u64)
 impl Staging {
     /// Returns the next request at the stage `Opening`.
     fn open_request(&self, alloc: Global, plan: &TaskPlan) -> Asked
-        requires { IsAt plan.now self.now Stage.Opening }
+        requires { IsAt plan.now self.now StagingStage.Opening }
         ensures { IfOk result (λ request. request ≡ task_commit_wants (seen plan.now self.now)) }
     {
         if !self.checks.is_over() {
@@ -178,7 +178,7 @@ impl Staging {
 
     /// Returns the next request while a file is uploaded.
     fn part_request(&self, alloc: Global, plan: &TaskPlan, sent: u64) -> Asked
-        requires { IsAt plan.now self.now (Stage.Sending sent) }
+        requires { IsAt plan.now self.now (StagingStage.Sending sent) }
         ensures { IfOk result (λ request. request ≡ task_commit_wants (seen plan.now self.now)) }
     {
         match part_request(alloc, plan, self.place, sent) {
@@ -189,7 +189,7 @@ impl Staging {
 
     /// Returns the next request after the set was put.
     fn rename_request(&self, alloc: Global, plan: &TaskPlan) -> Asked
-        requires { IsAt plan.now self.now Stage.Renaming }
+        requires { IsAt plan.now self.now StagingStage.Renaming }
         ensures { IfOk result (λ request. request ≡ task_commit_wants (seen plan.now self.now)) }
     {
         match rename_request(alloc, plan) {
@@ -200,7 +200,7 @@ impl Staging {
 
     /// Takes the reply to the check of a partition.
     fn hear_check(&mut self, alloc: Global, plan: &TaskPlan, reply: &Reply) -> Asked
-        requires at { IsAt plan.now self.old Stage.Opening }
+        requires at { IsAt plan.now self.old StagingStage.Opening }
         requires some { is_none self.old.checks ≡ false }
         ensures { Heard plan.now plan.now self.old self.new reply.now result }
     {
@@ -215,7 +215,7 @@ impl Staging {
 
     /// Takes the reply to the creation of the next file's upload.
     fn hear_upload(&mut self, alloc: Global, plan: &mut TaskPlan, reply: &Reply) -> Asked
-        requires at { IsAt plan.old self.old Stage.Opening }
+        requires at { IsAt plan.old self.old StagingStage.Opening }
         requires none { is_none self.old.checks ≡ true }
         requires within { self.old.place < length plan.old.files }
         requires fits { commit_fits (seen plan.old self.old) reply.now false }
@@ -227,7 +227,7 @@ impl Staging {
         };
         match begin_upload(alloc, plan, self.place, upload) {
             Ok(asked) => {
-                self.stage = Stage::Sending(0);
+                self.stage = StagingStage::Sending(0);
                 Ok(Some(asked))
             }
             Err(error) => Err(error),
@@ -236,7 +236,7 @@ impl Staging {
 
     /// Takes the reply to the put of the set.
     fn hear_stored(&mut self, alloc: Global, plan: &mut TaskPlan, reply: &Reply) -> Asked
-        requires at { IsAt plan.old self.old Stage.Opening }
+        requires at { IsAt plan.old self.old StagingStage.Opening }
         requires none { is_none self.old.checks ≡ true }
         requires behind { length plan.old.files ≤ self.old.place }
         ensures { Heard plan.old plan.new self.old self.new reply.now result }
@@ -245,7 +245,7 @@ impl Staging {
         match rename_request(alloc, plan) {
             Ok(asked) => {
                 tell_put(plan);
-                self.stage = Stage::Renaming;
+                self.stage = StagingStage::Renaming;
                 Ok(Some(asked))
             }
             Err(error) => Err(error),
@@ -260,7 +260,7 @@ impl Staging {
         sent: u64,
         part: &DrawnPart,
     ) -> Asked
-        requires at { IsAt plan.old self.old (Stage.Sending sent) }
+        requires at { IsAt plan.old self.old (StagingStage.Sending sent) }
         requires more { sent + 1 < length (parts_in plan.old (get_or plan.old.files self.old.place ([], []))) }
         requires part { CameBack plan.old self.old.place sent part.now }
         ensures { Heard plan.old plan.new self.old self.new (Part part.now.tag) result }
@@ -269,7 +269,7 @@ impl Staging {
         let asked = part_request(alloc, plan, self.place, sent + 1)?;
         match note_part(plan, asked, part.tag, part.size) {
             Ok(asked) => {
-                self.stage = Stage::Sending(sent + 1);
+                self.stage = StagingStage::Sending(sent + 1);
                 Ok(Some(asked))
             }
             Err(error) => Err(error),
@@ -278,7 +278,7 @@ impl Staging {
 
     /// Notes the last part of a file.
     fn close(&mut self, alloc: Global, plan: &mut TaskPlan, sent: u64, part: &DrawnPart) -> Asked
-        requires at { IsAt plan.old self.old (Stage.Sending sent) }
+        requires at { IsAt plan.old self.old (StagingStage.Sending sent) }
         requires last { length (parts_in plan.old (get_or plan.old.files self.old.place ([], []))) ≤ sent + 1 }
         requires part { CameBack plan.old self.old.place sent part.now }
         ensures { Heard plan.old plan.new self.old self.new (Part part.now.tag) result }
@@ -290,7 +290,7 @@ impl Staging {
         match note_part(plan, asked, part.tag, part.size) {
             Ok(asked) => {
                 self.place = place;
-                self.stage = Stage::Opening;
+                self.stage = StagingStage::Opening;
                 Ok(Some(asked))
             }
             Err(error) => Err(error),
@@ -299,7 +299,7 @@ impl Staging {
 
     /// Notes an acknowledged part.
     fn add_part(&mut self, alloc: Global, plan: &mut TaskPlan, sent: u64, tag: Tag) -> Asked
-        requires at { IsAt plan.old self.old (Stage.Sending sent) }
+        requires at { IsAt plan.old self.old (StagingStage.Sending sent) }
         requires plain { is_plain_tag tag ≡ true }
         ensures { Heard plan.old plan.new self.old self.new (Part tag) result }
     {
@@ -313,7 +313,7 @@ impl Staging {
 
     /// Takes the reply to the send of a part.
     fn hear_part(&mut self, alloc: Global, plan: &mut TaskPlan, sent: u64, reply: &Reply) -> Asked
-        requires at { IsAt plan.old self.old (Stage.Sending sent) }
+        requires at { IsAt plan.old self.old (StagingStage.Sending sent) }
         requires fits { commit_fits (seen plan.old self.old) reply.now false }
         ensures { Heard plan.old plan.new self.old self.new reply.now result }
     {
@@ -335,7 +335,7 @@ impl Staging {
         reply: &Reply,
         repeated: bool,
     ) -> Asked
-        requires { IsAt plan.old self.old Stage.Renaming }
+        requires { IsAt plan.old self.old StagingStage.Renaming }
         ensures keeps { OnOk result (Keeps plan.new self.new) }
         ensures told { OnOk result (seen plan.new self.new ≡ task_commit_told (seen plan.old self.old)
             (Got reply.now repeated)) }
@@ -350,7 +350,7 @@ impl Staging {
 
     /// Takes the reply to a request of the stage `Opening`.
     fn hear_opening(&mut self, alloc: Global, plan: &mut TaskPlan, reply: &Reply) -> Asked
-        requires at { IsAt plan.old self.old Stage.Opening }
+        requires at { IsAt plan.old self.old StagingStage.Opening }
         requires fits { commit_fits (seen plan.old self.old) reply.now false }
         ensures { Heard plan.old plan.new self.old self.new reply.now result }
     {
@@ -378,9 +378,9 @@ impl Staging {
             return Ok(None);
         };
         match self.stage {
-            Stage::Opening => self.hear_opening(alloc, plan, reply),
-            Stage::Sending(sent) => self.hear_part(alloc, plan, sent, reply),
-            Stage::Renaming => self.hear_rename(alloc, plan, reply, repeated),
+            StagingStage::Opening => self.hear_opening(alloc, plan, reply),
+            StagingStage::Sending(sent) => self.hear_part(alloc, plan, sent, reply),
+            StagingStage::Renaming => self.hear_rename(alloc, plan, reply, repeated),
         }
     }
 
@@ -396,7 +396,7 @@ impl Staging {
 
     /// Notes in the plan the request that was sent at the stage `Opening`. Takes no memory.
     fn tell_opening(&self, plan: &mut TaskPlan)
-        requires { IsAt plan.old self.now Stage.Opening }
+        requires { IsAt plan.old self.now StagingStage.Opening }
         ensures { plan.new ≡ with_known plan.old (worn_known (commit_of plan.old self.now) plan.old.known) }
     {
         if !self.stores(plan) {
@@ -414,14 +414,14 @@ impl Staging {
             return;
         };
         match self.stage {
-            Stage::Opening => self.tell_opening(plan),
-            Stage::Sending(_) => {}
-            Stage::Renaming => tell_rename(plan),
+            StagingStage::Opening => self.tell_opening(plan),
+            StagingStage::Sending(_) => {}
+            StagingStage::Renaming => tell_rename(plan),
         }
     }
 }
 
-impl Holds<TheCommit> for Staging {
+impl TaskState<TheCommit> for Staging {
     ghost goes_by = { λ plan. plan.job.committer ≡ Magic → ⊥ };
 
     ghost keeps = { Keeps };
@@ -440,7 +440,7 @@ impl Holds<TheCommit> for Staging {
             checks: CheckAbsent::new(partitions),
             set,
             place: 0,
-            stage: Stage::Opening,
+            stage: StagingStage::Opening,
             end: None,
         })
     }
@@ -450,9 +450,9 @@ impl Holds<TheCommit> for Staging {
             return Ok(None);
         };
         match self.stage {
-            Stage::Opening => self.open_request(alloc, plan),
-            Stage::Sending(sent) => self.part_request(alloc, plan, sent),
-            Stage::Renaming => self.rename_request(alloc, plan),
+            StagingStage::Opening => self.open_request(alloc, plan),
+            StagingStage::Sending(sent) => self.part_request(alloc, plan, sent),
+            StagingStage::Renaming => self.rename_request(alloc, plan),
         }
     }
 

@@ -11,7 +11,7 @@ use job_model::{TaskEnd, TaskPlan};
 use machine::Asked;
 use s3_types::{Reply, Request, put};
 use std::alloc::{AllocError, Global};
-use task_machines::{Holds, TaskMachine, TheAbort};
+use task_operation::{TaskMachine, TaskState, TheAbort};
 use task_requests::{abort_request, bucket_of, made};
 
 /// An abort in progress: how many uploads it has aborted, and how it ended.
@@ -82,7 +82,7 @@ impl Undoing {
     }
 }
 
-impl Holds<TheAbort> for Undoing {
+impl TaskState<TheAbort> for Undoing {
     ghost goes_by = { λ plan. plan.job.committer ≡ Magic → ⊥ };
 
     ghost keeps = { λ plan _. plan.job.committer ≡ Magic → ⊥ };

@@ -6,7 +6,7 @@ use machine::Asked;
 use s3_types::{Reply, put};
 use std::alloc::{AllocError, Global};
 use std::marker::Model;
-use task_machines::{Holds, TaskMachine, TheWrite};
+use task_operation::{TaskMachine, TaskState, TheWrite};
 
 /// A write whose files stay where the plan has them, and how it ended.
 #[derive(Drop)]
@@ -26,7 +26,7 @@ impl Model for Keeping {
 /// (Hadoop, S3A committer architecture: the staging committers write local files.)
 pub type WriteFiles = TaskMachine<TheWrite, Keeping>;
 
-impl Holds<TheWrite> for Keeping {
+impl TaskState<TheWrite> for Keeping {
     ghost goes_by = { λ plan. plan.job.committer ≡ Magic → ⊥ };
 
     ghost keeps = { λ _ _. ⊤ };

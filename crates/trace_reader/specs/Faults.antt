@@ -1,6 +1,6 @@
 -- The result of a call, compared with what reading a line defines.
 use Rattle.std.specs.Prelude.{Bool, true, false, Result}
-use Rattle.basics.specs.Reading as reading
+use Rattle.text_and_lists.specs.Reading as reading
 use Rattle.trace_reader.specs.declared.fault.TraceFault.{TraceFault}
 use Rattle.trace_reader.specs.declared.fault.TraceFault.TheVariants.{NoMemory}
 

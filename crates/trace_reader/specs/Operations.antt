@@ -4,7 +4,7 @@ use Rattle.std.specs.List.{list_any}
 use Rattle.std.specs.Str.{bytes_eq}
 use Rattle.trace_reader.specs.declared.operation.Operation.{Operation}
 use Rattle.trace_reader.specs.declared.operation.Operation.TheVariants as op
-use Rattle.trace_reader.specs.declared.stage.Stage.{Stage}
+use Rattle.trace_reader.specs.declared.stage.TraceStage.{TraceStage}
 
 -- The names of the operations that change no object's bytes: requests, in the words of the Amazon S3 API Reference and of the cluster's
 -- file system; other requests that a recording may have; and the lines of a trace that are about no request.
@@ -42,7 +42,7 @@ abbrev pub operation_of : List ℕ → Option Operation
 operation_of name = found_in named name
 
 -- A line of this operation may come at this stage.
-abbrev pub may_come : Stage → Operation → Bool
+abbrev pub may_come : TraceStage → Operation → Bool
 may_come stage op.Job = is_none stage.tasks
 may_come stage op.Attempt = is_some stage.tasks && not stage.running
 may_come stage op.File = is_some stage.tasks && (stage.attempted && not stage.running)

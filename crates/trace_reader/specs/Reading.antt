@@ -3,8 +3,8 @@ use Rattle.std.specs.Prelude.{ℕ, ◌&&◌, nat_lt, nat_le, List, [], ◌∷◌
 use Rattle.std.specs.Prelude.{codes, option_and_then, cond}
 use Rattle.std.specs.List.{list_all}
 use Rattle.std.specs.Str.{bytes_eq, is_utf8}
-use Rattle.basics.specs.Parts.{parts_of}
-use Rattle.basics.specs.Reading.{check, need, ◌>>=◌}
+use Rattle.text_and_lists.specs.Parts.{parts_of}
+use Rattle.text_and_lists.specs.Reading.{check, need, ◌>>=◌}
 use Rattle.serde_json.specs.Data.{Data}
 use Rattle.serde_json.specs.Find.{as_array, as_bool, as_object, as_str, get}
 use Rattle.serde_json.specs.Read as json
@@ -22,7 +22,7 @@ use Rattle.trace_reader.specs.declared.line.TraceLine.{TraceLine}
 use Rattle.trace_reader.specs.declared.line.TraceLine.TheVariants as line
 use Rattle.trace_reader.specs.declared.operation.Operation.{Operation}
 use Rattle.trace_reader.specs.declared.operation.Operation.TheVariants as op
-use Rattle.trace_reader.specs.declared.stage.Stage.{Stage}
+use Rattle.trace_reader.specs.declared.stage.TraceStage.{TraceStage}
 use Rattle.trace_reader.specs.Operations.{may_come, operation_of}
 
 -- The most bytes of a line, without its line feed.
@@ -201,7 +201,7 @@ abbrev pub tree_of : List ℕ → Option Data
 tree_of bytes = cond (is_utf8 bytes) (json.read bytes) None
 
 -- The operation of a line, which may come at this stage.
-abbrev pub turn_in : Stage → Data → Result Operation TraceFault
+abbrev pub turn_in : TraceStage → Data → Result Operation TraceFault
 turn_in stage d = do
   members ← need (as_object d) NotJson
   name ← member as_str field.Op d
@@ -210,11 +210,11 @@ turn_in stage d = do
   Ok operation
 
 -- The contents of a JSON tree at this stage of its trace.
-abbrev pub line_in : Stage → Data → Result TraceLine TraceFault
+abbrev pub line_in : TraceStage → Data → Result TraceLine TraceFault
 line_in stage d = turn_in stage d >>= λ operation. said_by stage.tasks operation d
 
 -- The contents of a line, without its line feed, at this stage of its trace.
-unfoldable pub line_of : Stage → List ℕ → Result TraceLine TraceFault
+unfoldable pub line_of : TraceStage → List ℕ → Result TraceLine TraceFault
 line_of stage bytes = do
   fits ← check (nat_le (length bytes) MOST_BYTES) TooLong
   d ← need (tree_of bytes) NotJson

@@ -1,5 +1,5 @@
 ghost use Rattle.std.specs.Prelude.{◌≡◌};
-ghost use Rattle.basics.specs.Reading.{need};
+ghost use Rattle.text_and_lists.specs.Reading.{need};
 ghost use Rattle.serde_json.specs.Find.{as_bool, as_str, get};
 ghost use Rattle.serde_json.specs.View.{view};
 ghost use Rattle.pending_json.specs.Fields.{as_u32};

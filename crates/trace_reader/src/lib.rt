@@ -5,7 +5,7 @@
 //!
 //! - `read_line` returns the contents of the line, or the line's first fault, as `line_of` defines
 //!   it (`Reading.antt`). It may return NoMemory instead of either.
-//! - `Field::name`, `Stage::may_come` and `is_visible` are `name_of` (`Reading.antt`), `may_come`
+//! - `Field::name`, `TraceStage::may_come` and `is_visible` are `name_of` (`Reading.antt`), `may_come`
 //!   (`Operations.antt`), and `is_visible` of `soundness`.
 //!
 //! Left open: that NoMemory comes only if memory runs out.
@@ -30,4 +30,4 @@ pub use line::TraceLine;
 pub use operation::Operation;
 pub use paths::is_visible;
 pub use reading::{MOST_BYTES, read_line};
-pub use stage::Stage;
+pub use stage::TraceStage;

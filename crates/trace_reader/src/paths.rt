@@ -1,10 +1,10 @@
 ghost use Rattle.std.specs.Prelude.{◌≡◌};
 ghost use Rattle.std.specs.List.{list_all};
-ghost use Rattle.basics.specs.Parts.{parts_of};
+ghost use Rattle.text_and_lists.specs.Parts.{parts_of};
 ghost use Rattle.soundness.specs.Paths.{hides, is_visible};
 ghost use Rattle.trace_reader.specs.Reading.{is_file_path, is_some_text};
 
-use basics::next_part;
+use text_and_lists::next_part;
 
 fn hides(b: u8) -> bool
     ensures { result ≡ hides b }

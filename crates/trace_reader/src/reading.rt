@@ -1,5 +1,5 @@
 ghost use Rattle.std.specs.Prelude.{◌≡◌};
-ghost use Rattle.basics.specs.Reading.{need};
+ghost use Rattle.text_and_lists.specs.Reading.{need};
 ghost use Rattle.serde_json.specs.View.{view};
 ghost use Rattle.trace_reader.specs.declared.fault.TraceFault.TheVariants.{NotJson};
 ghost use Rattle.trace_reader.specs.Faults.{Gives, GivesBy};
@@ -11,7 +11,7 @@ use crate::fault::{Field, TraceFault};
 use crate::fields::str_member;
 use crate::line::TraceLine;
 use crate::operation::{Operation, operation_of};
-use crate::stage::Stage;
+use crate::stage::TraceStage;
 use s3_types::let_go;
 use serde_json::Value;
 use std::alloc::Global;
@@ -60,7 +60,7 @@ fn said_by(
 }
 
 /// Returns the operation of a line that may come at this stage, or the line's fault.
-fn turn_in(stage: Stage, value: &Value) -> Result<Operation, TraceFault>
+fn turn_in(stage: TraceStage, value: &Value) -> Result<Operation, TraceFault>
     ensures { Gives result (turn_in stage (view value.now)) }
 {
     if value.as_object().is_none() {
@@ -78,7 +78,7 @@ fn turn_in(stage: Stage, value: &Value) -> Result<Operation, TraceFault>
 }
 
 /// Reads a tree at this stage, or returns its first fault.
-fn line_in(alloc: Global, stage: Stage, value: &Value) -> Result<TraceLine, TraceFault>
+fn line_in(alloc: Global, stage: TraceStage, value: &Value) -> Result<TraceLine, TraceFault>
     ensures { Gives result (line_in stage (view value.now)) }
 {
     let operation = turn_in(stage, value)?;
@@ -89,7 +89,7 @@ fn line_in(alloc: Global, stage: Stage, value: &Value) -> Result<TraceLine, Trac
 /// fault, returns the first one in the order in which `TraceFault` lists them, unless memory runs
 /// out.
 #[tactic(auto, unfolding(crate::specs::Reading::line_of))]
-pub fn read_line(alloc: Global, stage: Stage, line: &[u8]) -> Result<TraceLine, TraceFault>
+pub fn read_line(alloc: Global, stage: TraceStage, line: &[u8]) -> Result<TraceLine, TraceFault>
     // The result is the line's contents, or its first fault, unless memory ran out.
     ensures { Gives result (line_of stage line.now) }
 {

@@ -5,7 +5,7 @@ use crate::operation::Operation;
 
 /// How far a trace has come: the facts that decide which lines may follow.
 #[derive(Clone, Copy, PartialEq, Eq, Debug)]
-pub struct Stage {
+pub struct TraceStage {
     /// How many tasks the job has, once its line has come.
     pub tasks: Option<u32>,
     /// Whether an attempt's line has come.
@@ -15,7 +15,7 @@ pub struct Stage {
     pub running: bool,
 }
 
-impl Stage {
+impl TraceStage {
     /// Returns whether a line of this operation may come next.
     pub fn may_come(self, operation: Operation) -> bool
         ensures { result ≡ may_come self operation }

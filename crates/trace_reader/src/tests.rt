@@ -1,36 +1,36 @@
 //! Reads lines of traces that were written by hand: each fault with lines that show it, and lines
 //! of each kind.
-use crate::{Field, Stage, TraceFault, TraceLine, read_line};
+use crate::{Field, TraceFault, TraceLine, TraceStage, read_line};
 use path_keys::S3Path;
 use s3_types::{Text, let_go};
 use soundness::Keeps;
 use std::alloc::{AllocError, Global};
 
-const START: Stage = Stage {
+const START: TraceStage = TraceStage {
     tasks: None,
     attempted: false,
     running: false,
 };
 
-const WITH_JOB: Stage = Stage {
+const WITH_JOB: TraceStage = TraceStage {
     tasks: Some(1),
     attempted: false,
     running: false,
 };
 
-const WITH_ATTEMPT: Stage = Stage {
+const WITH_ATTEMPT: TraceStage = TraceStage {
     tasks: Some(1),
     attempted: true,
     running: false,
 };
 
-const RUNNING: Stage = Stage {
+const RUNNING: TraceStage = TraceStage {
     tasks: Some(1),
     attempted: true,
     running: true,
 };
 
-const FAULTY: [(Stage, TraceFault, &str); 51] = [
+const FAULTY: [(TraceStage, TraceFault, &str); 51] = [
     (START, TraceFault::NotJson, ""),
     (START, TraceFault::NotJson, "{"),
     (START, TraceFault::NotJson, "[]"),
@@ -236,7 +236,7 @@ const FAULTY: [(Stage, TraceFault, &str); 51] = [
     ),
 ];
 
-const GOOD: [(Stage, &str, &str); 14] = [
+const GOOD: [(TraceStage, &str, &str); 14] = [
     (
         START,
         r#"{"committer":"magic","dest":"s3a://lake/out/","job":"j1","keeps":"partitions","mode":"append","op":"Job","tasks":4294967295}"#,
@@ -301,7 +301,7 @@ const GOOD: [(Stage, &str, &str); 14] = [
     (RUNNING, r#"{"op":"ListObjectsV2"}"#, "still"),
 ];
 
-fn fault_of(alloc: Global, stage: Stage, line: &[u8]) -> Option<TraceFault> {
+fn fault_of(alloc: Global, stage: TraceStage, line: &[u8]) -> Option<TraceFault> {
     match read_line(alloc, stage, line) {
         Ok(said) => {
             let_go(said);
@@ -397,7 +397,12 @@ fn tell_line(text: &mut String, line: &TraceLine) -> Result<(), AllocError> {
 }
 
 /// Adds the contents of a line, or its fault.
-fn tell_read(alloc: Global, text: &mut String, stage: Stage, line: &str) -> Result<(), AllocError> {
+fn tell_read(
+    alloc: Global,
+    text: &mut String,
+    stage: TraceStage,
+    line: &str,
+) -> Result<(), AllocError> {
     match read_line(alloc, stage, line.as_bytes()) {
         Ok(said) => {
             let written = tell_line(text, &said);

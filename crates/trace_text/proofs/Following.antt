@@ -1,5 +1,5 @@
 -- One more send of a run is written.
-use Rattle.basics.proofs.Naturals.{below_so, not_below}
+use Rattle.text_and_lists.proofs.Naturals.{below_so, not_below}
 use Rattle.s3_types.specs.Answer.{answer}
 use Rattle.s3_types.specs.Moment.{AreHonest, IsHonestOutcome, after_all, effect, moment}
 use Rattle.s3_types.specs.Store.{Content, Scene, opening}

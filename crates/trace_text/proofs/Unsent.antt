@@ -1,7 +1,7 @@
 -- How many sends with a planned fate have numbers above another.
-use Rattle.basics.proofs.EntriesFrom.{AreAbove, entries_from, entry_from, from_on, no_entry_from}
-use Rattle.basics.proofs.Naturals.{below_so, less_is, not_below}
-use Rattle.basics.proofs.Tree.{map_sorted}
+use Rattle.text_and_lists.proofs.EntriesFrom.{AreAbove, entries_from, entry_from, from_on, no_entry_from}
+use Rattle.text_and_lists.proofs.Naturals.{below_so, less_is, not_below}
+use Rattle.text_and_lists.proofs.Tree.{map_sorted}
 use Rattle.s3_types.specs.Fates.{FateMap, IsFirstFrom}
 use Rattle.s3_types.specs.declared.fates.Fate.{Fate}
 use Rattle.std.proofs.Common.{Bool, List, None, Some, ap, arith, cond, inl, inr, length, nat_lt, refl, ℕ, [], ◌+◌, ◌<◌, ◌∷◌, ◌≡◌, ◌≤◌, ◌⊎◌}

@@ -1,5 +1,5 @@
 -- Texts that are written one after another.
-use Rattle.basics.specs.Order.{text_eq}
+use Rattle.text_and_lists.specs.Order.{text_eq}
 use Rattle.job_model.specs.declared.ends.EventEnd.{EventEnd}
 use Rattle.job_model.specs.declared.events.Event.{Event}
 use Rattle.path_keys.specs.Paths.{Path, below}

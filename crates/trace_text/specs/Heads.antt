@@ -3,7 +3,7 @@ use Rattle.std.specs.Prelude.{ℕ, List, [], ◌∷◌, ◌++◌, codes, cond, m
 use Rattle.std.specs.List.{filter, flat_map}
 use Rattle.std.specs.FinMap as fin
 use Rattle.serde_json.specs.Data.{string}
-use Rattle.basics.specs.Order.{text_eq}
+use Rattle.text_and_lists.specs.Order.{text_eq}
 use Rattle.s3_types.specs.Pages.{begins}
 use Rattle.s3_types.specs.Store.{BucketContent, Content}
 use Rattle.s3_types.specs.Tags.{Spelled, plain_tag}

@@ -1,10 +1,10 @@
 -- A request that names only what is one job's own is a stranger's to the other job.
-use Rattle.basics.proofs.Cuts.{cut_once}
-use Rattle.basics.proofs.Members.{false_true}
-use Rattle.basics.specs.Members.{IsIn}
-use Rattle.job_facts.proofs.JobCommitting.{no_magic}
-use Rattle.job_facts.specs.Foreign.{IsForeign}
-use Rattle.job_facts.specs.Stores.{IsKnown}
+use Rattle.text_and_lists.proofs.Cuts.{cut_once}
+use Rattle.text_and_lists.proofs.Members.{false_true}
+use Rattle.text_and_lists.specs.Members.{IsIn}
+use Rattle.job_invariant.proofs.JobCommitting.{no_magic}
+use Rattle.job_invariant.specs.Foreign.{IsForeign}
+use Rattle.job_invariant.specs.Stores.{IsKnown}
 use Rattle.job_model.specs.Attempts.{Who}
 use Rattle.job_model.specs.JobScript.{Script}
 use Rattle.job_model.specs.Known.{Drawn}
@@ -20,7 +20,7 @@ use Rattle.std.proofs.Common.{Bool, List, Some, ap, append_assoc, arith, codes, 
 use Rattle.std.proofs.Common.{◌≡◌}
 use Rattle.std.proofs.lemmas.List.{append_cancel_left}
 use Rattle.store_frame.specs.Frame.{changed_keys, changed_paths, changed_upload}
-use Rattle.twin_facts.specs.Laws.{AreTwins}
+use Rattle.twin_facts.specs.Strangers.{AreTwins}
 use Rattle.twin_facts.specs.Names.{Ids, IsStranger, NamesOwn, named_keys, named_paths, named_upload}
 
 -- ---- directories of two jobs

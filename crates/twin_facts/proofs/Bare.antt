@@ -1,16 +1,16 @@
 -- A side whose bucket does not exist makes none and puts no marker, and readers see nothing.
-use Rattle.basics.proofs.Members.{none_some, some_is}
-use Rattle.job_facts.proofs.Sharing.{setup_plain}
+use Rattle.text_and_lists.proofs.Members.{none_some, some_is}
+use Rattle.job_invariant.proofs.Sharing.{setup_plain}
 use Rattle.job_model.specs.JobScript.{Script}
 use Rattle.job_model.specs.Legal.{IsLegal}
 use Rattle.job_protocol.specs.Operations.{Setting, TheSetup, asks, who}
 use Rattle.job_protocol.specs.Seen.{Times, is_marking}
 use Rattle.job_protocol.specs.Setup.{Checking, Clearing, Heading, Setup, SetupOver, Sweeping, dest_prefix, setup_asks}
 use Rattle.job_protocol.specs.View.{is_file_path, object_in, view}
-use Rattle.job_traces.proofs.Entries.{late_now}
-use Rattle.job_traces.proofs.EveryRun.{good}
-use Rattle.job_traces.proofs.Running.{Early, Late}
-use Rattle.job_traces.specs.Runs.{IsOpening, Runs, Stand, nothing_learnt}
+use Rattle.protocol_runs.proofs.Entries.{late_now}
+use Rattle.protocol_runs.proofs.EveryRun.{good}
+use Rattle.protocol_runs.proofs.Running.{Early, Late}
+use Rattle.protocol_runs.specs.Runs.{IsOpening, Runs, Stand, nothing_learnt}
 use Rattle.list_walk.specs.Walks.{Deleting, Listing, Sweep, last_of, page_after, sweep_asks}
 use Rattle.magic_paths.specs.Layout.{magic_prefix, success_key}
 use Rattle.path_keys.specs.Paths.{Path, below}

@@ -1,10 +1,10 @@
 -- What the joint journal says of each side by events, and so what readers see at each moment.
-use Rattle.job_facts.specs.Told.{nothing_told, tell_all}
+use Rattle.job_invariant.specs.Told.{nothing_told, tell_all}
 use Rattle.job_protocol.specs.Operations.{Setting}
 use Rattle.job_protocol.specs.Seen.{Seen, Times}
-use Rattle.job_traces.proofs.Entries.{sees, tells_so}
-use Rattle.job_traces.proofs.EveryRun.{cleans_is}
-use Rattle.job_traces.specs.Runs.{Stand}
+use Rattle.protocol_runs.proofs.Entries.{sees, tells_so}
+use Rattle.protocol_runs.proofs.EveryRun.{cleans_is}
+use Rattle.protocol_runs.specs.Runs.{Stand}
 use Rattle.s3_types.specs.Store.{Content}
 use Rattle.std.proofs.Common.{List, ap, length, subst, take, ℕ, ◌∙◌, ◌≤◌}
 use Rattle.twin_facts.proofs.TwinRuns.{all_so, moments, opens_first, opens_second, twins_keep}

@@ -1,26 +1,26 @@
 -- What one request changes at the paths where files are shown.
-use Rattle.basics.proofs.Members.{same_or_other, some_is, true_or_false}
-use Rattle.basics.specs.Members.{IsIn}
-use Rattle.job_facts.proofs.Agreeing.{Agrees, decided_so, picks_apart, prefix_unkept}
-use Rattle.job_facts.proofs.Effects.{abort_keys, completes_file, completes_nothing, deletion_key, deletion_other, other_key}
-use Rattle.job_facts.proofs.FilingLaws.{stranger_same}
-use Rattle.job_facts.proofs.Going.{effect_so}
-use Rattle.job_facts.proofs.Held.{nth_of, of_sets, task_low}
-use Rattle.job_facts.proofs.Owning.{operation_own}
-use Rattle.job_facts.proofs.Placed.{one_key}
-use Rattle.job_facts.proofs.SettingUp.{no_success, setup_alone}
-use Rattle.job_facts.proofs.Sharing.{check_reads, reads_leave, sparing_hides}
-use Rattle.job_facts.proofs.Shows.{shown_key}
-use Rattle.job_facts.proofs.Wanted.{wanted_here}
-use Rattle.job_facts.proofs.Whose.{attempt}
-use Rattle.job_facts.specs.Driver.{SweepsUnder}
-use Rattle.job_facts.specs.Facts.{Hold, IsAttempt}
-use Rattle.job_facts.specs.Filed.{Gone, IsCommit}
-use Rattle.job_facts.specs.FiledLaws.{Commits}
-use Rattle.job_facts.specs.Fits.{Fits}
-use Rattle.job_facts.specs.Spares.{FitsSparing}
-use Rattle.job_facts.specs.Stores.{at_key}
-use Rattle.job_facts.specs.Told.{Told, known}
+use Rattle.text_and_lists.proofs.Members.{same_or_other, some_is, true_or_false}
+use Rattle.text_and_lists.specs.Members.{IsIn}
+use Rattle.job_invariant.proofs.Agreeing.{Agrees, decided_so, picks_apart, prefix_unkept}
+use Rattle.job_invariant.proofs.Effects.{abort_keys, completes_file, completes_nothing, deletion_key, deletion_other, other_key}
+use Rattle.job_invariant.proofs.FilingLaws.{stranger_same}
+use Rattle.job_invariant.proofs.Going.{effect_so}
+use Rattle.job_invariant.proofs.Held.{nth_of, of_sets, task_low}
+use Rattle.job_invariant.proofs.Owning.{operation_own}
+use Rattle.job_invariant.proofs.Placed.{one_key}
+use Rattle.job_invariant.proofs.SettingUp.{no_success, setup_alone}
+use Rattle.job_invariant.proofs.Sharing.{check_reads, reads_leave, sparing_hides}
+use Rattle.job_invariant.proofs.Shows.{shown_key}
+use Rattle.job_invariant.proofs.Wanted.{wanted_here}
+use Rattle.job_invariant.proofs.Whose.{attempt}
+use Rattle.job_invariant.specs.Driver.{SweepsUnder}
+use Rattle.job_invariant.specs.Facts.{Hold, IsAttempt}
+use Rattle.job_invariant.specs.Filed.{Gone, IsCommit}
+use Rattle.job_invariant.specs.FiledLaws.{Commits}
+use Rattle.job_invariant.specs.Fits.{Fits}
+use Rattle.job_invariant.specs.Spares.{FitsSparing}
+use Rattle.job_invariant.specs.Stores.{at_key}
+use Rattle.job_invariant.specs.Told.{Told, known}
 use Rattle.job_model.specs.Attempts.{Who}
 use Rattle.job_model.specs.JobScript.{Script}
 use Rattle.job_model.specs.Legal.{IsLegal}
@@ -33,8 +33,8 @@ use Rattle.job_protocol.specs.Rechecks.{Check, check_asks}
 use Rattle.job_protocol.specs.Seen.{Seen}
 use Rattle.job_protocol.specs.Sparing.{Sparing, sparing_asks}
 use Rattle.job_protocol.specs.View.{is_file_path}
-use Rattle.job_traces.proofs.Replacing.{keeps_same, taken_after}
-use Rattle.job_traces.proofs.Steps.{hidden_same}
+use Rattle.protocol_runs.proofs.Replacing.{keeps_same, taken_after}
+use Rattle.protocol_runs.proofs.Steps.{hidden_same}
 use Rattle.path_keys.specs.Paths.{below}
 use Rattle.pending_json.specs.Pending.{Pending}
 use Rattle.s3_types.specs.Answer.{apply}

@@ -1,12 +1,12 @@
 -- Two runs over one journal, each as its side reads it, are one run of both.
-use Rattle.basics.proofs.Members.{false_true}
-use Rattle.job_facts.specs.Foreign.{IsForeign}
-use Rattle.job_facts.specs.Told.{driver_entry, entry, strange_entry}
+use Rattle.text_and_lists.proofs.Members.{false_true}
+use Rattle.job_invariant.specs.Foreign.{IsForeign}
+use Rattle.job_invariant.specs.Told.{driver_entry, entry, strange_entry}
 use Rattle.job_protocol.specs.Operations.{Setting}
 use Rattle.job_protocol.specs.Seen.{Times}
 use Rattle.job_spec.specs.Turns.{is_own}
-use Rattle.job_traces.specs.Runs.{Beginning, MayBegin, Runs, Stand, actor_begins, attempt_sends, begin, driver_sends, first_stand}
-use Rattle.job_traces.specs.Runs.{run_begins, saw, strays}
+use Rattle.protocol_runs.specs.Runs.{Beginning, MayBegin, Runs, Stand, actor_begins, attempt_sends, begin, driver_sends, first_stand}
+use Rattle.protocol_runs.specs.Runs.{run_begins, saw, strays}
 use Rattle.s3_types.specs.Answer.{answer}
 use Rattle.s3_types.specs.Moment.{IsHonestOutcome}
 use Rattle.s3_types.specs.Store.{Content, Scene}

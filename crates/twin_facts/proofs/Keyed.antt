@@ -1,13 +1,13 @@
 -- An upload that an attempt knows has its key as long as it lives.
-use Rattle.basics.proofs.Members.{some_is}
-use Rattle.basics.specs.Members.{IsIn}
-use Rattle.job_facts.proofs.FoundKeys.{keys_stay}
-use Rattle.job_facts.proofs.Learning.{drawn_is_next, known_before}
-use Rattle.job_facts.proofs.Shapes.{draws}
-use Rattle.job_facts.specs.Filed.{HasItsKey}
-use Rattle.job_facts.specs.Fits.{Fits}
-use Rattle.job_facts.specs.Stores.{at_id}
-use Rattle.job_facts.specs.Told.{Told, known, tell_attempt}
+use Rattle.text_and_lists.proofs.Members.{some_is}
+use Rattle.text_and_lists.specs.Members.{IsIn}
+use Rattle.job_invariant.proofs.FoundKeys.{keys_stay}
+use Rattle.job_invariant.proofs.Learning.{drawn_is_next, known_before}
+use Rattle.job_invariant.proofs.Shapes.{draws}
+use Rattle.job_invariant.specs.Filed.{HasItsKey}
+use Rattle.job_invariant.specs.Fits.{Fits}
+use Rattle.job_invariant.specs.Stores.{at_id}
+use Rattle.job_invariant.specs.Told.{Told, known, tell_attempt}
 use Rattle.job_model.specs.Attempts.{Who}
 use Rattle.job_model.specs.JobScript.{Script}
 use Rattle.job_model.specs.Known.{Drawn, Known}
@@ -18,10 +18,10 @@ use Rattle.job_protocol.specs.Seen.{Times}
 use Rattle.job_protocol.specs.TaskAborts.{TaskAbort, task_abort_asks}
 use Rattle.job_protocol.specs.TaskCommits.{TaskCommit, task_commit_asks}
 use Rattle.job_protocol.specs.Writes.{Write, write_asks}
-use Rattle.job_traces.proofs.Entries.{late_now}
-use Rattle.job_traces.proofs.EveryRun.{good}
-use Rattle.job_traces.proofs.Running.{Early, Late}
-use Rattle.job_traces.specs.Runs.{IsOpening, Runs, Stand, actor_begins, attempt_sends, driver_sends, run_begins, strays}
+use Rattle.protocol_runs.proofs.Entries.{late_now}
+use Rattle.protocol_runs.proofs.EveryRun.{good}
+use Rattle.protocol_runs.proofs.Running.{Early, Late}
+use Rattle.protocol_runs.specs.Runs.{IsOpening, Runs, Stand, actor_begins, attempt_sends, driver_sends, run_begins, strays}
 use Rattle.s3_types.specs.Answer.{answer, apply}
 use Rattle.s3_types.specs.Moment.{IsHonestOutcome, effect}
 use Rattle.s3_types.specs.Store.{Content, Scene, Upload}

@@ -1,19 +1,19 @@
 -- What an abort or clean at a shared destination has still to remove, while no attempt of its side sends.
-use Rattle.basics.proofs.Members.{false_true, filter_in, in_back, in_filter, in_front, map_in, none_or_some, none_some, same_or_other}
-use Rattle.basics.proofs.Members.{some_is, text_exact, text_gone, text_left, text_true}
-use Rattle.basics.specs.Members.{IsIn}
-use Rattle.basics.specs.Order.{text_cmp}
-use Rattle.job_facts.proofs.Emptying.{Emptied, sweep_begins, sweep_empties, sweep_same, sweep_still}
-use Rattle.job_facts.proofs.EndedGone.{stays_gone}
-use Rattle.job_facts.proofs.Going.{effect_so, step_so}
-use Rattle.job_facts.proofs.Live.{find_in}
-use Rattle.job_facts.proofs.Shapes.{abort_turns}
-use Rattle.job_facts.specs.Clearing.{FilesIn}
-use Rattle.job_facts.specs.Driver.{AllMagic}
-use Rattle.job_facts.specs.Emptying.{Empties, OnlyThese}
-use Rattle.job_facts.specs.Filed.{HasItsKey}
-use Rattle.job_facts.specs.Spares.{AllKnown, FitsSparing}
-use Rattle.job_facts.specs.Stores.{at_id, at_key}
+use Rattle.text_and_lists.proofs.Members.{false_true, filter_in, in_back, in_filter, in_front, map_in, none_or_some, none_some, same_or_other}
+use Rattle.text_and_lists.proofs.Members.{some_is, text_exact, text_gone, text_left, text_true}
+use Rattle.text_and_lists.specs.Members.{IsIn}
+use Rattle.text_and_lists.specs.Order.{text_cmp}
+use Rattle.job_invariant.proofs.Emptying.{Emptied, sweep_begins, sweep_empties, sweep_same, sweep_still}
+use Rattle.job_invariant.proofs.EndedGone.{stays_gone}
+use Rattle.job_invariant.proofs.Going.{effect_so, step_so}
+use Rattle.job_invariant.proofs.Live.{find_in}
+use Rattle.job_invariant.proofs.Shapes.{abort_turns}
+use Rattle.job_invariant.specs.Clearing.{FilesIn}
+use Rattle.job_invariant.specs.Driver.{AllMagic}
+use Rattle.job_invariant.specs.Emptying.{Empties, OnlyThese}
+use Rattle.job_invariant.specs.Filed.{HasItsKey}
+use Rattle.job_invariant.specs.Spares.{AllKnown, FitsSparing}
+use Rattle.job_invariant.specs.Stores.{at_id, at_key}
 use Rattle.job_model.specs.Attempts.{Who}
 use Rattle.job_model.specs.JobScript.{Script}
 use Rattle.job_model.specs.Known.{Drawn}

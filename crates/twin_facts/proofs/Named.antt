@@ -1,10 +1,10 @@
 -- Over a whole run, what a side sent names nothing of the other's: each upload that it named was drawn by then, and what the other one
 -- draws later is new.
-use Rattle.basics.proofs.Naturals.{above_so}
+use Rattle.text_and_lists.proofs.Naturals.{above_so}
 use Rattle.job_model.specs.JobScript.{Script}
 use Rattle.job_protocol.specs.Operations.{Setting}
 use Rattle.job_protocol.specs.Seen.{Times, nothing_seen}
-use Rattle.job_traces.specs.Runs.{IsOpening, Stand}
+use Rattle.protocol_runs.specs.Runs.{IsOpening, Stand}
 use Rattle.s3_types.specs.Moment.{effect}
 use Rattle.s3_types.specs.Store.{Content, Scene}
 use Rattle.s3_types.specs.declared.journal.Entry.{Entry}

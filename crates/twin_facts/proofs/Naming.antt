@@ -1,21 +1,21 @@
 -- The requests of a job name only what is the job's own or nobody's.
-use Rattle.basics.proofs.Members.{false_true, nat_false, nat_true, some_is}
-use Rattle.basics.specs.Members.{IsIn}
-use Rattle.job_facts.proofs.Aborting.{taken_in}
-use Rattle.job_facts.proofs.Apart.{record_below}
-use Rattle.job_facts.proofs.Held.{nth_of, of_sets}
-use Rattle.job_facts.proofs.JobCommitting.{file_open}
-use Rattle.job_facts.proofs.Legal.{some_dest}
-use Rattle.job_facts.proofs.Owning.{own_directory}
-use Rattle.job_facts.proofs.Placed.{own_magic, path_below, set_magic}
-use Rattle.job_facts.proofs.Uploads.{asks_part, latest_in}
-use Rattle.job_facts.specs.Facts.{Facts, Hold, IsAttempt}
-use Rattle.job_facts.specs.Filed.{IsCommit}
-use Rattle.job_facts.specs.FiledLaws.{Commits}
-use Rattle.job_facts.specs.Fits.{Fits, FitsAbort, FitsCommit, FitsUpload, FitsWrite}
-use Rattle.job_facts.specs.Spares.{AllOwn, FitsSparing}
-use Rattle.job_facts.specs.Stores.{IsKnown}
-use Rattle.job_facts.specs.Told.{Told, known}
+use Rattle.text_and_lists.proofs.Members.{false_true, nat_false, nat_true, some_is}
+use Rattle.text_and_lists.specs.Members.{IsIn}
+use Rattle.job_invariant.proofs.Aborting.{taken_in}
+use Rattle.job_invariant.proofs.Apart.{record_below}
+use Rattle.job_invariant.proofs.Held.{nth_of, of_sets}
+use Rattle.job_invariant.proofs.JobCommitting.{file_open}
+use Rattle.job_invariant.proofs.Legal.{some_dest}
+use Rattle.job_invariant.proofs.Owning.{own_directory}
+use Rattle.job_invariant.proofs.Placed.{own_magic, path_below, set_magic}
+use Rattle.job_invariant.proofs.Uploads.{asks_part, latest_in}
+use Rattle.job_invariant.specs.Facts.{Facts, Hold, IsAttempt}
+use Rattle.job_invariant.specs.Filed.{IsCommit}
+use Rattle.job_invariant.specs.FiledLaws.{Commits}
+use Rattle.job_invariant.specs.Fits.{Fits, FitsAbort, FitsCommit, FitsUpload, FitsWrite}
+use Rattle.job_invariant.specs.Spares.{AllOwn, FitsSparing}
+use Rattle.job_invariant.specs.Stores.{IsKnown}
+use Rattle.job_invariant.specs.Told.{Told, known}
 use Rattle.job_model.specs.Attempts.{Who}
 use Rattle.job_model.specs.Files.{File}
 use Rattle.job_model.specs.JobScript.{Script}

@@ -1,5 +1,5 @@
 -- The entries of a side make its run go on. If its destination is shared, the side runs no abort or clean of a job alone.
-use Rattle.job_facts.specs.Told.{driver_entry, entry}
+use Rattle.job_invariant.specs.Told.{driver_entry, entry}
 use Rattle.job_model.specs.Attempts.{Who}
 use Rattle.job_model.specs.JobScript.{Script}
 use Rattle.job_protocol.proofs.Begun.{commit_of_so}
@@ -7,8 +7,8 @@ use Rattle.job_protocol.specs.Cleanups.{Clean, clean_start}
 use Rattle.job_protocol.specs.Operations.{Operation, Setting, TheClean, TheSparing, tells, who}
 use Rattle.job_protocol.specs.Seen.{Seen, Times, is_marking, is_picking, is_reading, see}
 use Rattle.job_protocol.specs.Sparing.{sparing_start}
-use Rattle.job_traces.specs.Runs.{BeginClean, BeginCommit, BeginSetup, Runs, Stand, actor_begins, attempt_sends, driver_sends, run_begins}
-use Rattle.job_traces.specs.Runs.{strays}
+use Rattle.protocol_runs.specs.Runs.{BeginClean, BeginCommit, BeginSetup, Runs, Stand, actor_begins, attempt_sends, driver_sends, run_begins}
+use Rattle.protocol_runs.specs.Runs.{strays}
 use Rattle.retries.specs.Retries.{Retried, fresh}
 use Rattle.s3_types.specs.Moment.{effect, is_effective}
 use Rattle.s3_types.specs.Store.{Content}

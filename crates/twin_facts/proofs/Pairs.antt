@@ -1,20 +1,20 @@
 -- Each step of either side at one destination keeps the facts of both, and no upload is drawn by both.
-use Rattle.basics.proofs.Members.{false_true, none_some, true_or_false}
-use Rattle.basics.proofs.Naturals.{at_most_is, at_most_so, below_is, below_so}
-use Rattle.job_facts.proofs.Going.{effect_so}
-use Rattle.job_facts.proofs.Learning.{learnt}
-use Rattle.job_facts.specs.Foreign.{IsForeign}
-use Rattle.job_facts.specs.Stores.{IsKnown}
-use Rattle.job_facts.specs.Told.{strange_entry}
+use Rattle.text_and_lists.proofs.Members.{false_true, none_some, true_or_false}
+use Rattle.text_and_lists.proofs.Naturals.{at_most_is, at_most_so, below_is, below_so}
+use Rattle.job_invariant.proofs.Going.{effect_so}
+use Rattle.job_invariant.proofs.Learning.{learnt}
+use Rattle.job_invariant.specs.Foreign.{IsForeign}
+use Rattle.job_invariant.specs.Stores.{IsKnown}
+use Rattle.job_invariant.specs.Told.{strange_entry}
 use Rattle.job_model.specs.JobScript.{Script}
 use Rattle.job_model.specs.Legal.{IsLegal}
 use Rattle.job_protocol.specs.Operations.{Operation, Setting, TheCheck, TheClean, TheCommit, TheSetup, TheSparing, asks, who}
 use Rattle.job_protocol.specs.Seen.{Times}
 use Rattle.job_protocol.specs.Setup.{setup_asks}
-use Rattle.job_traces.proofs.Entries.{late_now}
-use Rattle.job_traces.proofs.EveryRun.{good}
-use Rattle.job_traces.proofs.Running.{At, Early, Late}
-use Rattle.job_traces.specs.Runs.{Beginning, IsOpening, MayBegin, Runs, Stand, actor_begins, begin, nothing_learnt, strays}
+use Rattle.protocol_runs.proofs.Entries.{late_now}
+use Rattle.protocol_runs.proofs.EveryRun.{good}
+use Rattle.protocol_runs.proofs.Running.{At, Early, Late}
+use Rattle.protocol_runs.specs.Runs.{Beginning, IsOpening, MayBegin, Runs, Stand, actor_begins, begin, nothing_learnt, strays}
 use Rattle.path_keys.specs.Paths.{Path}
 use Rattle.s3_types.specs.Answer.{apply, apply_at, bucket_of, draws, made}
 use Rattle.s3_types.specs.Moment.{effect}
@@ -35,7 +35,7 @@ use Rattle.store_frame.specs.Held.{HasBucket}
 use Rattle.twin_facts.proofs.Apart.{not_true, stranger_foreign, twin_stranger}
 use Rattle.twin_facts.proofs.Naming.{sends_own, setup_own}
 use Rattle.twin_facts.proofs.OneSide.{attempt_scene, driver_scene, goes_on, never_cleans}
-use Rattle.twin_facts.specs.Laws.{AreTwins}
+use Rattle.twin_facts.specs.Strangers.{AreTwins}
 use Rattle.twin_facts.specs.Names.{Ids, IsStranger, NamesOwn}
 use Rattle.twin_facts.specs.Requests.{by_attempt, by_check, by_clean, by_commit}
 use Rattle.twin_facts.specs.Sides.{Sends, attempt_sends, drawn_by, driver_sends, observed}

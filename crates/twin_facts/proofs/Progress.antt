@@ -1,14 +1,14 @@
 -- The progress of a job's commit that replaces nothing, in every run of the job among strangers.
-use Rattle.basics.proofs.Members.{false_true, none_or_some, none_some, same_or_not, some_is}
-use Rattle.job_facts.proofs.Owning.{operation_own}
-use Rattle.job_facts.proofs.Reading.{reads_other}
-use Rattle.job_facts.proofs.Replies.{bytes_read, set_reply}
-use Rattle.job_facts.proofs.Sharing.{check_plain}
-use Rattle.job_facts.specs.Facts.{Hold, knowing}
-use Rattle.job_facts.specs.Filed.{Decides}
-use Rattle.job_facts.specs.Laws.{IsSetAnswer}
-use Rattle.job_facts.specs.Stores.{sets_at}
-use Rattle.job_facts.specs.Told.{Told, at_event, driver_entry, entry, strange_entry, tell_driver}
+use Rattle.text_and_lists.proofs.Members.{false_true, none_or_some, none_some, same_or_not, some_is}
+use Rattle.job_invariant.proofs.Owning.{operation_own}
+use Rattle.job_invariant.proofs.Reading.{reads_other}
+use Rattle.job_invariant.proofs.Replies.{bytes_read, set_reply}
+use Rattle.job_invariant.proofs.Sharing.{check_plain}
+use Rattle.job_invariant.specs.Facts.{Hold, knowing}
+use Rattle.job_invariant.specs.Filed.{Decides}
+use Rattle.job_invariant.specs.FactsKeep.{IsSetAnswer}
+use Rattle.job_invariant.specs.Stores.{sets_at}
+use Rattle.job_invariant.specs.Told.{Told, at_event, driver_entry, entry, strange_entry, tell_driver}
 use Rattle.job_model.specs.JobScript.{Script}
 use Rattle.job_model.specs.Legal.{IsLegal}
 use Rattle.job_protocol.proofs.Begun.{after_check_so, clean_of_so, commit_of_so}
@@ -20,13 +20,13 @@ use Rattle.job_protocol.specs.Outputs.{Picks, is_decided}
 use Rattle.job_protocol.specs.Rechecks.{check_after}
 use Rattle.job_protocol.specs.Records.{files_set}
 use Rattle.job_protocol.specs.Seen.{Seen, Times, is_begun, is_marking, is_picking, is_reading, picks_by, see}
-use Rattle.job_traces.proofs.Entries.{late_now}
-use Rattle.job_traces.proofs.EveryRun.{checked_idle, cleans_is, just_idle, just_set}
-use Rattle.job_traces.proofs.Keeping.{attempt_quiet}
-use Rattle.job_traces.proofs.Running.{At, Idle, InCommit}
-use Rattle.job_traces.proofs.Steps.{commit_next}
-use Rattle.job_traces.specs.Runs.{BeginClean, BeginCommit, BeginSetup, IsOpening, IsTimely, Runs, Stand, actor_begins, attempt_sends}
-use Rattle.job_traces.specs.Runs.{driver_sends, is_set, nothing_learnt, run_begins, strays}
+use Rattle.protocol_runs.proofs.Entries.{late_now}
+use Rattle.protocol_runs.proofs.EveryRun.{checked_idle, cleans_is, just_idle, just_set}
+use Rattle.protocol_runs.proofs.Keeping.{attempt_quiet}
+use Rattle.protocol_runs.proofs.Running.{At, Idle, InCommit}
+use Rattle.protocol_runs.proofs.Steps.{commit_next}
+use Rattle.protocol_runs.specs.Runs.{BeginClean, BeginCommit, BeginSetup, IsOpening, IsTimely, Runs, Stand, actor_begins, attempt_sends}
+use Rattle.protocol_runs.specs.Runs.{driver_sends, is_set, nothing_learnt, run_begins, strays}
 use Rattle.list_walk.specs.Walks.{Sweep, sweep_asks}
 use Rattle.retries.specs.Retries.{step}
 use Rattle.s3_types.specs.Answer.{answer}
@@ -48,7 +48,7 @@ use Rattle.twin_facts.proofs.Changes.{Under}
 use Rattle.twin_facts.proofs.OneSide.{mark_still, unread_picks}
 use Rattle.twin_facts.specs.TwinLaws.{is_replace}
 use Rattle.job_model.specs.declared.ends.CommitEnd.TheVariants as ends
-use Rattle.job_model.specs.declared.ends.Stage.TheVariants as stages
+use Rattle.job_model.specs.declared.ends.FaultStage.TheVariants as stages
 
 -- ---- what holds of a commit as it goes on, whoever else sends
 

@@ -1,25 +1,25 @@
 -- With the magic committer, the record of a file that an attempt has written exists as long as the file's upload lives. An abort or clean
 -- of the job deletes no record whose upload lives.
-use Rattle.basics.proofs.Members.{false_true, filter_in, in_append, in_back, in_front, some_is}
-use Rattle.basics.specs.Members.{IsIn}
-use Rattle.job_facts.proofs.Aborting.{dropped_in, taken_in}
-use Rattle.job_facts.proofs.Apart.{HasKey, abort_keys, another, commit_keys, key_left, record_below, write_keys}
-use Rattle.job_facts.proofs.EndedGone.{stays_gone}
-use Rattle.job_facts.proofs.Going.{effect_so, step_so}
-use Rattle.job_facts.proofs.Learning.{Knows, known_still}
-use Rattle.job_facts.proofs.Legal.{some_dest}
-use Rattle.job_facts.proofs.Legible.{record_read}
-use Rattle.job_facts.proofs.Sent.{not_set}
-use Rattle.job_facts.proofs.Shapes.{answer_is, key_before, puts}
-use Rattle.job_facts.proofs.Spares.{in_or_not}
-use Rattle.job_facts.proofs.Suffix.{record_ends_so}
-use Rattle.job_facts.proofs.Whose.{same_or_another, who_here, who_other}
-use Rattle.job_facts.specs.Facts.{Facts, IsAttempt}
-use Rattle.job_facts.specs.Filed.{HasItsKey}
-use Rattle.job_facts.specs.Fits.{Fits, FitsWrite}
-use Rattle.job_facts.specs.Spares.{FitsSparing}
-use Rattle.job_facts.specs.Stores.{at_key}
-use Rattle.job_facts.specs.Told.{Told, at_event, known, tell_attempt, tell_driver, undoes}
+use Rattle.text_and_lists.proofs.Members.{false_true, filter_in, in_append, in_back, in_front, some_is}
+use Rattle.text_and_lists.specs.Members.{IsIn}
+use Rattle.job_invariant.proofs.Aborting.{dropped_in, taken_in}
+use Rattle.job_invariant.proofs.Apart.{HasKey, abort_keys, another, commit_keys, key_left, record_below, write_keys}
+use Rattle.job_invariant.proofs.EndedGone.{stays_gone}
+use Rattle.job_invariant.proofs.Going.{effect_so, step_so}
+use Rattle.job_invariant.proofs.Learning.{Knows, known_still}
+use Rattle.job_invariant.proofs.Legal.{some_dest}
+use Rattle.job_invariant.proofs.Legible.{record_read}
+use Rattle.job_invariant.proofs.Sent.{not_set}
+use Rattle.job_invariant.proofs.Shapes.{answer_is, key_before, puts}
+use Rattle.job_invariant.proofs.Spares.{in_or_not}
+use Rattle.job_invariant.proofs.Suffix.{record_ends_so}
+use Rattle.job_invariant.proofs.Whose.{same_or_another, who_here, who_other}
+use Rattle.job_invariant.specs.Facts.{Facts, IsAttempt}
+use Rattle.job_invariant.specs.Filed.{HasItsKey}
+use Rattle.job_invariant.specs.Fits.{Fits, FitsWrite}
+use Rattle.job_invariant.specs.Spares.{FitsSparing}
+use Rattle.job_invariant.specs.Stores.{at_key}
+use Rattle.job_invariant.specs.Told.{Told, at_event, known, tell_attempt, tell_driver, undoes}
 use Rattle.job_model.specs.Attempts.{Who}
 use Rattle.job_model.specs.Files.{File}
 use Rattle.job_model.specs.JobScript.{Script}

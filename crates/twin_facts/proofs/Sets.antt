@@ -1,19 +1,19 @@
 -- In every run the records of files whose uploads live exist, so each upload that a set names is named by a record too.
-use Rattle.basics.proofs.Members.{false_true, none_or_some, none_some, some_is}
-use Rattle.basics.specs.Members.{IsIn}
-use Rattle.job_facts.proofs.Apart.{HasKey, record_below}
-use Rattle.job_facts.proofs.Driving.{reads_drive}
-use Rattle.job_facts.proofs.JobCommitting.{commit_drives}
-use Rattle.job_facts.proofs.Legal.{some_dest}
-use Rattle.job_facts.proofs.Legible.{record_read, set_read}
-use Rattle.job_facts.proofs.Placed.{path_below, staged_set}
-use Rattle.job_facts.proofs.Sharing.{check_reads}
-use Rattle.job_facts.proofs.Spares.{set_file}
-use Rattle.job_facts.proofs.Suffix.{record_ends_so}
-use Rattle.job_facts.proofs.Whose.{put_at, same_or_another, who_here, who_other}
-use Rattle.job_facts.specs.Facts.{IsAttempt}
-use Rattle.job_facts.specs.Foreign.{IsForeign}
-use Rattle.job_facts.specs.Told.{Told, known}
+use Rattle.text_and_lists.proofs.Members.{false_true, none_or_some, none_some, some_is}
+use Rattle.text_and_lists.specs.Members.{IsIn}
+use Rattle.job_invariant.proofs.Apart.{HasKey, record_below}
+use Rattle.job_invariant.proofs.Driving.{reads_drive}
+use Rattle.job_invariant.proofs.JobCommitting.{commit_drives}
+use Rattle.job_invariant.proofs.Legal.{some_dest}
+use Rattle.job_invariant.proofs.Legible.{record_read, set_read}
+use Rattle.job_invariant.proofs.Placed.{path_below, staged_set}
+use Rattle.job_invariant.proofs.Sharing.{check_reads}
+use Rattle.job_invariant.proofs.Spares.{set_file}
+use Rattle.job_invariant.proofs.Suffix.{record_ends_so}
+use Rattle.job_invariant.proofs.Whose.{put_at, same_or_another, who_here, who_other}
+use Rattle.job_invariant.specs.Facts.{IsAttempt}
+use Rattle.job_invariant.specs.Foreign.{IsForeign}
+use Rattle.job_invariant.specs.Told.{Told, known}
 use Rattle.job_model.specs.Attempts.{Who}
 use Rattle.job_model.specs.Files.{File}
 use Rattle.job_model.specs.JobScript.{Script}
@@ -32,12 +32,12 @@ use Rattle.job_protocol.specs.Sparing.{Sparing, record_names, ref_of, sparing_st
 use Rattle.job_protocol.specs.TaskAborts.{task_abort_start}
 use Rattle.job_protocol.specs.TaskCommits.{task_commit_start}
 use Rattle.job_protocol.specs.Writes.{write_start}
-use Rattle.job_traces.proofs.Entries.{late_now}
-use Rattle.job_traces.proofs.EveryRun.{good}
-use Rattle.job_traces.proofs.Running.{At, Early, Late}
-use Rattle.job_traces.specs.Runs.{BeginAbort, BeginClean, BeginCommit, BeginPublish, BeginSetup, BeginWrite, Beginning, IsOpening, MayBegin}
-use Rattle.job_traces.specs.Runs.{Runs, Stand, actor_begins, attempt_sends, begin, begun_attempts, begun_driver, driver_sends, is_set}
-use Rattle.job_traces.specs.Runs.{nothing_learnt, run_begins, strays}
+use Rattle.protocol_runs.proofs.Entries.{late_now}
+use Rattle.protocol_runs.proofs.EveryRun.{good}
+use Rattle.protocol_runs.proofs.Running.{At, Early, Late}
+use Rattle.protocol_runs.specs.Runs.{BeginAbort, BeginClean, BeginCommit, BeginPublish, BeginSetup, BeginWrite, Beginning, IsOpening, MayBegin}
+use Rattle.protocol_runs.specs.Runs.{Runs, Stand, actor_begins, attempt_sends, begin, begun_attempts, begun_driver, driver_sends, is_set}
+use Rattle.protocol_runs.specs.Runs.{nothing_learnt, run_begins, strays}
 use Rattle.magic_paths.specs.Layout.{magic_prefix, staged_set_path}
 use Rattle.magic_paths.specs.Places.{StagedSetPlace}
 use Rattle.retries.specs.Retries.{Retried, fresh, step}

@@ -1,17 +1,17 @@
 -- What an abort or clean at a shared destination leaves if it ends Done.
-use Rattle.basics.proofs.Members.{false_true, some_is}
-use Rattle.job_facts.proofs.EndedGone.{stays_gone}
-use Rattle.job_facts.specs.Foreign.{IsForeign}
-use Rattle.job_facts.specs.Told.{driver_entry, strange_entry}
+use Rattle.text_and_lists.proofs.Members.{false_true, some_is}
+use Rattle.job_invariant.proofs.EndedGone.{stays_gone}
+use Rattle.job_invariant.specs.Foreign.{IsForeign}
+use Rattle.job_invariant.specs.Told.{driver_entry, strange_entry}
 use Rattle.job_model.specs.JobScript.{Script}
 use Rattle.job_model.specs.Legal.{IsLegal}
 use Rattle.job_protocol.specs.Cleanups.{clean_start}
 use Rattle.job_protocol.specs.Operations.{Operation, Setting, TheClean, TheSparing, asks, who}
 use Rattle.job_protocol.specs.Seen.{Times}
 use Rattle.job_protocol.specs.Sparing.{Sparing, SparingOver, sparing_after, sparing_asks, sparing_start}
-use Rattle.job_traces.proofs.Entries.{late_now}
-use Rattle.job_traces.proofs.Running.{At, Late}
-use Rattle.job_traces.specs.Runs.{BeginClean, IsOpening, IsTimely, Runs, Stand, actor_begins, begin, is_set, nothing_learnt, strays}
+use Rattle.protocol_runs.proofs.Entries.{late_now}
+use Rattle.protocol_runs.proofs.Running.{At, Late}
+use Rattle.protocol_runs.specs.Runs.{BeginClean, IsOpening, IsTimely, Runs, Stand, actor_begins, begin, is_set, nothing_learnt, strays}
 use Rattle.retries.specs.Retries.{Retried, fresh, step}
 use Rattle.s3_types.specs.Answer.{answer}
 use Rattle.s3_types.specs.Moment.{IsHonestOutcome, effect}

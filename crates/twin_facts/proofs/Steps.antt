@@ -1,18 +1,18 @@
 -- What one entry of a side changes: in its picks, at the paths where files are shown, and in the marker.
-use Rattle.basics.proofs.Members.{false_true, none_some, some_is, text_true, true_or_false}
-use Rattle.basics.specs.Members.{IsIn}
-use Rattle.job_facts.proofs.Agreeing.{AgreeBelow, Agrees, decided_so}
-use Rattle.job_facts.proofs.EndedGone.{effective_is}
-use Rattle.job_facts.proofs.FilingLaws.{files_go, stranger_same}
-use Rattle.job_facts.proofs.Owning.{operation_own}
-use Rattle.job_facts.proofs.SettingUp.{no_success}
-use Rattle.job_facts.proofs.Shapes.{puts}
-use Rattle.job_facts.proofs.Sharing.{check_plain, setup_plain}
-use Rattle.job_facts.proofs.Wanted.{same_mark, wanted_of}
-use Rattle.job_facts.specs.Filed.{Decides, FileStands, Wants, whole_of}
-use Rattle.job_facts.specs.FiledLaws.{Commits}
-use Rattle.job_facts.specs.Stores.{at_key}
-use Rattle.job_facts.specs.Told.{driver_entry}
+use Rattle.text_and_lists.proofs.Members.{false_true, none_some, some_is, text_true, true_or_false}
+use Rattle.text_and_lists.specs.Members.{IsIn}
+use Rattle.job_invariant.proofs.Agreeing.{AgreeBelow, Agrees, decided_so}
+use Rattle.job_invariant.proofs.EndedGone.{effective_is}
+use Rattle.job_invariant.proofs.FilingLaws.{files_go, stranger_same}
+use Rattle.job_invariant.proofs.Owning.{operation_own}
+use Rattle.job_invariant.proofs.SettingUp.{no_success}
+use Rattle.job_invariant.proofs.Shapes.{puts}
+use Rattle.job_invariant.proofs.Sharing.{check_plain, setup_plain}
+use Rattle.job_invariant.proofs.Wanted.{same_mark, wanted_of}
+use Rattle.job_invariant.specs.Filed.{Decides, FileStands, Wants, whole_of}
+use Rattle.job_invariant.specs.FiledLaws.{Commits}
+use Rattle.job_invariant.specs.Stores.{at_key}
+use Rattle.job_invariant.specs.Told.{driver_entry}
 use Rattle.job_model.specs.JobScript.{Script}
 use Rattle.job_model.specs.Legal.{IsLegal}
 use Rattle.job_protocol.specs.Cleanups.{Clean}
@@ -26,12 +26,12 @@ use Rattle.job_protocol.specs.Setup.{setup_asks}
 use Rattle.job_protocol.specs.Sparing.{Sparing, sparing_asks}
 use Rattle.job_protocol.specs.View.{is_file_path, object_at}
 use Rattle.job_spec.specs.Ends.{is_driver}
-use Rattle.job_traces.proofs.Entries.{late_now}
-use Rattle.job_traces.proofs.EveryRun.{cleans_is, good}
-use Rattle.job_traces.proofs.Folds.{commit_is}
-use Rattle.job_traces.proofs.Keeping.{attempt_quiet}
-use Rattle.job_traces.proofs.Running.{At, Early, InCommit, Late, wants_of}
-use Rattle.job_traces.specs.Runs.{IsOpening, IsTimely, Runs, Stand, nothing_learnt}
+use Rattle.protocol_runs.proofs.Entries.{late_now}
+use Rattle.protocol_runs.proofs.EveryRun.{cleans_is, good}
+use Rattle.protocol_runs.proofs.Folds.{commit_is}
+use Rattle.protocol_runs.proofs.Keeping.{attempt_quiet}
+use Rattle.protocol_runs.proofs.Running.{At, Early, InCommit, Late, wants_of}
+use Rattle.protocol_runs.specs.Runs.{IsOpening, IsTimely, Runs, Stand, nothing_learnt}
 use Rattle.magic_paths.specs.Layout.{success_key}
 use Rattle.path_keys.specs.Paths.{Path, below}
 use Rattle.retries.specs.Retries.{Retried}

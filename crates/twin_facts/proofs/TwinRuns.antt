@@ -1,16 +1,16 @@
 -- All runs of two jobs at one destination.
-use Rattle.basics.proofs.Members.{false_true, none_or_some, none_some, text_true, true_or_false}
-use Rattle.basics.proofs.Naturals.{at_most_is, at_most_not}
-use Rattle.basics.specs.Members.{IsIn}
-use Rattle.basics.specs.Order.{text_eq}
-use Rattle.job_facts.specs.Told.{strange_entry}
+use Rattle.text_and_lists.proofs.Members.{false_true, none_or_some, none_some, text_true, true_or_false}
+use Rattle.text_and_lists.proofs.Naturals.{at_most_is, at_most_not}
+use Rattle.text_and_lists.specs.Members.{IsIn}
+use Rattle.text_and_lists.specs.Order.{text_eq}
+use Rattle.job_invariant.specs.Told.{strange_entry}
 use Rattle.job_model.specs.JobScript.{Script}
 use Rattle.job_protocol.specs.Operations.{Setting}
 use Rattle.job_protocol.specs.Scope.{upload_at}
 use Rattle.job_protocol.specs.Seen.{Times, is_marking, nothing_seen}
 use Rattle.job_spec.specs.Ends.{is_driver}
-use Rattle.job_traces.proofs.Entries.{late_now}
-use Rattle.job_traces.specs.Runs.{Beginning, IsOpening, MayBegin, Stand, begin, first_stand, run_begins}
+use Rattle.protocol_runs.proofs.Entries.{late_now}
+use Rattle.protocol_runs.specs.Runs.{Beginning, IsOpening, MayBegin, Stand, begin, first_stand, run_begins}
 use Rattle.magic_paths.specs.Layout.{success_key}
 use Rattle.path_keys.specs.Paths.{Path}
 use Rattle.s3_types.specs.Answer.{bucket_of}
@@ -30,7 +30,7 @@ use Rattle.twin_facts.proofs.Bare.{IsBare, bare_sends, bare_view}
 use Rattle.twin_facts.proofs.Pairs.{Pair, more, paired, paired_begin, sends_scene, strange, swap_twins, swapped}
 use Rattle.twin_facts.proofs.Steps.{sends_leaves}
 use Rattle.twin_facts.proofs.Views.{Touches, Views, begins_views, entry_views, views_kept, views_marked, views_only, views_swap}
-use Rattle.twin_facts.specs.Laws.{AreTwins}
+use Rattle.twin_facts.specs.Strangers.{AreTwins}
 use Rattle.twin_facts.specs.Names.{Ids}
 use Rattle.twin_facts.specs.Sides.{First, IsTwinOpening, Second, Sends, Side, TwinEntry, TwinRun, drawn_by, drew, drew_from, eyes}
 use Rattle.twin_facts.specs.Sides.{first_begins, first_sends, in_eyes, is_side, observed, second_begins, second_sends, twins_begin}

@@ -1,10 +1,10 @@
 -- Each step of either job keeps what readers of their destination may rely on.
-use Rattle.basics.proofs.Members.{false_true, none_or_some, none_some, some_is, true_or_false}
-use Rattle.basics.specs.Members.{IsIn}
-use Rattle.job_facts.proofs.FilePaths.{file_path}
-use Rattle.job_facts.proofs.FilingLaws.{stranger_same}
-use Rattle.job_facts.proofs.Wanted.{wanted_of}
-use Rattle.job_facts.specs.Filed.{whole_of}
+use Rattle.text_and_lists.proofs.Members.{false_true, none_or_some, none_some, some_is, true_or_false}
+use Rattle.text_and_lists.specs.Members.{IsIn}
+use Rattle.job_invariant.proofs.FilePaths.{file_path}
+use Rattle.job_invariant.proofs.FilingLaws.{stranger_same}
+use Rattle.job_invariant.proofs.Wanted.{wanted_of}
+use Rattle.job_invariant.specs.Filed.{whole_of}
 use Rattle.job_model.specs.JobScript.{Script}
 use Rattle.job_model.specs.Legal.{IsLegal}
 use Rattle.job_protocol.proofs.Begun.{clean_of_so}
@@ -15,9 +15,9 @@ use Rattle.job_protocol.specs.Records.{mark_text}
 use Rattle.job_protocol.specs.Seen.{Times, is_marking}
 use Rattle.job_protocol.specs.View.{is_file_path, view}
 use Rattle.job_spec.specs.Ends.{is_driver}
-use Rattle.job_traces.proofs.Entries.{late_now}
-use Rattle.job_traces.proofs.EveryRun.{just_idle, just_set}
-use Rattle.job_traces.specs.Runs.{BeginClean, BeginCommit, BeginSetup, Beginning, IsOpening, MayBegin, Runs, Stand, begin, is_just_set}
+use Rattle.protocol_runs.proofs.Entries.{late_now}
+use Rattle.protocol_runs.proofs.EveryRun.{just_idle, just_set}
+use Rattle.protocol_runs.specs.Runs.{BeginClean, BeginCommit, BeginSetup, Beginning, IsOpening, MayBegin, Runs, Stand, begin, is_just_set}
 use Rattle.magic_paths.specs.Layout.{success_key}
 use Rattle.path_keys.specs.Paths.{Path}
 use Rattle.s3_types.specs.Answer.{bucket_of}

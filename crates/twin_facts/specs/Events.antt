@@ -1,8 +1,8 @@
 -- What the joint journal of two jobs says of each side, by the numbers of events alone.
-use Rattle.job_facts.specs.Told.{nothing_told, tell_all}
+use Rattle.job_invariant.specs.Told.{nothing_told, tell_all}
 use Rattle.job_model.specs.JobScript.{Script}
 use Rattle.job_protocol.specs.Seen.{Seen, Times, nothing_seen, see_all}
-use Rattle.job_traces.specs.Runs.{Stand}
+use Rattle.protocol_runs.specs.Runs.{Stand}
 use Rattle.s3_types.specs.Store.{Content}
 use Rattle.std.specs.Prelude.{List, false, length, take, true, ℕ, ◌≡◌, ◌≤◌}
 use Rattle.twin_facts.specs.Sides.{First, Second, Side, TwinEntry, eyes}

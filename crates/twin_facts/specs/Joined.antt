@@ -1,12 +1,12 @@
 -- Two runs over one journal, each as its side reads it, are one run of both, and what one side sends is foreign to the other.
-use Rattle.job_facts.specs.Foreign.{IsForeign}
+use Rattle.job_invariant.specs.Foreign.{IsForeign}
 use Rattle.job_model.specs.Attempts.{Who}
 use Rattle.job_model.specs.JobScript.{Script}
 use Rattle.job_model.specs.Known.{Drawn}
 use Rattle.job_protocol.specs.Operations.{Setting}
 use Rattle.job_protocol.specs.Seen.{Times}
 use Rattle.job_spec.specs.Turns.{is_own}
-use Rattle.job_traces.specs.Runs.{Runs, Stand}
+use Rattle.protocol_runs.specs.Runs.{Runs, Stand}
 use Rattle.s3_types.specs.Answer.{answer}
 use Rattle.s3_types.specs.Moment.{IsHonestOutcome, effect}
 use Rattle.s3_types.specs.Store.{Content, Scene}

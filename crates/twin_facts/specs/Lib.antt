@@ -1,6 +1,6 @@
 pub mod Names
 pub mod Requests
-pub mod Laws
+pub mod Strangers
 pub mod Shown
 pub mod Sides
 pub mod TwinLaws

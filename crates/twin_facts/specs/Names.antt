@@ -1,6 +1,6 @@
 -- What a request names, and requests of a job that name only what is the job's own or nobody's.
-use Rattle.basics.specs.Members.{IsIn}
-use Rattle.job_facts.specs.Stores.{IsKnown}
+use Rattle.text_and_lists.specs.Members.{IsIn}
+use Rattle.job_invariant.specs.Stores.{IsKnown}
 use Rattle.job_model.specs.Attempts.{Who}
 use Rattle.job_model.specs.JobScript.{Script}
 use Rattle.job_model.specs.Known.{Drawn}

@@ -1,10 +1,10 @@
 -- The requests that a side sends: those of its attempts, and those of its driver's set-up, check, commit, and abort or clean.
-use Rattle.job_facts.specs.Emptying.{SetsUp}
-use Rattle.job_facts.specs.Facts.{IsAttempt}
-use Rattle.job_facts.specs.FiledLaws.{Commits}
-use Rattle.job_facts.specs.Fits.{Fits}
-use Rattle.job_facts.specs.Spares.{FitsSparing}
-use Rattle.job_facts.specs.Told.{Told, known}
+use Rattle.job_invariant.specs.Emptying.{SetsUp}
+use Rattle.job_invariant.specs.Facts.{IsAttempt}
+use Rattle.job_invariant.specs.FiledLaws.{Commits}
+use Rattle.job_invariant.specs.Fits.{Fits}
+use Rattle.job_invariant.specs.Spares.{FitsSparing}
+use Rattle.job_invariant.specs.Told.{Told, known}
 use Rattle.job_model.specs.Attempts.{Who, actor_of}
 use Rattle.job_protocol.specs.JobCommits.{Commit, commit_asks}
 use Rattle.job_protocol.specs.Operations.{Operation, Setting, asks}

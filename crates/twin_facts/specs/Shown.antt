@@ -1,13 +1,13 @@
 -- What one request of a job's driver changes at the paths where files are shown.
-use Rattle.basics.specs.Members.{IsIn}
-use Rattle.job_facts.specs.Driver.{SweepsUnder}
-use Rattle.job_facts.specs.Facts.{Hold, IsAttempt}
-use Rattle.job_facts.specs.Filed.{whole_of}
-use Rattle.job_facts.specs.FiledLaws.{Commits}
-use Rattle.job_facts.specs.Fits.{Fits}
-use Rattle.job_facts.specs.Spares.{FitsSparing}
-use Rattle.job_facts.specs.Stores.{at_key}
-use Rattle.job_facts.specs.Told.{Told, known}
+use Rattle.text_and_lists.specs.Members.{IsIn}
+use Rattle.job_invariant.specs.Driver.{SweepsUnder}
+use Rattle.job_invariant.specs.Facts.{Hold, IsAttempt}
+use Rattle.job_invariant.specs.Filed.{whole_of}
+use Rattle.job_invariant.specs.FiledLaws.{Commits}
+use Rattle.job_invariant.specs.Fits.{Fits}
+use Rattle.job_invariant.specs.Spares.{FitsSparing}
+use Rattle.job_invariant.specs.Stores.{at_key}
+use Rattle.job_invariant.specs.Told.{Told, known}
 use Rattle.job_model.specs.Attempts.{Who}
 use Rattle.job_model.specs.JobScript.{Script}
 use Rattle.job_model.specs.Legal.{IsLegal}

@@ -1,11 +1,11 @@
 -- Runs of two jobs at one destination, request by request, in any order of their actors. An operation may also stop at any time.
-use Rattle.job_facts.specs.Stores.{at_id}
-use Rattle.job_facts.specs.Told.{driver_entry, entry, known, strange_entry}
+use Rattle.job_invariant.specs.Stores.{at_id}
+use Rattle.job_invariant.specs.Told.{driver_entry, entry, known, strange_entry}
 use Rattle.job_model.specs.Attempts.{Who}
 use Rattle.job_protocol.specs.Operations.{Operation, Setting, asks, tells, who}
 use Rattle.job_protocol.specs.Seen.{Times, nothing_seen}
-use Rattle.job_traces.specs.Runs.{Beginning, IsTimely, MayBegin, Stand, begin, commit_with, first_stand, is_set, nothing_learnt, saw}
-use Rattle.job_traces.specs.Runs.{with_attempt, with_commit, with_driver}
+use Rattle.protocol_runs.specs.Runs.{Beginning, IsTimely, MayBegin, Stand, begin, commit_with, first_stand, is_set, nothing_learnt, saw}
+use Rattle.protocol_runs.specs.Runs.{with_attempt, with_commit, with_driver}
 use Rattle.s3_types.specs.Answer.{answer}
 use Rattle.s3_types.specs.Moment.{IsHonestOutcome, effect}
 use Rattle.s3_types.specs.Store.{Content, Scene, Upload}

@@ -1,15 +1,15 @@
 -- What an abort or clean of a job at a shared destination leaves.
-use Rattle.basics.specs.Members.{IsIn}
-use Rattle.job_facts.specs.Foreign.{IsForeign}
-use Rattle.job_facts.specs.Stores.{at_id, at_key, sets_at}
-use Rattle.job_facts.specs.Told.{strange_entry}
+use Rattle.text_and_lists.specs.Members.{IsIn}
+use Rattle.job_invariant.specs.Foreign.{IsForeign}
+use Rattle.job_invariant.specs.Stores.{at_id, at_key, sets_at}
+use Rattle.job_invariant.specs.Told.{strange_entry}
 use Rattle.job_model.specs.JobScript.{Script}
 use Rattle.job_model.specs.Legal.{IsLegal}
 use Rattle.job_protocol.specs.Operations.{Setting, TheSparing}
 use Rattle.job_protocol.specs.Scope.{NoClusterFile, NoMagicKey}
 use Rattle.job_protocol.specs.Seen.{Times, is_magic, is_staging}
 use Rattle.job_protocol.specs.Sparing.{Sparing, SparingOver, record_names, set_names}
-use Rattle.job_traces.specs.Runs.{BeginClean, Beginning, IsOpening, MayBegin, Runs, Stand, begin, begun_driver, is_set, saw}
+use Rattle.protocol_runs.specs.Runs.{BeginClean, Beginning, IsOpening, MayBegin, Runs, Stand, begin, begun_driver, is_set, saw}
 use Rattle.magic_paths.specs.Layout.{cluster_prefix, magic_prefix}
 use Rattle.magic_paths.specs.Places.{is_record}
 use Rattle.retries.specs.Retries.{Retried}

@@ -1,7 +1,7 @@
 -- What readers of a destination may rely on while two jobs work there.
-use Rattle.basics.specs.Order.{text_eq}
-use Rattle.job_facts.specs.Facts.{Hold}
-use Rattle.job_facts.specs.Stores.{IsKnown}
+use Rattle.text_and_lists.specs.Order.{text_eq}
+use Rattle.job_invariant.specs.Facts.{Hold}
+use Rattle.job_invariant.specs.Stores.{IsKnown}
 use Rattle.job_model.specs.JobScript.{Script}
 use Rattle.job_model.specs.Legal.{IsLegal}
 use Rattle.job_protocol.specs.Operations.{Setting}
@@ -10,7 +10,7 @@ use Rattle.job_protocol.specs.Records.{mark_text}
 use Rattle.job_protocol.specs.Seen.{Seen, Times, is_marking}
 use Rattle.job_protocol.specs.View.{Shown, object_at, view}
 use Rattle.job_spec.specs.Ends.{is_driver}
-use Rattle.job_traces.specs.Runs.{Stand, is_set}
+use Rattle.protocol_runs.specs.Runs.{Stand, is_set}
 use Rattle.magic_paths.specs.Layout.{success_key}
 use Rattle.s3_types.specs.Answer.{bucket_of}
 use Rattle.s3_types.specs.Moment.{is_effective}
@@ -23,7 +23,7 @@ use Rattle.s3_types.specs.declared.request.Request.{Request}
 use Rattle.std.specs.List.{list_any}
 use Rattle.std.specs.Prelude.{Bool, List, None, Some, cond, false, length, map, take, true, ℕ, [], ◌&&◌, ◌∷◌, ◌≡◌, ◌≤◌, ◌⊎◌}
 use Rattle.store_frame.specs.Frame.{changed_keys}
-use Rattle.twin_facts.specs.Laws.{AreTwins}
+use Rattle.twin_facts.specs.Strangers.{AreTwins}
 use Rattle.twin_facts.specs.Names.{IsStranger}
 use Rattle.twin_facts.specs.Sides.{First, IsTwinOpening, Second, Sends, Side, TwinEntry, TwinRun, drew, is_side}
 

@@ -29,7 +29,7 @@
 #![tactic(auto)]
 
 ghost use Rattle.twin_facts.specs.Joined.{EyesTurn, TwinsAreForeign, TwinsJoin};
-ghost use Rattle.twin_facts.specs.Laws.{OwnNames, TwinsAreStrangers};
+ghost use Rattle.twin_facts.specs.Strangers.{OwnNames, TwinsAreStrangers};
 ghost use Rattle.twin_facts.specs.Named.{TwinsNameTheirOwn};
 ghost use Rattle.twin_facts.specs.Events.{TwinsAlways, TwinsAreSaid};
 ghost use Rattle.twin_facts.specs.Shown.{CommitShows, OthersShow};

@@ -1,9 +1,9 @@
 -- The joint journal, as each side reads it.
-use Rattle.job_facts.specs.Foreign.{IsForeign}
+use Rattle.job_invariant.specs.Foreign.{IsForeign}
 use Rattle.job_model.specs.Attempts.{Who}
 use Rattle.job_model.specs.JobScript.{Script}
 use Rattle.job_model.specs.Known.{Drawn}
-use Rattle.job_side.specs.Holds.{AreOf}
+use Rattle.job_run.specs.Holds.{AreOf}
 use Rattle.job_spec.specs.Entries.{AreOwn}
 use Rattle.job_spec.specs.Eyes.{in_eyes, number_in}
 use Rattle.job_spec.specs.Turns.{is_own}
@@ -17,7 +17,7 @@ use Rattle.std.proofs.lemmas.List.{map-append}
 use Rattle.std.specs.List.{AllByRecursion}
 use Rattle.twin_facts.specs.Sides.{TwinEntry, eyes}
 use Rattle.twin_jobs.specs.Worlds.{both_of, entry_by}
-use Rattle.job_side.specs.Beside as beside
+use Rattle.job_run.specs.Beside as beside
 use Rattle.twin_facts.specs.Sides as two
 use Rattle.twin_facts.specs.Joined as joined
 

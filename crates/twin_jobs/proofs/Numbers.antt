@@ -1,7 +1,7 @@
 -- The numbers of the events of each side, and how many events each side has.
-use Rattle.basics.proofs.Members.{nat_false, nat_true, none_some, some_is}
-use Rattle.job_side.proofs.Firsts.{take_more}
-use Rattle.job_side.proofs.Places.{there}
+use Rattle.text_and_lists.proofs.Members.{nat_false, nat_true, none_some, some_is}
+use Rattle.job_run.proofs.Firsts.{take_more}
+use Rattle.job_run.proofs.Places.{there}
 use Rattle.job_spec.specs.Eyes.{number_in}
 use Rattle.std.proofs.Common.{Bool, List, Some, ap, arith, cond, false, length, nat_eq, not, refl, slice_get, subst, suc, sym, take, true}
 use Rattle.std.proofs.Common.{zero, ℕ, [], ◌++◌, ◌+◌, ◌<◌, ◌∙◌, ◌∷◌, ◌≡◌, ◌≤◌}

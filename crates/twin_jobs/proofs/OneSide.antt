@@ -7,21 +7,21 @@ use Rattle.job_model.specs.declared.ends.Pick.{Pick}
 use Rattle.job_protocol.specs.Knowledge.{knows}
 use Rattle.job_protocol.specs.Operations.{Running, Setting, who}
 use Rattle.job_safety.proofs.Ending.{ahead_none}
-use Rattle.job_side.proofs.Beside.{rests_beside}
-use Rattle.job_side.specs.Beside.{AreForeign}
-use Rattle.job_side.specs.Events.{knows_of}
-use Rattle.job_side.specs.Holds.{AreOf, Quiet, is_mine, setting_of}
-use Rattle.job_side.specs.declared.body.Body.{Body}
-use Rattle.job_side.specs.declared.body.Shared.{Shared}
+use Rattle.job_run.proofs.Beside.{rests_beside}
+use Rattle.job_run.specs.Beside.{AreForeign}
+use Rattle.job_run.specs.Events.{knows_of}
+use Rattle.job_run.specs.Holds.{AreOf, Quiet, is_mine, setting_of}
+use Rattle.job_run.specs.declared.body.Body.{Body}
+use Rattle.job_run.specs.declared.body.Shared.{Shared}
 use Rattle.job_spec.specs.Entries.{AreOwn}
 use Rattle.job_spec.specs.Eyes.{in_eyes}
 use Rattle.job_spec.specs.States.{times}
 use Rattle.job_spec.specs.Turns.{by_actor}
-use Rattle.job_steps.proofs.Parts.{take_whole}
-use Rattle.job_steps.proofs.Running.{is_run}
-use Rattle.job_steps.specs.Transitions.{Play}
-use Rattle.job_traces.proofs.Changes.{after_parts, moment_scene}
-use Rattle.job_traces.specs.Runs.{IsOpening, Runs, Stand}
+use Rattle.script_steps.proofs.Parts.{take_whole}
+use Rattle.script_steps.proofs.Running.{is_run}
+use Rattle.script_steps.specs.Transitions.{Play}
+use Rattle.protocol_runs.proofs.Changes.{after_parts, moment_scene}
+use Rattle.protocol_runs.specs.Runs.{IsOpening, Runs, Stand}
 use Rattle.s3_types.specs.Moment.{after_all}
 use Rattle.s3_types.specs.Store.{Content, Scene}
 use Rattle.s3_types.specs.declared.journal.Entry.{Entry}
@@ -40,7 +40,7 @@ use Rattle.twin_jobs.specs.Pairs.{IsAmong, RestsOne, RestsShared, over}
 use Rattle.twin_jobs.specs.Worlds.{both_of, mine, setting}
 use Rattle.twin_script.specs.declared.turns.Side.{Side}
 use Rattle.s3_types.specs.Store as store
-use Rattle.job_side.specs.declared.body.Side as body
+use Rattle.job_run.specs.declared.body.JobRun as body
 use Rattle.twin_facts.specs.Sides as two
 use Rattle.twin_facts.specs.Joined as joined
 use Rattle.twin_facts.proofs.Joining as joining
@@ -94,7 +94,7 @@ module _ {W : Type 0} (wants : W → Option Request) (is_of : Setting → Actor 
   -- ---- a side as a run of its job
 
   -- The run of a side's job, as the side reads the journal.
-  pub record SideRun (sides : List Side) (name : Side) (s : body.Side W) (shared : Shared) : Type 0 where
+  pub record SideRun (sides : List Side) (name : Side) (s : body.JobRun W) (shared : Shared) : Type 0 where
     pub stand : Stand
     pub runs : Runs (setting s.script shared.opening) (times s.script s.ends.items) shared.opening
         (in_eyes (mine sides name) shared.journal.entries) stand
@@ -102,7 +102,7 @@ module _ {W : Type 0} (wants : W → Option Request) (is_of : Setting → Actor 
     pub drawn : ◌≡◌ {A = Who → List Drawn} (λ a. (knows_of (over s shared) (actor_of a)).drawn) stand.told.drawn
 
   -- A property of the play, said of the body.
-  pub in_words : (P : Setting → List Entry → List EventEnd → Type 0) (sides : List Side) (name : Side) (s : body.Side W) (shared : Shared)
+  pub in_words : (P : Setting → List Entry → List EventEnd → Type 0) (sides : List Side) (name : Side) (s : body.JobRun W) (shared : Shared)
       (r : RestsOne wants is_of running picks_of sides name s shared)
       → P (setting_of (over s shared)) r.quiet.holds.play.journal r.quiet.holds.play.ends
       → P (setting s.script shared.opening) (in_eyes (mine sides name) shared.journal.entries) s.ends.items
@@ -117,7 +117,7 @@ module _ {W : Type 0} (wants : W → Option Request) (is_of : Setting → Actor 
   pub idle : (b : Body W) (q : Quiet wants is_of running picks_of b) → q.holds.play.now ≡ None
   idle b q = sym q.holds.now ∙ q.idle
 
-  pub side_run : (sides : List Side) (name : Side) (s : body.Side W) (shared : Shared)
+  pub side_run : (sides : List Side) (name : Side) (s : body.JobRun W) (shared : Shared)
       → RestsOne wants is_of running picks_of sides name s shared → SideRun sides name s shared
   side_run sides name s shared r =
       let q = r.quiet in
@@ -137,12 +137,12 @@ module _ {W : Type 0} (wants : W → Option Request) (is_of : Setting → Actor 
   opens_both : (w v : Script) (c : Content) → IsOpening (setting w c) c → IsTwinOpening (setting w c) (setting v c) c
   opens_both w v c o = record { shared_first = refl; shared_second = refl; first = refl; second = refl; fresh = o.fresh }
 
-  opens_of : (sides : List Side) (name : Side) (s : body.Side W) (shared : Shared)
+  opens_of : (sides : List Side) (name : Side) (s : body.JobRun W) (shared : Shared)
       → RestsOne wants is_of running picks_of sides name s shared → IsOpening (setting s.script shared.opening) shared.opening
   opens_of sides name s shared r = subst (λ b. IsOpening (record { script = s.script; minimum = shared.opening.minimum; shared = b })
       shared.opening) r.shares r.quiet.holds.opens
 
-  pub twin_opening : (sides : List Side) (s t : body.Side W) (shared : Shared) (name : Side)
+  pub twin_opening : (sides : List Side) (s t : body.JobRun W) (shared : Shared) (name : Side)
       → RestsOne wants is_of running picks_of sides name s shared
       → IsTwinOpening (setting s.script shared.opening) (setting t.script shared.opening) shared.opening
   twin_opening sides s t shared name r = opens_both s.script t.script shared.opening (opens_of sides name s shared r)
@@ -154,7 +154,7 @@ module _ {W : Type 0} (wants : W → Option Request) (is_of : Setting → Actor 
     abbrev theirs : ℕ → Bool
     theirs = mine sides (other_of name)
 
-    pub twin_run : (s t : body.Side W) (shared : Shared) → RestsShared sides shared
+    pub twin_run : (s t : body.JobRun W) (shared : Shared) → RestsShared sides shared
         → (a : SideRun sides name s shared) (b : SideRun sides (other_of name) t shared)
         → TwinRun (setting s.script shared.opening) (setting t.script shared.opening) (times s.script s.ends.items)
         (times t.script t.ends.items) shared.opening (both_of (mine sides name) (mine sides (other_of name)) shared.journal.entries)
@@ -172,7 +172,7 @@ module _ {W : Type 0} (wants : W → Option Request) (is_of : Setting → Actor 
     -- ---- an event of the other side
 
     -- What one side sent in its event is foreign to the other side.
-    pub foreign_to : (s s1 t : body.Side W) (old new : Shared) (part : List Entry) → MayBeTwins s1.script t.script → RestsShared sides new
+    pub foreign_to : (s s1 t : body.JobRun W) (old new : Shared) (part : List Entry) → MayBeTwins s1.script t.script → RestsShared sides new
         → RestsShared sides old → new.opening ≡ old.opening → new.journal.entries ≡ old.journal.entries ++ part
         → AreOf (old.events + 1) part → mine sides name (old.events + 1) ≡ true
         → (a : SideRun sides name s1 new) (opens : IsTwinOpening (setting s1.script old.opening) (setting t.script old.opening) old.opening)
@@ -200,7 +200,7 @@ module _ {W : Type 0} (wants : W → Option Request) (is_of : Setting → Actor 
         (foreign_by own theirs t.script b.stand.told.drawn (old.events + 1) b.stand.seen.scene part are f))
 
     -- So what the other side keeps between its events stays.
-    pub stays_beside : (s s1 t : body.Side W) (old new : Shared) (part : List Entry) → MayBeTwins s1.script t.script → RestsShared sides new
+    pub stays_beside : (s s1 t : body.JobRun W) (old new : Shared) (part : List Entry) → MayBeTwins s1.script t.script → RestsShared sides new
         → RestsShared sides old → new.opening ≡ old.opening → new.events ≡ old.events + 1
         → new.journal.entries ≡ old.journal.entries ++ part → AreOf (old.events + 1) part → slice_get sides old.events ≡ Some name
         → Quiet wants is_of running picks_of (over s old) → RestsOne wants is_of running picks_of sides name s1 new

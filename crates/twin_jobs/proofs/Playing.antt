@@ -3,11 +3,11 @@ use Rattle.job_model.specs.JobScript.{Script}
 use Rattle.job_model.specs.Known.{Known}
 use Rattle.job_model.specs.declared.ends.Pick.{Pick}
 use Rattle.job_protocol.specs.Operations.{Running, Setting}
-use Rattle.job_side.proofs.Places.{there}
-use Rattle.job_side.specs.Events.{Grown, IsAsBefore}
-use Rattle.job_side.specs.Holds.{IsTurn, Quiet, is_mine}
-use Rattle.job_side.specs.declared.body.Body.{Body}
-use Rattle.job_side.specs.declared.body.Shared.{Shared}
+use Rattle.job_run.proofs.Places.{there}
+use Rattle.job_run.specs.Events.{Grown, IsAsBefore}
+use Rattle.job_run.specs.Holds.{IsTurn, Quiet, is_mine}
+use Rattle.job_run.specs.declared.body.Body.{Body}
+use Rattle.job_run.specs.declared.body.Shared.{Shared}
 use Rattle.job_spec.specs.Eyes.{number_in}
 use Rattle.s3_types.specs.Fates.{fate_at}
 use Rattle.s3_types.specs.declared.request.Actor.{Actor}
@@ -24,41 +24,41 @@ use Rattle.twin_jobs.specs.Worlds.{mine}
 use Rattle.twin_jobs.specs.declared.pair.Pair.{Pair}
 use Rattle.twin_script.specs.declared.turns.Side.{Side}
 use Rattle.twin_script.specs.declared.turns.Side.TheVariants.{First, Second}
-use Rattle.job_side.specs.declared.body.Side as body
+use Rattle.job_run.specs.declared.body.JobRun as body
 
 module _ {W : Type 0} (wants : W → Option Request) (is_of : Setting → Actor → W → Type 0) (running : Known → W → Running)
     (picks_of : W → Option (List Pick)) where
-  abbrev One : List Side → Side → body.Side W → Shared → Type 0
+  abbrev One : List Side → Side → body.JobRun W → Shared → Type 0
   One = RestsOne wants is_of running picks_of
 
-  abbrev Both : List Side → body.Side W → body.Side W → Shared → Type 0
+  abbrev Both : List Side → body.JobRun W → body.JobRun W → Shared → Type 0
   Both = RestsBoth wants is_of running picks_of
 
   -- ---- the moving side and the other one
 
   -- Both sides rest: the moving one and the other one.
-  record Split (sides : List Side) (m : Side) (s t : body.Side W) (shared : Shared) : Type 0 where
+  record Split (sides : List Side) (m : Side) (s t : body.JobRun W) (shared : Shared) : Type 0 where
     here : One sides m s shared
     there : One sides (other_of m) t shared
     common : RestsShared sides shared
     twins : MayBeTwins s.script t.script
     fates : (n : ℕ) → fate_at shared.store.fates n ≡ fate_at (side_by First m s t).script.fates n
 
-  split : (sides : List Side) (m : Side) (s t : body.Side W) (shared : Shared)
+  split : (sides : List Side) (m : Side) (s t : body.JobRun W) (shared : Shared)
       → Both sides (side_by First m s t) (side_by Second m s t) shared → Split sides m s t shared
   split sides First s t shared r = assumption r
   split sides Second s t shared r = assumption (twins_turned t.script s.script r.twins, r)
 
-  join : (sides : List Side) (m : Side) (s t : body.Side W) (shared : Shared) → Split sides m s t shared
+  join : (sides : List Side) (m : Side) (s t : body.JobRun W) (shared : Shared) → Split sides m s t shared
       → Both sides (side_by First m s t) (side_by Second m s t) shared
   join sides First s t shared r = assumption r
   join sides Second s t shared r = assumption (twins_turned s.script t.script r.twins, r)
 
-  same_first : (m : Side) (s s1 t : body.Side W) → s1.script ≡ s.script → (side_by First m s1 t).script ≡ (side_by First m s t).script
+  same_first : (m : Side) (s s1 t : body.JobRun W) → s1.script ≡ s.script → (side_by First m s1 t).script ≡ (side_by First m s t).script
   same_first First s s1 t e = e
   same_first Second s s1 t e = refl
 
-  module _ (sides : List Side) (m : Side) (s t : body.Side W) (old : Shared) (r : Split sides m s t old)
+  module _ (sides : List Side) (m : Side) (s t : body.JobRun W) (old : Shared) (r : Split sides m s t old)
       (turn : slice_get sides old.events ≡ Some m) where
     -- The event is the side's own, and its number fits.
     its_turn : IsTurn (over s old)
@@ -74,7 +74,7 @@ module _ {W : Type 0} (wants : W → Option Request) (is_of : Setting → Actor 
         (sym r.here.others) ∙ r.here.quiet.holds.counts in
         ap is_some (there s.script.events (length s.ends.items) (omega (arith, more_left m old.events sides turn, r.here.enough, played))).1
 
-    module _ (s1 : body.Side W) (new : Shared) (q : Quiet wants is_of running picks_of (over s1 new)) where
+    module _ (s1 : body.JobRun W) (new : Shared) (q : Quiet wants is_of running picks_of (over s1 new)) where
       -- After the event was played.
       has_played : Grown (over s old) (over s1 new) → Split sides m s1 t new
       has_played g =
@@ -129,7 +129,7 @@ module _ {W : Type 0} (wants : W → Option Request) (is_of : Setting → Actor 
   turn_kept side p q t turn = ap (λ v. slice_get v.items q.body.shared.events) t.sides ∙ ap
       (λ (s : Shared). slice_get p.sides.items s.events) t.shared ∙ turn ∙ ap (λ v. Some v) (sym t.moving)
 
-  moving_is : (side m : Side) (a b : body.Side W) → m ≡ side → (side_by side m a b ≡ a) × (side_by (other_of side) m a b ≡ b)
+  moving_is : (side m : Side) (a b : body.JobRun W) → m ≡ side → (side_by side m a b ≡ a) × (side_by (other_of side) m a b ≡ b)
   moving_is First First a b e = (refl, refl)
   moving_is Second Second a b e = (refl, refl)
   moving_is First Second a b e = cc

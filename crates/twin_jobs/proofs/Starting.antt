@@ -4,10 +4,10 @@ use Rattle.job_model.specs.Known.{Known}
 use Rattle.job_model.specs.Legal.{IsLegal}
 use Rattle.job_model.specs.declared.ends.Pick.{Pick}
 use Rattle.job_protocol.specs.Operations.{Running, Setting}
-use Rattle.job_side.proofs.Firsts.{first_quiet}
-use Rattle.job_side.specs.Events.{picks_in}
-use Rattle.job_side.specs.Firsts.{IsFirstShared}
-use Rattle.job_side.specs.declared.body.Shared.{Shared}
+use Rattle.job_run.proofs.Firsts.{first_quiet}
+use Rattle.job_run.specs.Events.{picks_in}
+use Rattle.job_run.specs.Firsts.{IsFirstShared}
+use Rattle.job_run.specs.declared.body.Shared.{Shared}
 use Rattle.s3_service.specs.Ids.{AreBelow}
 use Rattle.s3_types.specs.Fates.{fate_at}
 use Rattle.s3_types.specs.Store.{Content}
@@ -25,7 +25,7 @@ use Rattle.twin_script.specs.TwinScripts.{AreTwins, Twins, is_replace, sides_in}
 use Rattle.twin_script.specs.declared.turns.Side.{Side}
 use Rattle.twin_script.specs.declared.turns.Side.TheVariants.{First, Second}
 use Rattle.s3_types.specs.declared.request.Mode.TheVariants as modes
-use Rattle.job_side.specs.declared.body.Side as body
+use Rattle.job_run.specs.declared.body.JobRun as body
 use Rattle.twin_facts.specs.TwinLaws as laws
 
 -- ---- an order
@@ -61,7 +61,7 @@ may_be t a first second = assumption (keeps_so t.first.mode a.first_keeps, keeps
 
 module _ {W : Type 0} (wants : W → Option Request) (is_of : Setting → Actor → W → Type 0) (running : Known → W → Running)
     (picks_of : W → Option (List Pick)) where
-  first_rests : (name : Side) (sides : List Side) (w v : Script) (c : Content) (s : body.Side W) (shared : Shared) → c.next ≤ 2 ^ 62
+  first_rests : (name : Side) (sides : List Side) (w v : Script) (c : Content) (s : body.JobRun W) (shared : Shared) → c.next ≤ 2 ^ 62
       → AreBelow c.buckets c.next → shared.opening ≡ c → IsFirstShared v shared → IsFresh w c.minimum (others_in name 1 sides) s
       → events_of name sides ≤ length w.events
       → RestsOne wants is_of running picks_of sides name s shared
@@ -72,7 +72,7 @@ module _ {W : Type 0} (wants : W → Option Request) (is_of : Setting → Actor 
     enough = rw f.script enough;
   }
 
-  job_first : (w : Script) (c : Content) (others : List ℕ) (s : body.Side W) → IsFresh w c.minimum others s
+  job_first : (w : Script) (c : Content) (others : List ℕ) (s : body.JobRun W) → IsFresh w c.minimum others s
       → job_in picks_of s ≡ nothing_run w
   job_first w c others s f =
       let none : picks_in picks_of s.picks (slice_get s.hands.items 0) ≡ [] = ap (λ hs. picks_in picks_of s.picks (slice_get hs 0))

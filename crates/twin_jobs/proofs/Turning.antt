@@ -1,14 +1,14 @@
 -- What callers see of a pair and of its turns.
-use Rattle.basics.proofs.Members.{none_some}
+use Rattle.text_and_lists.proofs.Members.{none_some}
 use Rattle.job_model.specs.Known.{Known}
 use Rattle.job_model.specs.declared.ends.Pick.{Pick}
 use Rattle.job_protocol.specs.Operations.{Running, Setting}
-use Rattle.job_side.proofs.KeptSides.{HasPicks}
-use Rattle.job_side.proofs.Places.{there}
-use Rattle.job_side.specs.Events.{IsAsBefore, picks_in}
-use Rattle.job_side.specs.Holds.{AreOf, Quiet}
-use Rattle.job_side.specs.declared.body.Body.{Body}
-use Rattle.job_side.specs.declared.body.Shared.{Shared}
+use Rattle.job_run.proofs.KeptSides.{HasPicks}
+use Rattle.job_run.proofs.Places.{there}
+use Rattle.job_run.specs.Events.{IsAsBefore, picks_in}
+use Rattle.job_run.specs.Holds.{AreOf, Quiet}
+use Rattle.job_run.specs.declared.body.Body.{Body}
+use Rattle.job_run.specs.declared.body.Shared.{Shared}
 use Rattle.job_spec.specs.States.{Past, past}
 use Rattle.job_states.specs.Stands.{Stands}
 use Rattle.s3_types.specs.Moment.{moment}
@@ -26,7 +26,7 @@ use Rattle.twin_jobs.specs.declared.pair.Pair.{Pair}
 use Rattle.twin_safety.specs.Shared.{RunsAreKeptShared}
 use Rattle.twin_script.specs.declared.turns.Side.{Side}
 use Rattle.twin_script.specs.declared.turns.Side.TheVariants.{First, Second}
-use Rattle.job_side.specs.declared.body.Side as body
+use Rattle.job_run.specs.declared.body.JobRun as body
 
 -- The entries of an event all have its number.
 numbered : (n m : ℕ) (es : List Entry) → n ≡ m → AreOf n es → AllByRecursion (λ e. e.event ≡ m) es
@@ -47,7 +47,7 @@ module _ {W : Type 0} (picks_of : W → Option (List Pick)) where
 
   -- ---- an event before which memory ran out changes nothing
 
-  job_before : (s t : body.Side W) (old new : Shared) → IsAsBefore (over s old) (over t new) → job_in picks_of t ≡ job_in picks_of s
+  job_before : (s t : body.JobRun W) (old new : Shared) → IsAsBefore (over s old) (over t new) → job_in picks_of t ≡ job_in picks_of s
   job_before s t old new h = λ i. record {
     script = h.script i;
     picks = picks_in picks_of (h.picks i) (slice_get (h.hands i).items 0);
@@ -135,7 +135,7 @@ module _ {W : Type 0} (picks_of : W → Option (List Pick)) where
         → p.body.shared.store.scene ≡ moment p.body.shared.opening p.body.shared.journal.entries (length p.body.shared.journal.entries)
     pair_scene p r = scene_is wants is_of running picks_of (over (side_in First p) p.body.shared) r.first.quiet
 
-    held_hands : (sides : List Side) (m : Side) (b : Body W) (o : body.Side W)
+    held_hands : (sides : List Side) (m : Side) (b : Body W) (o : body.JobRun W)
         → RestsBoth wants is_of running picks_of sides (side_by First m b.side o) (side_by Second m b.side o) b.shared
         → (0 < length b.side.hands.items) × (0 < length o.hands.items)
     held_hands sides First b o r = (hands_of r.first.quiet, hands_of r.second.quiet)
@@ -158,7 +158,7 @@ module _ {W : Type 0} (picks_of : W → Option (List Pick)) where
     side_quiet p First r = r.first.quiet
     side_quiet p Second r = r.second.quiet
 
-    module _ (p : Pair W) (stuck : Bool) (side : Side) (s : body.Side W) (is : s ≡ side_in side p) where
+    module _ (p : Pair W) (stuck : Bool) (side : Side) (s : body.JobRun W) (is : s ≡ side_in side p) where
       job_is : job_in picks_of s ≡ job_of (seen p stuck) side
       job_is = ap (job_in picks_of) is ∙ sym (job_side p stuck side)
 
@@ -168,5 +168,5 @@ module _ {W : Type 0} (picks_of : W → Option (List Pick)) where
       past_is r read result h =
           subst (λ (j : JobRun). result ≡ read (past j.script j.ends)) job_is
           (state_is wants is_of running picks_of s p.body.shared (subst
-          (λ (t : body.Side W). Quiet wants is_of running picks_of (over t p.body.shared)) (sym is) (side_quiet p side r)) read result
+          (λ (t : body.JobRun W). Quiet wants is_of running picks_of (over t p.body.shared)) (sym is) (side_quiet p side r)) read result
           h)

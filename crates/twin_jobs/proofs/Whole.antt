@@ -3,20 +3,20 @@ use Rattle.job_model.specs.Known.{Known}
 use Rattle.job_model.specs.declared.ends.Pick.{Pick}
 use Rattle.job_protocol.specs.Operations.{Running, Setting}
 use Rattle.job_safety.proofs.Facts.{runs_hold_facts}
-use Rattle.job_safety.specs.Laws.{FactsHold, KeptAmong}
-use Rattle.job_side.proofs.KeptSides.{HasPicks, told}
-use Rattle.job_side.proofs.Moments.{stands_of}
-use Rattle.job_side.proofs.Seen.{foretold_as}
-use Rattle.job_side.specs.Holds.{Quiet, all_sound, is_mine, setting_of}
-use Rattle.job_side.specs.declared.body.Body.{Body}
-use Rattle.job_side.specs.declared.body.Shared.{Shared}
+use Rattle.job_safety.specs.RunsKeep.{FactsHold, KeptAmong}
+use Rattle.job_run.proofs.KeptSides.{HasPicks, told}
+use Rattle.job_run.proofs.Moments.{stands_of}
+use Rattle.job_run.proofs.Seen.{foretold_as}
+use Rattle.job_run.specs.Holds.{Quiet, all_sound, is_mine, setting_of}
+use Rattle.job_run.specs.declared.body.Body.{Body}
+use Rattle.job_run.specs.declared.body.Shared.{Shared}
 use Rattle.job_spec.specs.Eyes.{in_eyes, number_in}
 use Rattle.job_spec.specs.Promise.{Sent, all_picks, lacked_memory}
 use Rattle.job_spec.specs.States.{Past, past, times}
 use Rattle.job_states.specs.Stands.{Stands}
-use Rattle.job_steps.proofs.Parts.{take_whole}
-use Rattle.job_steps.proofs.Played.{happenings_play}
-use Rattle.job_steps.specs.Laws.{IsPlayed}
+use Rattle.script_steps.proofs.Parts.{take_whole}
+use Rattle.script_steps.proofs.Played.{happenings_play}
+use Rattle.script_steps.specs.StepsPlay.{IsPlayed}
 use Rattle.s3_types.specs.Fates.{fate_at}
 use Rattle.s3_types.specs.Moment.{AreHonest, IsHonest, after_all, effect, moment}
 use Rattle.s3_types.specs.Store.{Scene}
@@ -39,17 +39,17 @@ use Rattle.twin_script.specs.declared.turns.Side.{Side}
 use Rattle.twin_script.specs.declared.turns.Side.TheVariants.{First, Second}
 use Rattle.s3_types.specs.Store as store
 use Rattle.job_safety.proofs.Kept as kept
-use Rattle.job_side.specs.declared.body.Side as body
+use Rattle.job_run.specs.declared.body.JobRun as body
 use Rattle.twin_facts.specs.Sides as two
 
 module _ {W : Type 0} (wants : W → Option Request) (is_of : Setting → Actor → W → Type 0) (running : Known → W → Running)
     (picks_of : W → Option (List Pick)) where
   -- ---- one side
 
-  abbrev One : List Side → Side → body.Side W → Shared → Type 0
+  abbrev One : List Side → Side → body.JobRun W → Shared → Type 0
   One = RestsOne wants is_of running picks_of
 
-  among : (has : HasPicks running picks_of) (sides : List Side) (name : Side) (s : body.Side W) (shared : Shared) → One sides name s shared
+  among : (has : HasPicks running picks_of) (sides : List Side) (name : Side) (s : body.JobRun W) (shared : Shared) → One sides name s shared
       → KeptAmong (setting s.script shared.opening) shared.opening (in_eyes (mine sides name) shared.journal.entries)
       (job_in picks_of s).picks s.ends.items
   among has sides name s shared r =
@@ -60,7 +60,7 @@ module _ {W : Type 0} (wants : W → Option Request) (is_of : Setting → Actor 
       (idle wants is_of running picks_of (over s shared) q)
       ps (told wants is_of running picks_of (over s shared) q has).first)
 
-  shared_kept : RunsAreKeptShared → (sides : List Side) (name : Side) (s : body.Side W) (shared : Shared) → One sides name s shared
+  shared_kept : RunsAreKeptShared → (sides : List Side) (name : Side) (s : body.JobRun W) (shared : Shared) → One sides name s shared
       → SharedKept (setting s.script shared.opening) shared.opening (in_eyes (mine sides name) shared.journal.entries) s.ends.items
   shared_kept law sides name s shared r =
       let h = r.quiet.holds in
@@ -68,7 +68,7 @@ module _ {W : Type 0} (wants : W → Option Request) (is_of : Setting → Actor 
       (law (setting_of (over s shared)) shared.opening h.play h.legal h.opens h.happened
       (idle wants is_of running picks_of (over s shared) r.quiet) r.shares)
 
-  whole : (has : HasPicks running picks_of) (sides : List Side) (name : Side) (s : body.Side W) (shared : Shared) → One sides name s shared
+  whole : (has : HasPicks running picks_of) (sides : List Side) (name : Side) (s : body.JobRun W) (shared : Shared) → One sides name s shared
       → lacked_memory (past s.script s.ends.items).commit ≡ false
       → (job_in picks_of s).picks ≡ all_picks s.script shared.opening (in_eyes (mine sides name) shared.journal.entries) s.ends.items
   whole has sides name s shared r =
@@ -81,7 +81,7 @@ module _ {W : Type 0} (wants : W → Option Request) (is_of : Setting → Actor 
       (λ g es xs. lacked_memory (past g.script xs).commit ≡ false → ps ≡ all_picks g.script shared.opening es xs) sides name s shared r
       (λ l. (told wants is_of running picks_of b q has).whole (ap (λ (p : Past). lacked_memory p.commit) (done.live ∙ done.past) ∙ l))
 
-  facts : (sides : List Side) (name : Side) (s : body.Side W) (shared : Shared) → One sides name s shared
+  facts : (sides : List Side) (name : Side) (s : body.JobRun W) (shared : Shared) → One sides name s shared
       → FactsHold s.script shared.opening (in_eyes (mine sides name) shared.journal.entries) s.ends.items
   facts sides name s shared r =
       let h = r.quiet.holds in
@@ -89,12 +89,12 @@ module _ {W : Type 0} (wants : W → Option Request) (is_of : Setting → Actor 
       in_words wants is_of running picks_of (λ g es xs. FactsHold g.script shared.opening es xs) sides name s shared r
       (runs_hold_facts (setting_of b) shared.opening h.play h.legal h.opens h.happened (idle wants is_of running picks_of b r.quiet))
 
-  played_so : (sides : List Side) (name : Side) (s : body.Side W) (shared : Shared) → One sides name s shared
+  played_so : (sides : List Side) (name : Side) (s : body.JobRun W) (shared : Shared) → One sides name s shared
       → number_in (mine sides name) shared.events ≡ length s.ends.items
   played_so sides name s shared r = ap (λ os. number_in (is_mine os) shared.events) (sym r.others) ∙ r.quiet.holds.counts
 
   -- As many events were played as have their ends.
-  pub played_is : (sides : List Side) (s t : body.Side W) (shared : Shared) → RestsBoth wants is_of running picks_of sides s t shared
+  pub played_is : (sides : List Side) (s t : body.JobRun W) (shared : Shared) → RestsBoth wants is_of running picks_of sides s t shared
       → shared.events ≡ length s.ends.items + length t.ends.items
   played_is sides s t shared r = omega (
     arith,
@@ -103,7 +103,7 @@ module _ {W : Type 0} (wants : W → Option Request) (is_of : Setting → Actor 
     played_so sides Second t shared r.second,
   )
 
-  pub state_is : (s : body.Side W) (shared : Shared) → Quiet wants is_of running picks_of (over s shared)
+  pub state_is : (s : body.JobRun W) (shared : Shared) → Quiet wants is_of running picks_of (over s shared)
       → {S : Type 0} (read : Past → S) (result : S) → ((p : Past) → Stands s.script s.states p → result ≡ read p)
       → result ≡ read (past s.script s.ends.items)
   state_is s shared q read result h = h (past s.script s.ends.items) (stands_of is_of running picks_of all_sound (over s shared) q.holds
@@ -117,7 +117,7 @@ module _ {W : Type 0} (wants : W → Option Request) (is_of : Setting → Actor 
 
   -- ---- both sides
 
-  module _ (has : HasPicks running picks_of) (shared_law : RunsAreKeptShared) (sides : List Side) (s t : body.Side W) (shared : Shared)
+  module _ (has : HasPicks running picks_of) (shared_law : RunsAreKeptShared) (sides : List Side) (s t : body.JobRun W) (shared : Shared)
       (r : RestsBoth wants is_of running picks_of sides s t shared) where
     a : SideRun wants is_of running picks_of sides First s shared
     a = side_run wants is_of running picks_of sides First s shared r.first

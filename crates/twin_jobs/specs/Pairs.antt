@@ -3,11 +3,11 @@ use Rattle.job_model.specs.JobScript.{Script}
 use Rattle.job_model.specs.Known.{Known}
 use Rattle.job_model.specs.declared.ends.Pick.{Pick}
 use Rattle.job_protocol.specs.Operations.{Running, Setting}
-use Rattle.job_side.specs.Events.{Grown, IsAsBefore, picks_in}
-use Rattle.job_side.specs.Firsts.{IsFirstSide}
-use Rattle.job_side.specs.Holds.{Quiet}
-use Rattle.job_side.specs.declared.body.Body.{Body}
-use Rattle.job_side.specs.declared.body.Shared.{Shared}
+use Rattle.job_run.specs.Events.{Grown, IsAsBefore, picks_in}
+use Rattle.job_run.specs.Firsts.{IsFirstSide}
+use Rattle.job_run.specs.Holds.{Quiet}
+use Rattle.job_run.specs.declared.body.Body.{Body}
+use Rattle.job_run.specs.declared.body.Shared.{Shared}
 use Rattle.job_spec.specs.Entries.{AreOwn}
 use Rattle.s3_types.specs.Fates.{fate_at}
 use Rattle.s3_types.specs.declared.journal.Entry.{Entry}
@@ -21,7 +21,7 @@ use Rattle.twin_jobs.specs.Worlds.{JobRun, Run}
 use Rattle.twin_jobs.specs.declared.pair.Pair.{Pair}
 use Rattle.twin_script.specs.declared.turns.Side.{Side}
 use Rattle.twin_script.specs.declared.turns.Side.TheVariants.{First, Second}
-use Rattle.job_side.specs.declared.body.Side as body
+use Rattle.job_run.specs.declared.body.JobRun as body
 
 -- Of the moving side a and the other side b: the one with the name given first, if the moving one has the name given second.
 abbrev pub side_by : {X : Type 0} → Side → Side → X → X → X
@@ -31,11 +31,11 @@ side_by First Second a b = b
 side_by Second First a b = b
 
 -- The side of a pair with this name.
-abbrev pub side_in : {W : Type 0} → Side → Pair W → body.Side W
+abbrev pub side_in : {W : Type 0} → Side → Pair W → body.JobRun W
 side_in side p = side_by side p.moving p.body.side p.other
 
 -- A side with what it shares, as a body.
-abbrev pub over : {W : Type 0} → body.Side W → Shared → Body W
+abbrev pub over : {W : Type 0} → body.JobRun W → Shared → Body W
 over s shared = record { side = s; shared = shared }
 
 -- The entry's event has a number from 1 to n.
@@ -44,7 +44,7 @@ IsAmong n e = (1 ≤ e.event) × (e.event ≤ n)
 
 -- A side rests between events. Its own events are those that the order gives it, and its script has at least as many.
 pub record RestsOne {W : Type 0} (wants : W → Option Request) (is_of : Setting → Actor → W → Type 0) (running : Known → W → Running)
-    (picks_of : W → Option (List Pick)) (sides : List Side) (name : Side) (s : body.Side W) (shared : Shared) : Type 0 where
+    (picks_of : W → Option (List Pick)) (sides : List Side) (name : Side) (s : body.JobRun W) (shared : Shared) : Type 0 where
   pub quiet : Quiet wants is_of running picks_of (over s shared)
   pub shares : s.shares ≡ true
   pub others : s.others.items ≡ others_in name 1 sides
@@ -59,7 +59,7 @@ pub record RestsShared (sides : List Side) (shared : Shared) : Type 0 where
 
 -- Both sides rest between events, they may share a destination, and the store has the fates of the first script.
 pub record RestsBoth {W : Type 0} (wants : W → Option Request) (is_of : Setting → Actor → W → Type 0) (running : Known → W → Running)
-    (picks_of : W → Option (List Pick)) (sides : List Side) (s t : body.Side W) (shared : Shared) : Type 0 where
+    (picks_of : W → Option (List Pick)) (sides : List Side) (s t : body.JobRun W) (shared : Shared) : Type 0 where
   pub first : RestsOne wants is_of running picks_of sides First s shared
   pub second : RestsOne wants is_of running picks_of sides Second t shared
   pub common : RestsShared sides shared
@@ -75,7 +75,7 @@ Rests wants is_of running picks_of p = RestsBoth wants is_of running picks_of p.
 -- ---- nothing has happened
 
 -- A side with this script, to which all events but these belong, and of which nothing has happened.
-pub record IsFresh {W : Type 0} (w : Script) (minimum : ℕ) (numbers : List ℕ) (s : body.Side W) : Type 0 where
+pub record IsFresh {W : Type 0} (w : Script) (minimum : ℕ) (numbers : List ℕ) (s : body.JobRun W) : Type 0 where
   pub script : s.script ≡ w
   pub others : s.others.items ≡ numbers
   pub shares : s.shares ≡ true
@@ -91,11 +91,11 @@ pub record IsPaired {W : Type 0} (first second : Script) (shared : Shared) (side
 -- ---- what callers see
 
 -- What callers see of one side.
-abbrev pub job_in : {W : Type 0} → (W → Option (List Pick)) → body.Side W → JobRun
+abbrev pub job_in : {W : Type 0} → (W → Option (List Pick)) → body.JobRun W → JobRun
 job_in picks_of s = record { script = s.script; picks = picks_in picks_of s.picks (slice_get s.hands.items 0); ends = s.ends.items }
 
 -- What callers see of two sides.
-abbrev pub run_of : {W : Type 0} → (W → Option (List Pick)) → List Side → body.Side W → body.Side W → Shared → Bool → Run
+abbrev pub run_of : {W : Type 0} → (W → Option (List Pick)) → List Side → body.JobRun W → body.JobRun W → Shared → Bool → Run
 run_of picks_of sides s t shared stuck = record {
   first = job_in picks_of s;
   second = job_in picks_of t;

@@ -4,8 +4,8 @@ use Rattle.job_model.specs.declared.ends.EventEnd.{EventEnd}
 use Rattle.job_model.specs.declared.ends.Pick.{Pick}
 use Rattle.job_protocol.specs.Operations.{Setting}
 use Rattle.job_protocol.specs.Seen.{Times}
-use Rattle.job_safety.specs.Laws.{FactsHold, KeptAmong}
-use Rattle.job_side.specs.Holds.{is_mine}
+use Rattle.job_safety.specs.RunsKeep.{FactsHold, KeptAmong}
+use Rattle.job_run.specs.Holds.{is_mine}
 use Rattle.job_spec.specs.Entries.{AreOwn}
 use Rattle.job_spec.specs.Eyes.{in_eyes, number_in}
 use Rattle.job_spec.specs.Promise.{Sent, all_picks, lacked_memory}

@@ -1,13 +1,13 @@
 ghost use Rattle.std.specs.Prelude.{◌≡◌, ◌+◌, ◌<◌, ◌≤◌, ◌^◌, length, slice_get, Some, IfOk, IsSome, OnOk, OnErr};
 ghost use Rattle.s3_types.specs.declared.limits.TheConstants.{MOST_MINIMUM};
-ghost use Rattle.job_side.specs.Events.{Next};
+ghost use Rattle.job_run.specs.Events.{Next};
 ghost use Rattle.twin_jobs.specs.Order.{others_in};
 ghost use Rattle.twin_jobs.specs.Pairs.{side_in, Rests, IsFresh, IsPaired, IsTurnedTo, IsPlayed, IsUnplayed};
 
 use crate::order::others_of;
 use job_actor::Works;
 use job_model::{Event, Script};
-use job_side::{Body, Shared, Side as JobSide};
+use job_run::{Body, JobRun, Shared};
 use s3_types::let_go;
 use std::alloc::{AllocError, Global};
 use std::mem;
@@ -18,7 +18,7 @@ use twin_script::Side;
 #[derive(Drop)]
 pub struct Pair<W> {
     pub body: Body<W>,
-    pub other: JobSide<W>,
+    pub other: JobRun<W>,
     pub moving: Side,
     pub sides: Vec<Side>,
 }
@@ -31,14 +31,14 @@ fn fresh_side<W: Works>(
     sides: &[Side],
     side: Side,
     minimum: u64,
-) -> Result<JobSide<W>, AllocError>
+) -> Result<JobRun<W>, AllocError>
     requires some { 1 ≤ minimum }
     requires most { minimum ≤ MOST_MINIMUM }
     requires few { length sides.now + 1 < 2 ^ 32 }
     ensures { IfOk result (IsFresh script minimum (others_in side 1 sides.now)) }
 {
     let others = others_of(alloc, sides, side)?;
-    let fresh = JobSide::new(alloc, script, others, true, minimum)?;
+    let fresh = JobRun::new(alloc, script, others, true, minimum)?;
     Ok(fresh)
 }
 
@@ -89,7 +89,7 @@ impl<W: Works> Pair<W> {
     }
 
     /// The side with this name.
-    pub fn side(&self, side: Side) -> &JobSide<W>
+    pub fn side(&self, side: Side) -> &JobRun<W>
         ensures { result.now ≡ side_in side self.now }
     {
         if self.moving == side {

@@ -6,7 +6,7 @@ ghost use Rattle.twin_jobs.specs.Played.{told_of};
 use crate::pair::Pair;
 use job_actor::Works;
 use job_model::{EndList, PickList, Script};
-use job_side::{Body, Hand, Side as JobSide, into_picks};
+use job_run::{Body, Hand, JobRun, into_picks};
 use s3_service::Service;
 use s3_types::{Journal, Sequence};
 use std::mem;
@@ -32,7 +32,7 @@ pub struct TwinPlayed {
 }
 
 /// Takes a side apart into what its run leaves. Takes no memory.
-fn left_of<W: Works>(side: JobSide<W>) -> JobLeft
+fn left_of<W: Works>(side: JobRun<W>) -> JobLeft
     requires hands { 0 < length side.hands.items }
     ensures { told_of result ≡ job_in W.picks_of side }
 {

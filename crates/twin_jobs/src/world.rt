@@ -9,7 +9,7 @@ use crate::pair::{Pair, paired};
 use crate::played::{TwinPlayed, left_by};
 use job_actor::Works;
 use job_model::PickList;
-use job_side::{Shared, picks_in};
+use job_run::{Shared, picks_in};
 use s3_service::Service;
 use s3_types::{Journal, let_go};
 use std::alloc::{AllocError, Global};

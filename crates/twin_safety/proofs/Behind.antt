@@ -8,7 +8,7 @@ use Rattle.job_protocol.specs.JobCommits.{Commit, CommitOver, commit_asks, commi
 use Rattle.job_protocol.specs.Operations.{Operation, Reports, Running, Setting, TheCheck, TheCommit, advance, after_check_by, asks}
 use Rattle.job_protocol.specs.Operations.{commit_by, commit_of, over, tells, wants, who}
 use Rattle.job_protocol.specs.Rechecks.{Check, CheckOver, check_asks}
-use Rattle.job_traces.specs.Runs.{commit_with}
+use Rattle.protocol_runs.specs.Runs.{commit_with}
 use Rattle.retries.proofs.Runs.{follows_more, run_more}
 use Rattle.retries.specs.Operation.{Follows, run}
 use Rattle.retries.specs.Retries.{Retried, wants_of}

@@ -1,5 +1,5 @@
 -- How the check before a commit ends, by its entries alone.
-use Rattle.basics.proofs.Members.{none_some}
+use Rattle.text_and_lists.proofs.Members.{none_some}
 use Rattle.job_model.specs.Attempts.{Who}
 use Rattle.job_model.specs.JobScript.{Script}
 use Rattle.job_model.specs.declared.ends.CheckEnd.{CheckEnd}

@@ -1,5 +1,5 @@
 -- How an abort or clean at a shared destination ends in a run, and what it leaves.
-use Rattle.basics.proofs.Members.{false_true, some_is}
+use Rattle.text_and_lists.proofs.Members.{false_true, some_is}
 use Rattle.job_model.specs.JobScript.{Script}
 use Rattle.job_model.specs.Known.{Known}
 use Rattle.job_model.specs.Legal.{IsLegal}
@@ -17,11 +17,11 @@ use Rattle.job_spec.specs.Follows.{known_then}
 use Rattle.job_spec.specs.OperationEnds.{CleanIs}
 use Rattle.job_spec.specs.States.{Doing, times}
 use Rattle.job_spec.specs.Turns.{AllBy, before, by_actor, is_memory, is_own, own, since, until}
-use Rattle.job_steps.specs.Running.{IsRun, operation_of}
-use Rattle.job_steps.specs.Transitions.{Opens, Play, Reachable, happen}
-use Rattle.job_traces.proofs.Changes.{moment_scene}
-use Rattle.job_traces.proofs.Entries.{take_all}
-use Rattle.job_traces.specs.Runs.{IsOpening}
+use Rattle.script_steps.specs.Running.{IsRun, operation_of}
+use Rattle.script_steps.specs.Transitions.{Opens, Play, Reachable, happen}
+use Rattle.protocol_runs.proofs.Changes.{moment_scene}
+use Rattle.protocol_runs.proofs.Entries.{take_all}
+use Rattle.protocol_runs.specs.Runs.{IsOpening}
 use Rattle.retries.specs.Operation.{Follows, run}
 use Rattle.retries.specs.Retries.{fresh}
 use Rattle.retries.specs.Worn.{WornFirst}

@@ -1,5 +1,5 @@
 -- How the commit of a job that shares its destination ends, in every run among strangers.
-use Rattle.job_facts.specs.Told.{driver_entry, entry, strange_entry}
+use Rattle.job_invariant.specs.Told.{driver_entry, entry, strange_entry}
 use Rattle.job_model.specs.JobScript.{Script}
 use Rattle.job_model.specs.Legal.{IsLegal}
 use Rattle.job_model.specs.declared.ends.CheckEnd.{CheckEnd}
@@ -11,8 +11,8 @@ use Rattle.job_protocol.specs.Operations.{Operation, Reports, Setting, TheCheck,
 use Rattle.job_protocol.specs.Operations.{who}
 use Rattle.job_protocol.specs.Rechecks.{Check, CheckOver}
 use Rattle.job_protocol.specs.Seen.{Times, is_begun}
-use Rattle.job_traces.specs.Runs.{Beginning, IsOpening, IsTimely, MayBegin, Runs, Stand, actor_begins, attempt_sends, begin, commit_with}
-use Rattle.job_traces.specs.Runs.{driver_sends, is_just_set, is_set, nothing_learnt, run_begins, strays}
+use Rattle.protocol_runs.specs.Runs.{Beginning, IsOpening, IsTimely, MayBegin, Runs, Stand, actor_begins, attempt_sends, begin, commit_with}
+use Rattle.protocol_runs.specs.Runs.{driver_sends, is_just_set, is_set, nothing_learnt, run_begins, strays}
 use Rattle.retries.specs.Operation.{run}
 use Rattle.retries.specs.Retries.{Retried}
 use Rattle.s3_types.specs.Store.{Content}

@@ -1,8 +1,8 @@
 -- How the commit at a shared destination ends in a run, and the check before it.
-use Rattle.basics.proofs.Members.{in_back, in_filter, none_or_some, none_some}
-use Rattle.basics.specs.Members.{IsIn}
-use Rattle.job_facts.specs.Standing.{HasPublished}
-use Rattle.job_facts.specs.Told.{nothing_told, tell_all}
+use Rattle.text_and_lists.proofs.Members.{in_back, in_filter, none_or_some, none_some}
+use Rattle.text_and_lists.specs.Members.{IsIn}
+use Rattle.job_invariant.specs.Standing.{HasPublished}
+use Rattle.job_invariant.specs.Told.{nothing_told, tell_all}
 use Rattle.job_model.specs.JobScript.{Script}
 use Rattle.job_model.specs.Known.{Known}
 use Rattle.job_model.specs.Legal.{IsLegal}
@@ -28,12 +28,12 @@ use Rattle.job_spec.specs.OperationEnds.{CommitServed}
 use Rattle.job_spec.specs.Promise.{seen_until}
 use Rattle.job_spec.specs.States.{Doing, clean_event, missing, same_actor, times}
 use Rattle.job_spec.specs.Turns.{by_actor, since}
-use Rattle.job_steps.proofs.Actors.{same_is}
-use Rattle.job_steps.proofs.Reported.{all_published, last_more, reported}
-use Rattle.job_steps.specs.Running.{IsRun, operation_of}
-use Rattle.job_steps.specs.Transitions.{Closes, Play, Reachable, happen}
-use Rattle.job_traces.proofs.Learnt.{cleaned_is}
-use Rattle.job_traces.specs.Runs.{IsOpening}
+use Rattle.script_steps.proofs.Actors.{same_is}
+use Rattle.script_steps.proofs.Reported.{all_published, last_more, reported}
+use Rattle.script_steps.specs.Running.{IsRun, operation_of}
+use Rattle.script_steps.specs.Transitions.{Closes, Play, Reachable, happen}
+use Rattle.protocol_runs.proofs.Learnt.{cleaned_is}
+use Rattle.protocol_runs.specs.Runs.{IsOpening}
 use Rattle.retries.specs.Operation.{Follows, run}
 use Rattle.retries.specs.Worn.{WornFirst}
 use Rattle.s3_types.specs.Store.{Content}

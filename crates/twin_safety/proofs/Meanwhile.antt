@@ -1,9 +1,9 @@
 -- While the driver's abort or clean goes on, and after its end until the event is over, what happens in the run is an abort or clean that
 -- goes on request by request.
-use Rattle.basics.proofs.Members.{none_some, some_is, true_or_false}
-use Rattle.basics.proofs.Naturals.{at_most_is, at_most_not}
-use Rattle.job_facts.specs.Foreign.{IsForeign}
-use Rattle.job_facts.specs.Told.{driver_entry, strange_entry}
+use Rattle.text_and_lists.proofs.Members.{none_some, some_is, true_or_false}
+use Rattle.text_and_lists.proofs.Naturals.{at_most_is, at_most_not}
+use Rattle.job_invariant.specs.Foreign.{IsForeign}
+use Rattle.job_invariant.specs.Told.{driver_entry, strange_entry}
 use Rattle.job_model.specs.Legal.{IsLegal}
 use Rattle.job_model.specs.declared.ends.EventEnd.{EventEnd}
 use Rattle.job_model.specs.declared.ends.EventEnd.TheVariants.{Refused}
@@ -17,18 +17,18 @@ use Rattle.job_safety.proofs.History.{Began, IsBegin, Later, Meanwhile, at_once,
 use Rattle.job_safety.proofs.Timed.{begins_at}
 use Rattle.job_spec.specs.States.{Doing, is_new, needs_set, times}
 use Rattle.job_spec.specs.Turns.{AllBy, AllUpTo, is_own, own, until}
-use Rattle.job_steps.proofs.Actors.{put_here}
-use Rattle.job_steps.proofs.Parts.{until_all, until_late, up_to_last, up_to_more}
-use Rattle.job_steps.proofs.Running.{carried, is_run, number, sent_ahead, strayed_ahead}
-use Rattle.job_steps.proofs.RunningAlong.{told_known}
-use Rattle.job_steps.proofs.RunningNumbers.{begun_at}
-use Rattle.job_steps.proofs.RunningStages.{IsTimed}
-use Rattle.job_steps.proofs.Told.{told_all}
-use Rattle.job_steps.specs.Running.{Ahead, IsRun, operation_of}
-use Rattle.job_steps.specs.Transitions.{Closes, Finishes, MaySend, MayStray, Opens, Play, Reachable, Refuses, Sends, Strays, happen, hear}
-use Rattle.job_steps.specs.Transitions.{open_running}
-use Rattle.job_traces.proofs.Changes.{moment_scene}
-use Rattle.job_traces.specs.Runs.{BeginClean, IsOpening, IsTimely, Runs, Stand, actor_begins, begin, is_set, nothing_learnt, saw, strays}
+use Rattle.script_steps.proofs.Actors.{put_here}
+use Rattle.script_steps.proofs.Parts.{until_all, until_late, up_to_last, up_to_more}
+use Rattle.script_steps.proofs.Running.{carried, is_run, number, sent_ahead, strayed_ahead}
+use Rattle.script_steps.proofs.RunningAlong.{told_known}
+use Rattle.script_steps.proofs.RunningNumbers.{begun_at}
+use Rattle.script_steps.proofs.RunningStages.{IsTimed}
+use Rattle.script_steps.proofs.Told.{told_all}
+use Rattle.script_steps.specs.Running.{Ahead, IsRun, operation_of}
+use Rattle.script_steps.specs.Transitions.{Closes, Finishes, MaySend, MayStray, Opens, Play, Reachable, Refuses, Sends, Strays, happen, hear}
+use Rattle.script_steps.specs.Transitions.{open_running}
+use Rattle.protocol_runs.proofs.Changes.{moment_scene}
+use Rattle.protocol_runs.specs.Runs.{BeginClean, IsOpening, IsTimely, Runs, Stand, actor_begins, begin, is_set, nothing_learnt, saw, strays}
 use Rattle.retries.specs.Retries.{Retried, fresh, step}
 use Rattle.s3_types.specs.Answer.{answer}
 use Rattle.s3_types.specs.Moment.{IsHonestOutcome, moment}

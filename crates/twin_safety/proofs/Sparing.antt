@@ -1,11 +1,11 @@
 -- How an abort or clean at a shared destination ends, by its own entries.
-use Rattle.job_facts.proofs.Going.{step_so}
+use Rattle.job_invariant.proofs.Going.{step_so}
 use Rattle.job_model.specs.JobScript.{Script}
 use Rattle.job_model.specs.Known.{Known}
 use Rattle.job_model.specs.declared.ends.CleanEnd.{CleanEnd}
 use Rattle.job_protocol.proofs.Faults.{faults}
 use Rattle.job_protocol.proofs.Wearing.{first_spent}
-use Rattle.job_protocol.specs.Laws.{is_fault, spare_of}
+use Rattle.job_protocol.specs.OperationLaws.{is_fault, spare_of}
 use Rattle.job_protocol.specs.Operations.{Running, Setting, TheSparing, advance, over, wants}
 use Rattle.job_protocol.specs.Sparing.{Sparing, SparingOver, aborting, deleting, naming, reading_on, sparing_after, sparing_hears}
 use Rattle.job_protocol.specs.Sparing.{sparing_over, sparing_start, walking}

@@ -10,7 +10,7 @@ use Rattle.job_protocol.specs.Operations.{TheCheck, TheCommit}
 use Rattle.job_protocol.specs.Rechecks.{Check, CheckOver}
 use Rattle.job_protocol.specs.Seen.{Times, is_begun}
 use Rattle.job_spec.specs.Ends.{CommitEnded, is_driver}
-use Rattle.job_traces.specs.Runs.{Stand}
+use Rattle.protocol_runs.specs.Runs.{Stand}
 use Rattle.retries.specs.Retries.{Retried}
 use Rattle.retries.specs.Worn.{WornFirst}
 use Rattle.s3_types.specs.declared.journal.Entry.{Entry}

@@ -12,8 +12,8 @@ use Rattle.job_spec.specs.OperationEnds.{CleanIs, CommitServed}
 use Rattle.job_spec.specs.Promise.{seen_until}
 use Rattle.job_spec.specs.States.{Doing}
 use Rattle.job_spec.specs.Turns.{AllBy, before, own, since, until}
-use Rattle.job_steps.specs.Transitions.{Play, Reachable}
-use Rattle.job_traces.specs.Runs.{IsOpening}
+use Rattle.script_steps.specs.Transitions.{Play, Reachable}
+use Rattle.protocol_runs.specs.Runs.{IsOpening}
 use Rattle.retries.specs.Worn.{WornFirst}
 use Rattle.s3_types.specs.Moment.{moment}
 use Rattle.s3_types.specs.Store.{Content}

@@ -1,12 +1,12 @@
 -- Reading the printed text of two scripts and an order gives the same two scripts and order.
-use Rattle.basics.proofs.Bools.{contrary}
-use Rattle.basics.proofs.Reading.{parted}
-use Rattle.basics.proofs.Round.{decimal_word, lines-text_of, number_in-decimal, words-joined}
-use Rattle.basics.specs.Lines.{lines_from, lines_of}
-use Rattle.basics.specs.Parts.{parts_from}
-use Rattle.basics.specs.Reading.{check, ◌>>=◌}
-use Rattle.basics.specs.Shapes.{two}
-use Rattle.basics.specs.Words.{IsLine, IsWord, ended, joined, text_of}
+use Rattle.text_and_lists.proofs.Bools.{contrary}
+use Rattle.text_and_lists.proofs.Reading.{parted}
+use Rattle.text_and_lists.proofs.Round.{decimal_word, lines-text_of, number_in-decimal, words-joined}
+use Rattle.text_and_lists.specs.Lines.{lines_from, lines_of}
+use Rattle.text_and_lists.specs.Parts.{parts_from}
+use Rattle.text_and_lists.specs.Reading.{check, ◌>>=◌}
+use Rattle.text_and_lists.specs.Shapes.{two}
+use Rattle.text_and_lists.specs.Words.{IsLine, IsWord, ended, joined, text_of}
 use Rattle.job_model.specs.JobScript.{Script}
 use Rattle.job_model.specs.Legal.{IsLegal}
 use Rattle.job_script.proofs.Whole.{read_again}

@@ -1,7 +1,7 @@
 -- The search over lines for the first separator line.
-use Rattle.basics.proofs.Bools.{not_so}
-use Rattle.basics.specs.Lines.{is_inside, without_return}
-use Rattle.basics.specs.Parts.{parts_of}
+use Rattle.text_and_lists.proofs.Bools.{not_so}
+use Rattle.text_and_lists.specs.Lines.{is_inside, without_return}
+use Rattle.text_and_lists.specs.Parts.{parts_of}
 use Rattle.std.proofs.Common.{List, ap, append_assoc, arith, drop, false, length, length-append, sym, take, true, ℕ, [], ◌++◌, ◌+◌, ◌==◌}
 use Rattle.std.proofs.Common.{◌∙◌, ◌∷◌, ◌≡◌, ◌≤◌}
 use Rattle.std.proofs.Math.ListN.{drop_of_length-le}

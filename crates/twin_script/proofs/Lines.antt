@@ -1,11 +1,11 @@
 -- The first line of bytes that are cut at an LF, and bytes that write no number.
-use Rattle.basics.proofs.Counts.{some_part}
-use Rattle.basics.proofs.Lists.{weaker}
-use Rattle.basics.proofs.Pieces.{join_parts}
-use Rattle.basics.proofs.Split.{first_from, last_line}
-use Rattle.basics.specs.Lines.{is_inside, lines_of, without_return}
-use Rattle.basics.specs.Numbers.{is_digit, number_in}
-use Rattle.basics.specs.Parts.{is_other, parts_from, parts_of}
+use Rattle.text_and_lists.proofs.Counts.{some_part}
+use Rattle.text_and_lists.proofs.Lists.{weaker}
+use Rattle.text_and_lists.proofs.Pieces.{join_parts}
+use Rattle.text_and_lists.proofs.Split.{first_from, last_line}
+use Rattle.text_and_lists.specs.Lines.{is_inside, lines_of, without_return}
+use Rattle.text_and_lists.specs.Numbers.{is_digit, number_in}
+use Rattle.text_and_lists.specs.Parts.{is_other, parts_from, parts_of}
 use Rattle.s3_types.proofs.Utf8.{hex_utf8}
 use Rattle.s3_types.specs.Tags.{is_hex}
 use Rattle.std.proofs.Common.{Bool, List, ap, arith, drop, false, length, refl, subst, sym, take, true, ℕ, [], ◌++◌, ◌<◌, ◌==◌, ◌∙◌, ◌∷◌}

@@ -1,11 +1,11 @@
 -- The bounds of an order that was read: the count of each turn, and that no side is asked for more events than it has.
-use Rattle.basics.proofs.Reading.{checked, needed, parted, same_ok}
-use Rattle.basics.proofs.Split.{none_left}
-use Rattle.basics.specs.Lines.{lines_from, lines_of}
-use Rattle.basics.specs.Numbers.{number_in}
-use Rattle.basics.specs.Reading.{check, need}
-use Rattle.basics.specs.Shapes.{two}
-use Rattle.basics.specs.Words.{words_of}
+use Rattle.text_and_lists.proofs.Reading.{checked, needed, parted, same_ok}
+use Rattle.text_and_lists.proofs.Split.{none_left}
+use Rattle.text_and_lists.specs.Lines.{lines_from, lines_of}
+use Rattle.text_and_lists.specs.Numbers.{number_in}
+use Rattle.text_and_lists.specs.Reading.{check, need}
+use Rattle.text_and_lists.specs.Shapes.{two}
+use Rattle.text_and_lists.specs.Words.{words_of}
 use Rattle.job_script.proofs.Words.{number_bounds}
 use Rattle.job_script.specs.Kinds.{named}
 use Rattle.std.proofs.Common.{Bool, List, Ok, Option, Some, arith, false, length, refl, subst, true, ℕ, [], ◌++◌, ◌+◌, ◌==◌, ◌∷◌, ◌≡◌, ◌≤◌}

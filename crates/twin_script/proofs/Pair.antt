@@ -1,7 +1,7 @@
 -- Two scripts that may run at one destination, and the faults of their parts and of their order.
-use Rattle.basics.proofs.Bools.{not_so}
-use Rattle.basics.proofs.Reading.{checked, parted, unless_more}
-use Rattle.basics.specs.Reading.{check, ◌>>=◌}
+use Rattle.text_and_lists.proofs.Bools.{not_so}
+use Rattle.text_and_lists.proofs.Reading.{checked, parted, unless_more}
+use Rattle.text_and_lists.specs.Reading.{check, ◌>>=◌}
 use Rattle.job_model.specs.JobScript.{Script}
 use Rattle.job_script.specs.Fault.{wanting as script_wanting}
 use Rattle.job_script.specs.declared.fault.ScriptFault.{ScriptFault}
@@ -23,7 +23,7 @@ use Rattle.twin_script.specs.Twins.{fit, is_same_dest, names_fate, paired, told,
 use Rattle.twin_script.specs.declared.fault.TwinFault.{TwinFault}
 use Rattle.twin_script.specs.declared.turns.TwinTurn.{TwinTurn}
 use Rattle.std.specs.FinMap as map
-use Rattle.basics.specs.Reading as reading
+use Rattle.text_and_lists.specs.Reading as reading
 use Rattle.job_script.specs.declared.fault.ScriptFault.TheVariants as script_fault
 use Rattle.twin_script.specs.declared.fault.TwinFault.TheVariants as fault
 

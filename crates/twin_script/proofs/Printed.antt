@@ -1,7 +1,7 @@
 -- The printed text of a script is UTF-8.
-use Rattle.basics.proofs.EntriesFrom.{find_head, find_other, not_found}
-use Rattle.basics.proofs.Tree.{map_sorted}
-use Rattle.basics.specs.Words.{ended, text_of}
+use Rattle.text_and_lists.proofs.EntriesFrom.{find_head, find_other, not_found}
+use Rattle.text_and_lists.proofs.Tree.{map_sorted}
+use Rattle.text_and_lists.specs.Words.{ended, text_of}
 use Rattle.job_model.specs.JobScript.{Script}
 use Rattle.job_model.specs.Legal.{AreFates, IsLegal}
 use Rattle.job_script.proofs.AttemptLines.{attempts_go}

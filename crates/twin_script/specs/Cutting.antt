@@ -1,5 +1,5 @@
 -- The parts of an input between two separator lines.
-use Rattle.basics.specs.Lines.{without_return}
+use Rattle.text_and_lists.specs.Lines.{without_return}
 use Rattle.std.specs.Prelude.{Bool, List, None, Option, Some, bytes_eq, codes, if◌then◌else◌, is_some, option_and_then, ℕ, [], ◌++◌, ◌==◌}
 use Rattle.std.specs.Prelude.{◌∷◌}
 

@@ -4,7 +4,7 @@ use Rattle.std.specs.Prelude.{Bool, Result, false, true, ℕ, ⊤}
 use Rattle.twin_script.specs.declared.fault.TwinFault.{TwinFault}
 use Rattle.twin_script.specs.declared.fault.TwinFault.TheVariants.{BadOrder, First, NoMemory, NotThree, OtherDest, ReplaceMode, SameJob}
 use Rattle.twin_script.specs.declared.fault.TwinFault.TheVariants.{Second, SecondLoss, TooLarge}
-use Rattle.basics.specs.Reading as reading
+use Rattle.text_and_lists.specs.Reading as reading
 use Rattle.job_script.specs.Fault as script
 use Rattle.job_script.specs.declared.fault.ScriptFault.TheVariants as script_fault
 

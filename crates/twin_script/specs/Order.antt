@@ -1,9 +1,9 @@
 -- The lines of an order.
-use Rattle.basics.specs.Lines.{lines_of}
-use Rattle.basics.specs.Numbers.{number_in}
-use Rattle.basics.specs.Reading.{check, need, ◌>>=◌}
-use Rattle.basics.specs.Shapes.{two}
-use Rattle.basics.specs.Words.{words_of}
+use Rattle.text_and_lists.specs.Lines.{lines_of}
+use Rattle.text_and_lists.specs.Numbers.{number_in}
+use Rattle.text_and_lists.specs.Reading.{check, need, ◌>>=◌}
+use Rattle.text_and_lists.specs.Shapes.{two}
+use Rattle.text_and_lists.specs.Words.{words_of}
 use Rattle.job_script.specs.Kinds.{Names, named}
 use Rattle.std.specs.Prelude.{List, Ok, Option, Result, codes, if◌then◌else◌, length, nat_le, option_and_then, option_map, ℕ, [], ◌++◌, ◌+◌}
 use Rattle.std.specs.Prelude.{◌-◌, ◌==◌, ◌∷◌}

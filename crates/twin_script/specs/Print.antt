@@ -1,5 +1,5 @@
 -- The text of two scripts and an order as it is printed.
-use Rattle.basics.specs.Words.{ended, text_of}
+use Rattle.text_and_lists.specs.Words.{ended, text_of}
 use Rattle.job_script.specs.Kinds.{Line}
 use Rattle.job_script.specs.Print.{script_text}
 use Rattle.std.specs.Fmt.{decimal}

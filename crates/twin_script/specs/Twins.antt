@@ -1,5 +1,5 @@
 -- The two scripts and the order that bytes mean.
-use Rattle.basics.specs.Reading.{check, need, ◌>>=◌}
+use Rattle.text_and_lists.specs.Reading.{check, need, ◌>>=◌}
 use Rattle.job_model.specs.JobScript.{Script}
 use Rattle.job_script.specs.Script.{script_of}
 use Rattle.job_script.specs.declared.fault.ScriptFault.{ScriptFault}

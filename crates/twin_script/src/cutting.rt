@@ -2,12 +2,12 @@
 //! be text.
 
 ghost use Rattle.std.specs.Prelude.{◌≡◌, ◌<◌, ◌∷◌, length, option_map};
-ghost use Rattle.basics.specs.Lines.{lines_of, without_return};
-ghost use Rattle.basics.specs.Shapes.{two};
-ghost use Rattle.basics.specs.Words.{words_of};
+ghost use Rattle.text_and_lists.specs.Lines.{lines_of, without_return};
+ghost use Rattle.text_and_lists.specs.Shapes.{two};
+ghost use Rattle.text_and_lists.specs.Words.{words_of};
 ghost use Rattle.twin_script.specs.Cutting as cutting;
 
-use basics::next_part;
+use text_and_lists::next_part;
 
 /// The line without one CR at its end.
 fn trimmed(line: &[u8]) -> &[u8]

@@ -1,6 +1,6 @@
 ghost use Rattle.std.specs.Prelude.{◌≡◌, true, IfErr};
-ghost use Rattle.basics.specs.Lines.{lines_of};
-ghost use Rattle.basics.specs.Numbers.{number_in};
+ghost use Rattle.text_and_lists.specs.Lines.{lines_of};
+ghost use Rattle.text_and_lists.specs.Numbers.{number_in};
 ghost use Rattle.job_script.specs.Kinds.{named};
 ghost use Rattle.twin_script.specs.Fault.{Gives, Makes, is_told};
 ghost use Rattle.twin_script.specs.Order as order;
@@ -8,8 +8,8 @@ ghost use Rattle.twin_script.specs.Order as order;
 use crate::cutting::{next_line, two_words};
 use crate::fault::TwinFault;
 use crate::turns::{Side, TurnList, TwinTurn};
-use basics::number_within;
 use std::alloc::Global;
+use text_and_lists::number_within;
 
 /// The turns of the lines so far, and the number of events that each script has left.
 #[derive(Drop)]

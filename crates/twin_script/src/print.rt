@@ -1,6 +1,6 @@
 ghost use Rattle.std.specs.Prelude.{◌≡◌, ◌≤◌, ◌++◌, length, map, string_bytes, IfOk, OnOk, Ok};
 ghost use Rattle.std.specs.FinMap as fin;
-ghost use Rattle.basics.specs.Words.{ended, text_of};
+ghost use Rattle.text_and_lists.specs.Words.{ended, text_of};
 ghost use Rattle.job_model.specs.Legal.{IsLegal};
 ghost use Rattle.job_script.specs.Print.{script_text};
 ghost use Rattle.s3_types.specs.declared.limits.TheConstants.{MOST_SCRIPT_BYTES};

@@ -1,5 +1,5 @@
 -- The copy of all that is below a directory, by its stages.
-use Rattle.basics.specs.Order.{text_eq}
+use Rattle.text_and_lists.specs.Order.{text_eq}
 use Rattle.bucket_ops.specs.Asks.{Ask, Get, Head}
 use Rattle.bucket_ops.specs.Looks.{look_of}
 use Rattle.bucket_ops.specs.Walking.{fits, walk_asks}

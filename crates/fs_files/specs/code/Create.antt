@@ -38,12 +38,12 @@ use Rattle.std.specs.FinMap as fin
 use Rattle.block_stream.specs.Stream as streams
 
 -- The answer of the making of a file.
-abbrev pub Answer : Type 0
-Answer = Result (Unit {0}) FsRefusal
+abbrev pub CreateAnswer : Type 0
+CreateAnswer = Result (Unit {0}) FsRefusal
 
 -- The next stage, or the answer.
 abbrev pub CreateStep : Type 0
-CreateStep = Step CreateStage Answer
+CreateStep = Step CreateStage CreateAnswer
 
 -- ---- the stages
 
@@ -208,12 +208,12 @@ abbrev pub holds : CreateFile → Scene → CreateFile → Scene → Bool → Ty
 holds o z p s repeated = (p.file ≡ o.file) × IsCreation o.file × HoldsAt (bucket_at z o.file.path.bucket) o.file z p.stage s repeated
 
 -- Holds if a refusal left all as it was.
-abbrev pub IsUndone : Answer → Scene → Scene → Type 0
+abbrev pub IsUndone : CreateAnswer → Scene → Scene → Type 0
 IsUndone (Ok x) z s = Unit {0}
 IsUndone (Err r) z s = s ≡ z
 
 -- If the store's least part is not longer than a block, this is the file that was made, or the refusal, which changes nothing.
-abbrev pub GivesFile : Creation → Scene → Answer → Scene → Type 0
+abbrev pub GivesFile : Creation → Scene → CreateAnswer → Scene → Type 0
 GivesFile o z a s = least o z → InFile (bucket_at z o.path.bucket) (λ m n. Creates o.path o.bytes o.overwrite o.policy m a n)
     (a ≡ Err NoSuchBucket) z o.path.bucket s × IsUndone a z s
 
@@ -234,16 +234,16 @@ abbrev pub request : CreateFile → Request
 request p = asks p.file p.stage
 
 -- The plan's step from a step of its stages.
-abbrev pub stepped : Creation → CreateStep → Step CreateFile Answer
+abbrev pub stepped : Creation → CreateStep → Step CreateFile CreateAnswer
 stepped o (Next x) = Next (record { file = o; stage = x })
 stepped o (End a) = End a
 
 -- The step of the plan after a reply.
-abbrev pub led : CreateFile → Reply → Bool → Step CreateFile Answer
+abbrev pub led : CreateFile → Reply → Bool → Step CreateFile CreateAnswer
 led p r repeated = stepped p.file (goes p.file p.stage r repeated)
 
 -- What the plan answers and leaves.
-abbrev pub gives : CreateFile → Scene → Answer → Scene → Type 0
+abbrev pub gives : CreateFile → Scene → CreateAnswer → Scene → Type 0
 gives o z a s = GivesFile o.file z a s
 
 -- Holds at every point of the plan.
@@ -264,7 +264,7 @@ abbrev pub calm : CreateFile → Scene → CreateFile → Scene → Type 0
 calm o z p s = holds o z p s false × (least o.file z → NoneBut (upload_of p.stage) z o.file.path.bucket s)
 
 -- What the plan answers and leaves if each send was answered: also, no upload that was begun since is live.
-abbrev pub leaves : CreateFile → Scene → Answer → Scene → Type 0
+abbrev pub leaves : CreateFile → Scene → CreateAnswer → Scene → Type 0
 leaves o z a s = gives o z a s × (least o.file z → NoneLeft z o.file.path.bucket s)
 
 -- The most requests that the writing may still send.

@@ -1,6 +1,6 @@
 -- The deletion of a path, by its stages.
-use Rattle.basics.specs.Members.{IsIn}
-use Rattle.basics.specs.Order.{text_eq}
+use Rattle.text_and_lists.specs.Members.{IsIn}
+use Rattle.text_and_lists.specs.Order.{text_eq}
 use Rattle.bucket_ops.specs.Asks.{Ask, Drop, DropAll, Page, Put, is_look}
 use Rattle.bucket_ops.specs.Looks.{look_of}
 use Rattle.bucket_ops.specs.Sweeping.{IsSweeping, sweep_asks, sweep_left}
@@ -38,8 +38,8 @@ pub record Deletion : Type 0 where
   pub recursive : Bool
 
 -- The answer of a deletion.
-abbrev pub Answer : Type 0
-Answer = Result (Unit {0}) FsRefusal
+abbrev pub DeleteAnswer : Type 0
+DeleteAnswer = Result (Unit {0}) FsRefusal
 
 -- A deletion begins with a look for a file.
 abbrev pub first : Deletion → DeleteStage
@@ -56,21 +56,21 @@ asks o (Parent k) = Page k false [] 1
 asks o (PutMarker k) = Put k []
 
 -- The step after the deletion: the look whether anything is left below the directory above, unless that is the root.
-abbrev pub up_to : Option (List ℕ) → Step DeleteStage Answer
+abbrev pub up_to : Option (List ℕ) → Step DeleteStage DeleteAnswer
 up_to None = End (Ok tt)
 up_to (Some k) = Next (Parent k)
 
 -- The step after the deletion of this path.
-abbrev pub up : Deletion → Step DeleteStage Answer
+abbrev pub up : Deletion → Step DeleteStage DeleteAnswer
 up o = up_to (marker_if (parent o.path))
 
 -- The step after the look for a file, if the path is not the root.
-abbrev pub here : Look → Step DeleteStage Answer
+abbrev pub here : Look → Step DeleteStage DeleteAnswer
 here There = Next DropFile
 here _ = Next Below
 
 -- The step after the look for a file; the root is refused.
-abbrev pub on_here : List ℕ → Look → Step DeleteStage Answer
+abbrev pub on_here : List ℕ → Look → Step DeleteStage DeleteAnswer
 on_here [] l = End (Err IsRoot)
 on_here (x ∷ p) l = here l
 
@@ -85,37 +85,37 @@ entries_in (APage es more) = es
 entries_in _ = []
 
 -- The step for a directory with children: a sweep if the deletion is recursive, else a refusal.
-abbrev pub children : Bool → Step DeleteStage Answer
+abbrev pub children : Bool → Step DeleteStage DeleteAnswer
 children true = Next (Sweep sweep_start)
 children false = End (Err NotEmpty)
 
 -- The step after it is known what is below the directory.
-abbrev pub on_inside : Bool → Inside → Step DeleteStage Answer
+abbrev pub on_inside : Bool → Inside → Step DeleteStage DeleteAnswer
 on_inside recursive Empty = End (Err NotFound)
 on_inside recursive MarkerAlone = Next DropMarker
 on_inside recursive Children = children recursive
 
 -- The step after the reply about the entries below the path.
-abbrev pub on_below : Deletion → Reply → Step DeleteStage Answer
+abbrev pub on_below : Deletion → Reply → Step DeleteStage DeleteAnswer
 on_below o r = on_inside o.recursive (inside (prefix_of o.path) (entries_in r))
 
 -- The step after a page or a batch of the sweep.
-abbrev pub swept : Deletion → Option walks.Sweep → Step DeleteStage Answer
+abbrev pub swept : Deletion → Option walks.Sweep → Step DeleteStage DeleteAnswer
 swept o (Some w) = Next (Sweep w)
 swept o None = up o
 
 -- The step after a reply to the sweep. A reply that does not fit leaves the sweep where it is.
-abbrev pub on_sweep : Deletion → walks.Sweep → Reply → Bool → Step DeleteStage Answer
+abbrev pub on_sweep : Deletion → walks.Sweep → Reply → Bool → Step DeleteStage DeleteAnswer
 on_sweep o w r true = swept o (sweep_hears all_go w r)
 on_sweep o w r false = Next (Sweep w)
 
 -- The step after the look below the directory above: its marker is put if nothing is left there.
-abbrev pub on_parent : List ℕ → Look → Step DeleteStage Answer
+abbrev pub on_parent : List ℕ → Look → Step DeleteStage DeleteAnswer
 on_parent k There = End (Ok tt)
 on_parent k _ = Next (PutMarker k)
 
 -- The step after a reply, at each stage.
-abbrev pub on : Deletion → DeleteStage → Reply → Step DeleteStage Answer
+abbrev pub on : Deletion → DeleteStage → Reply → Step DeleteStage DeleteAnswer
 on o Here r = on_here o.path (look_of r)
 on o Below r = on_below o r
 on o (Sweep w) r = on_sweep o w r (fits r)
@@ -174,7 +174,7 @@ abbrev pub sends : Deletion → Objects → Ask → Type 0
 sends o z a = is_key o.path ≡ true → Asks o z a
 
 -- What each answer says of the objects: what was deleted and the marker that was put, or why nothing changed.
-abbrev pub ends : Deletion → Objects → Answer → Objects → Type 0
+abbrev pub ends : Deletion → Objects → DeleteAnswer → Objects → Type 0
 ends o z (Ok x) m = (n : Objects) × Removed o z n × IsMarked (marker_if (parent o.path)) n m
 ends o z (Err IsRoot) m = (o.path ≡ []) × (m ≡ z)
 ends o z (Err NotFound) m = IsAbsent z o.path × (m ≡ z)
@@ -202,7 +202,7 @@ abbrev pub always : Deletion → Objects → Objects → Type 0
 always o z m = is_key o.path ≡ true → InPart o z m
 
 -- The answer and the tree that the deletion of a path with a valid key leaves; each key is then also as `always` says.
-abbrev pub gives : Deletion → Objects → Answer → Objects → Type 0
+abbrev pub gives : Deletion → Objects → DeleteAnswer → Objects → Type 0
 gives o z a m = (is_key o.path ≡ true → Deletes o.recursive o.path z a m) × always o z m
 
 -- The number of requests that are still to come.

@@ -1,6 +1,6 @@
 -- The listing of a directory, by its stages.
-use Rattle.basics.specs.Order.{text_eq}
-use Rattle.basics.specs.Parts.{parts_of}
+use Rattle.text_and_lists.specs.Order.{text_eq}
+use Rattle.text_and_lists.specs.Parts.{parts_of}
 use Rattle.bucket_ops.specs.Asks.{Ask, Page}
 use Rattle.dir_markers.specs.declared.status.Status.{Status}
 use Rattle.dir_markers.specs.declared.status.Status.TheVariants.{Directory, File}
@@ -27,8 +27,8 @@ use Rattle.std.specs.Prelude.{Bool, Err, List, None, Ok, Option, Result, Some, d
 use Rattle.std.specs.Prelude.{take_while, true, ℕ, [], ◌&&◌, ◌++◌, ◌+◌, ◌∷◌, ◌≡◌, ◌⊎◌}
 
 -- The answer of a listing.
-abbrev pub Answer : Type 0
-Answer = Result (List DirEntry) FsRefusal
+abbrev pub ListAnswer : Type 0
+ListAnswer = Result (List DirEntry) FsRefusal
 
 -- ---- the children that an entry shows
 
@@ -102,7 +102,7 @@ asks o Here = look_asks o
 asks o (Pages found mark) = Page (prefix_of o) true mark 1000
 
 -- The step after the look for a file: a file is listed by itself, and otherwise what is below the path.
-abbrev pub told : List ℕ → Option ℕ → Step ListStage Answer
+abbrev pub told : List ℕ → Option ℕ → Step ListStage ListAnswer
 told p (Some n) = End (Ok (record { name = own_name p; status = File n } ∷ []))
 told p None = Next (Pages [] [])
 
@@ -112,18 +112,18 @@ more_in (APage es more) = more
 more_in _ = false
 
 -- The answer after the last page. If nothing was listed, there is no directory, unless the path is the root.
-abbrev pub whole : List ℕ → List DirEntry → List ℕ → Step ListStage Answer
+abbrev pub whole : List ℕ → List DirEntry → List ℕ → Step ListStage ListAnswer
 whole [] found mark = End (Ok found)
 whole (x ∷ p) found [] = End (Err NotFound)
 whole (x ∷ p) found (y ∷ mark) = End (Ok found)
 
 -- The step after a page: the next page, or the answer after the last one.
-abbrev pub paged : List ℕ → Bool → List DirEntry → List ℕ → Step ListStage Answer
+abbrev pub paged : List ℕ → Bool → List DirEntry → List ℕ → Step ListStage ListAnswer
 paged o true found mark = Next (Pages found mark)
 paged o false found mark = whole o found mark
 
 -- The step after a reply, at each stage.
-abbrev pub on : List ℕ → ListStage → Reply → Step ListStage Answer
+abbrev pub on : List ℕ → ListStage → Reply → Step ListStage ListAnswer
 on o Here r = told o (length_in r)
 on o (Pages found mark) r = paged o (more_in r) (all_added (prefix_of o) found (entries_in r)) (last_text mark (entries_in r))
 

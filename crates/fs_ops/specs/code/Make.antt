@@ -21,8 +21,8 @@ use Rattle.std.specs.Prelude.{Err, List, Ok, Result, length, true, ℕ, [], ◌+
 use Rattle.std.specs.FinMap as fin
 
 -- The answer of the making of a directory.
-abbrev pub Answer : Type 0
-Answer = Result (Unit {0}) FsRefusal
+abbrev pub MakeAnswer : Type 0
+MakeAnswer = Result (Unit {0}) FsRefusal
 
 -- It begins with a look for a file.
 abbrev pub first : List ℕ → MakeStage
@@ -36,28 +36,28 @@ asks o (Up c) = Head c.first
 asks o PutMarker = put_marker_asks o
 
 -- The step of the climb: the directories above are looked at one by one, and then the marker is put.
-abbrev pub on_climb : Climbed → Step MakeStage Answer
+abbrev pub on_climb : Climbed → Step MakeStage MakeAnswer
 on_climb (File k) = End (Err (NotDirectory k))
 on_climb (On c) = Next (Up c)
 on_climb Free = Next PutMarker
 
 -- The step after the look for a file: a file is refused.
-abbrev pub here : Look → Step MakeStage Answer
+abbrev pub here : Look → Step MakeStage MakeAnswer
 here There = End (Err AlreadyExists)
 here _ = Next Below
 
 -- The step after the look for a file; the root exists already.
-abbrev pub on_here : List ℕ → Look → Step MakeStage Answer
+abbrev pub on_here : List ℕ → Look → Step MakeStage MakeAnswer
 on_here [] l = End (Ok tt)
 on_here (x ∷ p) l = here l
 
 -- The step after the look below: if a directory exists it is done, else those above are looked at.
-abbrev pub on_below : List ℕ → Look → Step MakeStage Answer
+abbrev pub on_below : List ℕ → Look → Step MakeStage MakeAnswer
 on_below o There = End (Ok tt)
 on_below o _ = on_climb (climbing (keys_above o))
 
 -- The step after a reply, at each stage.
-abbrev pub on : List ℕ → MakeStage → Reply → Step MakeStage Answer
+abbrev pub on : List ℕ → MakeStage → Reply → Step MakeStage MakeAnswer
 on o Here r = on_here o (look_of r)
 on o Below r = on_below o (look_of r)
 on o (Up c) r = on_climb (climbed c (look_of r))

@@ -11,8 +11,8 @@ use Rattle.std.specs.Prelude.{Err, List, None, Option, Result, Some, ℕ}
 use Rattle.fs_ops.specs.code.AtPath as path
 
 -- The answer of a read.
-abbrev pub Answer : Type 0
-Answer = Result (List ℕ) FsRefusal
+abbrev pub ReadAnswer : Type 0
+ReadAnswer = Result (List ℕ) FsRefusal
 
 -- The request of each stage.
 abbrev pub asks : List ℕ → PathStage → Ask
@@ -24,5 +24,5 @@ bytes_in (Found bytes h) = Some bytes
 bytes_in _ = None
 
 -- The step after a reply, at each stage.
-abbrev pub on : List ℕ → PathStage → Reply → Step PathStage Answer
+abbrev pub on : List ℕ → PathStage → Reply → Step PathStage ReadAnswer
 on o x r = path.on (Err IsDirectory) bytes_in o x r

@@ -12,8 +12,8 @@ use Rattle.std.specs.Prelude.{List, None, Ok, Option, Result, Some, ℕ}
 use Rattle.fs_ops.specs.code.AtPath as path
 
 -- The answer of the look.
-abbrev pub Answer : Type 0
-Answer = Result Status FsRefusal
+abbrev pub StatAnswer : Type 0
+StatAnswer = Result Status FsRefusal
 
 -- The request of each stage.
 abbrev pub asks : List ℕ → PathStage → Ask
@@ -30,5 +30,5 @@ status_in (Head n h) = Some (File n)
 status_in _ = None
 
 -- The step after a reply, at each stage.
-abbrev pub on : List ℕ → PathStage → Reply → Step PathStage Answer
+abbrev pub on : List ℕ → PathStage → Reply → Step PathStage StatAnswer
 on o x r = path.on (Ok Directory) status_in o x r

@@ -1,5 +1,5 @@
 -- What holds at each stage of a rename, what it gives, and what holds at every point.
-use Rattle.basics.specs.Members.{IsIn}
+use Rattle.text_and_lists.specs.Members.{IsIn}
 use Rattle.bucket_ops.specs.Asks.{Ask, Copy as CopyKey, DropAll, is_look}
 use Rattle.bucket_ops.specs.Sweeping.{IsDeleted, IsDeleting, sweep_left}
 use Rattle.bucket_ops.specs.Walking.{IsWalking, walk_left}

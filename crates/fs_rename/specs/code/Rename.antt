@@ -1,5 +1,5 @@
 -- The rename of a file or a directory, by its stages.
-use Rattle.basics.specs.Order.{text_eq}
+use Rattle.text_and_lists.specs.Order.{text_eq}
 use Rattle.bucket_ops.specs.Asks.{Ask, Page, Put}
 use Rattle.bucket_ops.specs.Looks.{look_of}
 use Rattle.bucket_ops.specs.Sweeping.{sweep_asks}

@@ -1,5 +1,5 @@
 -- The work below a directory after all keys there were listed.
-use Rattle.basics.specs.Members.{IsIn}
+use Rattle.text_and_lists.specs.Members.{IsIn}
 use Rattle.bucket_ops.specs.Asks.{Ask, edited, is_look}
 use Rattle.bucket_ops.specs.Walking.{all_below}
 use Rattle.fs_ops.specs.Places.{prefix_of}

@@ -1,5 +1,5 @@
 use Rattle.std.proofs.Common.{◌∙◌, ap, refl, nat_eq, [], ◌∷◌, ◌++◌}
-use Rattle.basics.proofs.Options.{none_is}
+use Rattle.text_and_lists.proofs.Options.{none_is}
 use Rattle.indexmap.specs.IndexMap.{insert_entry}
 use Rattle.judging.specs.Listed.{Numbered}
 use Rattle.audit_claims.specs.Claims.{Tags}

@@ -1,7 +1,7 @@
 use Rattle.durable_job.proofs.Held.{held_partly, held_whole, lacks_since, not_replaced_as, opening_is, replaced_as, survives_since}
 use Rattle.durable_job.proofs.Paces.{counts_none, counts_some}
-use Rattle.shelf.specs.declared.kept.ShelfStop.{ShelfStop}
-use Rattle.shelf.specs.declared.kept.ShelfStop.TheVariants.{NoMemory}
+use Rattle.devices.specs.declared.kept.ShelfStop.{ShelfStop}
+use Rattle.devices.specs.declared.kept.ShelfStop.TheVariants.{NoMemory}
 use Rattle.std.proofs.Common.{Err, Option, Some, ap, ◌≡◌}
 use Rattle.durable_job.proofs.keeping.keep.Goals as goal
 

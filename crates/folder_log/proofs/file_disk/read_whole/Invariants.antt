@@ -1,4 +1,4 @@
-use Rattle.shelf.specs.Logged.{most_file}
+use Rattle.devices.specs.Logged.{most_file}
 use Rattle.std.proofs.Common.{vec_len, ◌≤◌}
 use Rattle.folder_log.proofs.file_disk.read_whole.Given as goal
 

@@ -1,6 +1,6 @@
 use Rattle.folder_log.proofs.Moments.{goes_on}
 use Rattle.folder_log.specs.Disk.{Elapses, File, Follows, IsTorn, Only}
-use Rattle.shelf.specs.Logged.{LeavesOnly}
+use Rattle.devices.specs.Logged.{LeavesOnly}
 use Rattle.std.proofs.Common.{arith, inr, length, subst, ℕ, ◌≡◌, ◌⊎◌}
 use Rattle.folder_log.proofs.log_shelf.write_synced.Goals as goal
 

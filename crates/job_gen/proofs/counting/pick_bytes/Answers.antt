@@ -1,4 +1,4 @@
-use Rattle.basics.proofs.Members.{some_is}
+use Rattle.text_and_lists.proofs.Members.{some_is}
 use Rattle.job_gen.proofs.counting.pick_bytes.Goals.{In-Some}
 use Rattle.job_model.specs.Attempts.{Declared, Who, same_name}
 use Rattle.job_model.specs.Files.{File}

@@ -1,6 +1,6 @@
-use Rattle.basics.proofs.Reading.{same_ok}
-use Rattle.basics.specs.Parts.{parts_from}
-use Rattle.basics.specs.Reading.{Unless}
+use Rattle.text_and_lists.proofs.Reading.{same_ok}
+use Rattle.text_and_lists.specs.Parts.{parts_from}
+use Rattle.text_and_lists.specs.Reading.{Unless}
 use Rattle.job_gen.specs.Made.{made_dest}
 use Rattle.path_keys.specs.Paths.{Path, wanting}
 use Rattle.path_keys.specs.declared.fault.PathFault.{PathFault}

@@ -1,4 +1,4 @@
-use Rattle.basics.proofs.Pieces.{others_from_bytes}
+use Rattle.text_and_lists.proofs.Pieces.{others_from_bytes}
 use Rattle.job_model.specs.Placed.{with_id}
 use Rattle.job_plans.proofs.CutNames.{dotless_name, dotted_name}
 use Rattle.std.proofs.Common.{None, Some, arith, sym, ◌∙◌, ◌≡◌}

@@ -1,4 +1,4 @@
-use Rattle.basics.proofs.Lists.{both_written}
+use Rattle.text_and_lists.proofs.Lists.{both_written}
 use Rattle.job_spec.specs.States.{past}
 use Rattle.std.proofs.lemmas.Result.{on_ok_weaker}
 use Rattle.job_report.proofs.lines.write_actors.Goals as goal

@@ -1,4 +1,4 @@
-use Rattle.basics.specs.Reading.{need}
+use Rattle.text_and_lists.specs.Reading.{need}
 use Rattle.job_script.proofs.Whole.{completed}
 use Rattle.job_script.specs.declared.fault.ScriptFault.TheVariants.{MissingHead}
 use Rattle.std.proofs.Common.{ap}

@@ -1,4 +1,4 @@
-use Rattle.basics.specs.Parts.{parts_of}
+use Rattle.text_and_lists.specs.Parts.{parts_of}
 use Rattle.job_model.specs.Paths.{is_reserved}
 use Rattle.std.proofs.Common.{length, ◌≡◌}
 use Rattle.std.specs.List.{list_any}

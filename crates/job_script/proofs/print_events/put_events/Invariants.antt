@@ -1,4 +1,4 @@
-use Rattle.basics.specs.Words.{text_of}
+use Rattle.text_and_lists.specs.Words.{text_of}
 use Rattle.job_script.specs.Print.{event_line}
 use Rattle.std.proofs.Common.{drop, map, string_bytes, ◌++◌, ◌≡◌}
 use Rattle.job_script.proofs.print_events.put_events.Given as goal

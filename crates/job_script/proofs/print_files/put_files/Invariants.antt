@@ -1,4 +1,4 @@
-use Rattle.basics.specs.Words.{text_of}
+use Rattle.text_and_lists.specs.Words.{text_of}
 use Rattle.job_script.specs.Print.{file_line}
 use Rattle.std.proofs.Common.{map, string_bytes, ◌++◌, ◌≡◌}
 use Rattle.job_script.proofs.print_files.put_files.Given as goal

@@ -1,4 +1,4 @@
-use Rattle.basics.specs.Words.{text_of}
+use Rattle.text_and_lists.specs.Words.{text_of}
 use Rattle.job_script.proofs.LossLines.{losses_from}
 use Rattle.job_script.specs.HeadLines.{loss_lines}
 use Rattle.std.proofs.Common.{string_bytes, ◌++◌, ◌-◌, ◌≡◌, ◌≤◌}

@@ -1,4 +1,4 @@
-use Rattle.basics.specs.Lines.{lines_of}
+use Rattle.text_and_lists.specs.Lines.{lines_of}
 use Rattle.job_script.specs.Script.{lines_at, nothing}
 use Rattle.std.proofs.Common.{length, ◌+◌, ◌≡◌, ◌≤◌}
 use denote.Shadow.{shadow}

@@ -1,4 +1,4 @@
-use Rattle.basics.proofs.Reading.{found, only}
+use Rattle.text_and_lists.proofs.Reading.{found, only}
 use Rattle.job_script.specs.Fault.{wanting}
 use Rattle.job_script.specs.Script.{script_of}
 use Rattle.job_script.proofs.reading.read_script.Goals as goal

@@ -1,7 +1,7 @@
 use Rattle.journal_log.specs.Appends.{Appended}
 use Rattle.journal_log.specs.Changes.{changes}
 use Rattle.journal_log.specs.Crashes.{IsBetween}
-use Rattle.shelf.specs.Logged.{CrashesLeave}
+use Rattle.devices.specs.Logged.{CrashesLeave}
 use Rattle.std.proofs.Common.{take, ◌≡◌}
 use Rattle.journal_log.proofs.appends.append_all.Given as goal
 

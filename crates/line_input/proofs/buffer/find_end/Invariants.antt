@@ -1,6 +1,6 @@
 use Rattle.std.proofs.Common.{◌≡◌, suc, ◌+◌, ◌-◌, ◌≤◌, length, max, take, true}
 use Rattle.std.specs.List.{list_all}
-use Rattle.basics.specs.Parts.{is_other}
+use Rattle.text_and_lists.specs.Parts.{is_other}
 use Rattle.line_input.specs.Reading.{unread}
 use Rattle.line_input.specs.Buffers.{held_in, IsSound}
 use Rattle.line_input.proofs.buffer.find_end.Given as goal

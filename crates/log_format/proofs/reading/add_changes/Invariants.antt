@@ -1,4 +1,4 @@
-use Rattle.basics.proofs.Reading.{with_front}
+use Rattle.text_and_lists.proofs.Reading.{with_front}
 use Rattle.log_format.specs.Reading.{changes_at}
 use Rattle.std.proofs.Common.{length, ◌-◌, ◌≡◌}
 use Rattle.log_format.proofs.reading.add_changes.Given as goal

@@ -1,4 +1,4 @@
-use Rattle.basics.proofs.Reading.{found_so, only}
+use Rattle.text_and_lists.proofs.Reading.{found_so, only}
 use Rattle.log_format.proofs.Files.{file_again, file_takes}
 use Rattle.log_format.specs.Fault.{wanting}
 use Rattle.log_format.specs.File.{StandsFor}

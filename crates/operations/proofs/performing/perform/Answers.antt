@@ -5,7 +5,7 @@ use Rattle.machine.specs.declared.retrying.Retrying.{Retrying}
 use Rattle.operations.proofs.Few.{few_of, none_few}
 use Rattle.operations.proofs.Runs.{given, left_calm, literal_err, literal_ok, nothing_done, performed, ready_start, tried_err, tried_ok}
 use Rattle.operations.specs.Operations.{after, wanted}
-use Rattle.operations.specs.declared.operation.Stage.{Stage}
+use Rattle.operations.specs.declared.operation.OperationStage.{OperationStage}
 use Rattle.retries.specs.Operation.{Follows}
 use Rattle.retries.specs.Retries.{Retried, fresh, step, wants_of}
 use Rattle.s3_types.specs.declared.journal.Entry.{Entry}
@@ -42,17 +42,17 @@ returns-in-Ok-answer_of-clause-answered g c = λ part e a.
     (sym c.into_inner.ensures ∙ sym c.into_stage-stage.ensures ∙ c.in-Ok-answer_of.ensures.answer) d.appended e a
 
 -- The machine that was driven is the new one.
-tried_new : {P A : Type 0} (t : Retrying (Stage P A)) (m : Stage P A) (retries : ℕ) (part : List Entry) (r : Result (Unit {0}) DriveStop)
+tried_new : {P A : Type 0} (t : Retrying (OperationStage P A)) (m : OperationStage P A) (retries : ℕ) (part : List Entry) (r : Result (Unit {0}) DriveStop)
     → retried t ≡ fresh retries m → t.retries ≡ retries → Tried t.retries t.spare part r → Tried retries retries part r
-tried_new {P = P} {A = A} t m retries part r e n h = subst (λ (k : ℕ). Tried retries k part r) (ap (λ (t : Retried (Stage P A)). t.spare) e)
+tried_new {P = P} {A = A} t m retries part r e n h = subst (λ (k : ℕ). Tried retries k part r) (ap (λ (t : Retried (OperationStage P A)). t.spare) e)
     (subst (λ (k : ℕ). Tried k t.spare part r) n h)
 
-literal_new : {P A : Type 0} (t : Retrying (Stage P A)) (m : Stage P A) (retries : ℕ) (part : List Entry) (r : Result (Unit {0}) DriveStop)
+literal_new : {P A : Type 0} (t : Retrying (OperationStage P A)) (m : OperationStage P A) (retries : ℕ) (part : List Entry) (r : Result (Unit {0}) DriveStop)
     → retried t ≡ fresh retries m → t.retries ≡ retries → (retried t ≡ fresh t.retries t.machine → IsFaultBy t.retries part r)
     → IsFaultBy retries part r
 literal_new {P = P} {A = A} t m retries part r e n h =
     subst (λ (k : ℕ). IsFaultBy k part r) n (h (e ∙ ap (λ (k : ℕ). fresh k m) (sym n) ∙ ap (fresh t.retries)
-    (sym (ap (λ (t : Retried (Stage P A)). t.operation) e))))
+    (sym (ap (λ (t : Retried (OperationStage P A)). t.operation) e))))
 
 pub returns-in-Ok-answer_of-clause-performed : goal.returns-in-Ok-answer_of-clause-performed
 returns-in-Ok-answer_of-clause-performed g c =

@@ -1,4 +1,4 @@
-use Rattle.basics.specs.Parts.{parts_of}
+use Rattle.text_and_lists.specs.Parts.{parts_of}
 use Rattle.path_keys.specs.Paths.{first_fault}
 use Rattle.std.proofs.Common.{length, ◌≡◌}
 use Rattle.path_keys.proofs.elements.first_fault.Given as goal

@@ -1,4 +1,4 @@
-use Rattle.basics.specs.Parts.{parts_of}
+use Rattle.text_and_lists.specs.Parts.{parts_of}
 use Rattle.path_keys.proofs.Faults.{key_is, text_fits, text_too_long}
 use Rattle.path_keys.specs.Paths.{first_fault, is_key}
 use Rattle.std.proofs.Common.{None, Ok, ap, arith, sym, ◌∙◌, ◌≡◌}

@@ -1,4 +1,4 @@
-use Rattle.basics.specs.Parts.{parts_of}
+use Rattle.text_and_lists.specs.Parts.{parts_of}
 use Rattle.path_keys.proofs.Beneath.{key_below}
 use Rattle.path_keys.specs.Paths.{below, first_fault, is_key}
 use Rattle.std.proofs.Common.{None, ap, arith, length, ◌∙◌, ◌≡◌, ◌≤◌}

@@ -1,6 +1,6 @@
-use Rattle.basics.proofs.Pieces.{one_part, others_from_bytes}
-use Rattle.basics.proofs.Split.{part_from}
-use Rattle.basics.specs.Parts.{parts_of}
+use Rattle.text_and_lists.proofs.Pieces.{one_part, others_from_bytes}
+use Rattle.text_and_lists.proofs.Split.{part_from}
+use Rattle.text_and_lists.specs.Parts.{parts_of}
 use Rattle.std.proofs.Common.{None, Some, ap, arith, [], ◌∙◌}
 use Rattle.std.proofs.lemmas.Str.Pattern.{split_parts}
 use Rattle.path_keys.proofs.split.first_element.Goals as goal

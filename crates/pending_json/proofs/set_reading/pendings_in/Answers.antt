@@ -1,4 +1,4 @@
-use Rattle.basics.proofs.Reading.{with_front}
+use Rattle.text_and_lists.proofs.Reading.{with_front}
 use Rattle.pending_json.proofs.Loop.{one_more}
 use Rattle.pending_json.specs.Pending.{Pending}
 use Rattle.pending_json.specs.Reading.{pendings_in}

@@ -1,4 +1,4 @@
-use Rattle.basics.proofs.Reading.{with_front}
+use Rattle.text_and_lists.proofs.Reading.{with_front}
 use Rattle.pending_json.specs.Reading.{pendings_in}
 use Rattle.serde_json.specs.View.{items_view}
 use Rattle.std.proofs.Common.{drop, ◌≡◌}

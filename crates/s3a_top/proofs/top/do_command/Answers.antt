@@ -1,4 +1,4 @@
-use Rattle.durable_store.specs.declared.held.Held.{Held}
+use Rattle.durable_store.specs.declared.shelf_state.ShelfState.{ShelfState}
 use Rattle.s3a_top.proofs.Coming.{goes_job, goes_store, job_from}
 use Rattle.s3a_top.proofs.Crashing.{as_found}
 use Rattle.s3a_top.proofs.Halting.{load_halted}
@@ -69,4 +69,4 @@ returns-in-Err-clause-counted g c =
     let b = g.F.Shelf.faults c.args.shelf.now in
     let a = g.F.Shelf.faults c.load.new.shelf in
     subst (λ (t : Stop). Counted (Err t) i i b a) (sym c.of_shelf.ensures) (counted_shelf c.in-Err.stop i i b a refl
-    (load_counts Held c.in-Err.stop b a c.in-Err.ensures.counted))
+    (load_counts ShelfState c.in-Err.stop b a c.in-Err.ensures.counted))

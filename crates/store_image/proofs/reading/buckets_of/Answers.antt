@@ -1,6 +1,6 @@
-use Rattle.basics.proofs.Reading.{gives_fault, made_fault}
-use Rattle.basics.specs.Order.{text_cmp, text_total}
-use Rattle.basics.specs.Reading.{Fails, made}
+use Rattle.text_and_lists.proofs.Reading.{gives_fault, made_fault}
+use Rattle.text_and_lists.specs.Order.{text_cmp, text_total}
+use Rattle.text_and_lists.specs.Reading.{Fails, made}
 use Rattle.s3_service.specs.Ids.{IsFresh}
 use Rattle.s3_types.specs.Names.{is_bucket}
 use Rattle.s3_types.specs.Store.{BucketContent, Buckets, Content}

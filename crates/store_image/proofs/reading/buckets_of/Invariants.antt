@@ -1,4 +1,4 @@
-use Rattle.basics.specs.Order.{text_cmp}
+use Rattle.text_and_lists.specs.Order.{text_cmp}
 use Rattle.s3_types.specs.Names.{is_bucket}
 use Rattle.std.proofs.Common.{◌-◌, ◌≡◌}
 use Rattle.store_image.proofs.Loop.{built}

@@ -1,4 +1,4 @@
-use Rattle.basics.proofs.Reading.{found_so, only}
+use Rattle.text_and_lists.proofs.Reading.{found_so, only}
 use Rattle.s3_types.specs.Store.{Content}
 use Rattle.std.proofs.Common.{arith, ◌≡◌}
 use Rattle.store_image.proofs.Whole.{content_takes, one, read_again}

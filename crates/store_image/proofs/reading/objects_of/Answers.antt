@@ -1,4 +1,4 @@
-use Rattle.basics.proofs.Reading.{gives_fault}
+use Rattle.text_and_lists.proofs.Reading.{gives_fault}
 use Rattle.s3_types.specs.Names.{is_key}
 use Rattle.std.proofs.Common.{Err, Some, rules, ◌≡◌}
 use Rattle.store_image.proofs.Loop.{first_step, last_step, one_more, value_fails}

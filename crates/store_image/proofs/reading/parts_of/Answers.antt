@@ -1,5 +1,5 @@
-use Rattle.basics.proofs.Tree.{insert_same}
-use Rattle.basics.specs.Reading.{made}
+use Rattle.text_and_lists.proofs.Tree.{insert_same}
+use Rattle.text_and_lists.specs.Reading.{made}
 use Rattle.s3_types.specs.Store.{Parts, Upload}
 use Rattle.std.proofs.Common.{Ok, Option, Some, ap, nat_cmp, refl, subst, sym, ◌∙◌, ◌≡◌}
 use Rattle.std.proofs.lemmas.Cmp.{nat_cmp_total}

@@ -1,4 +1,4 @@
-use Rattle.basics.proofs.Reading.{gives_fault, unmade, unmade_fault}
+use Rattle.text_and_lists.proofs.Reading.{gives_fault, unmade, unmade_fault}
 use Rattle.s3_service.specs.Ids.{IsFresh}
 use Rattle.s3_types.specs.Store.{Upload}
 use Rattle.std.proofs.Common.{Err, None, Some, nat_cmp, refl, rules, subst, sym, ◌≡◌}

@@ -1,4 +1,4 @@
-use Rattle.basics.specs.Order.{text_total}
+use Rattle.text_and_lists.specs.Order.{text_total}
 use Rattle.block_stream.proofs.PartLaws.{get_same}
 use Rattle.block_stream.specs.Stream.{Stream}
 use Rattle.s3_types.specs.Store.{new_bucket}

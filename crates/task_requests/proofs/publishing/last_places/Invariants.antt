@@ -1,4 +1,4 @@
-use Rattle.basics.specs.Order.{text_eq}
+use Rattle.text_and_lists.specs.Order.{text_eq}
 use Rattle.indexmap.specs.IndexMap.{get}
 use Rattle.std.proofs.Common.{List, take, ℕ}
 use Rattle.task_requests.specs.Publishing.{IsLastAt}

@@ -1,4 +1,4 @@
-use Rattle.basics.specs.Order.{text_eq}
+use Rattle.text_and_lists.specs.Order.{text_eq}
 use Rattle.indexmap.specs.IndexMap.{get}
 use Rattle.job_model.specs.Jobs.{Task}
 use Rattle.job_protocol.specs.Knowledge.{as_made}

@@ -1,6 +1,6 @@
 use Rattle.std.proofs.Common.{length, ◌≡◌}
 use Rattle.std.specs.List.{list_all}
-use Rattle.basics.specs.Parts.{parts_of}
+use Rattle.text_and_lists.specs.Parts.{parts_of}
 use Rattle.trace_reader.specs.Reading.{is_some_text}
 use Rattle.trace_reader.proofs.paths.are_some.Given as goal
 

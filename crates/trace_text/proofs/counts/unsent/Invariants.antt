@@ -1,6 +1,6 @@
 use Rattle.std.proofs.Common.{◌+◌, ◌-◌, ◌≡◌, ◌≤◌, length}
 use Rattle.trace_text.specs.Trace.{unsent}
-use Rattle.basics.proofs.EntriesFrom.{entries_from}
+use Rattle.text_and_lists.proofs.EntriesFrom.{entries_from}
 use Rattle.trace_text.proofs.counts.unsent.Given as goal
 
 abbrev pub invariant-losses : goal.invariant-losses

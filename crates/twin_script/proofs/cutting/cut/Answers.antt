@@ -1,4 +1,4 @@
-use Rattle.basics.specs.Parts.{parts_after}
+use Rattle.text_and_lists.specs.Parts.{parts_after}
 use Rattle.std.proofs.Common.{ap, option_map, refl, sym, ◌∙◌, ◌∷◌}
 use Rattle.twin_script.proofs.CutLines.{goes_on, last_none, last_parts, none_parts, parts_here}
 use Rattle.twin_script.specs.Cutting.{is_parting}

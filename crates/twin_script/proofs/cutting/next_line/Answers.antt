@@ -1,5 +1,5 @@
-use Rattle.basics.specs.Lines.{lines_of}
-use Rattle.basics.specs.Parts.{parts_after}
+use Rattle.text_and_lists.specs.Lines.{lines_of}
+use Rattle.text_and_lists.specs.Parts.{parts_after}
 use Rattle.std.proofs.Common.{List, ap, option_map, sym, ℕ, ◌∙◌, ◌∷◌}
 use Rattle.twin_script.proofs.Lines.{line_at_end, line_at_lf}
 use Rattle.twin_script.proofs.cutting.next_line.Goals as goal

@@ -1,6 +1,6 @@
-use Rattle.basics.proofs.Counts.{not_two}
-use Rattle.basics.specs.Parts.{parts_after}
-use Rattle.basics.specs.Shapes.{two}
+use Rattle.text_and_lists.proofs.Counts.{not_two}
+use Rattle.text_and_lists.specs.Parts.{parts_after}
+use Rattle.text_and_lists.specs.Shapes.{two}
 use Rattle.std.proofs.Common.{List, ap, option_map, sym, ℕ, ◌∙◌, ◌∷◌}
 use Rattle.twin_script.proofs.cutting.two_words.Goals as goal
 

@@ -1,4 +1,4 @@
-use Rattle.basics.specs.Lines.{lines_of}
+use Rattle.text_and_lists.specs.Lines.{lines_of}
 use Rattle.std.proofs.Common.{length, ◌+◌, ◌≡◌, ◌≤◌}
 use Rattle.twin_script.specs.Order.{lines_at, nothing}
 use Rattle.twin_script.proofs.order.draft_of.Given as goal

@@ -1,4 +1,4 @@
-use Rattle.basics.specs.Words.{text_of}
+use Rattle.text_and_lists.specs.Words.{text_of}
 use Rattle.std.proofs.Common.{drop, map, string_bytes, ◌++◌, ◌≡◌}
 use Rattle.twin_script.specs.Print.{turn_line}
 use Rattle.twin_script.proofs.print.put_turns.Given as goal

@@ -1,4 +1,4 @@
-use Rattle.basics.proofs.Reading.{found, only}
+use Rattle.text_and_lists.proofs.Reading.{found, only}
 use Rattle.twin_script.specs.Fault.{wanting}
 use Rattle.twin_script.specs.Twins.{twins_of}
 use Rattle.twin_script.proofs.reading.read_twins.Goals as goal

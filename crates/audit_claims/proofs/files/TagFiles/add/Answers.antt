@@ -1,5 +1,5 @@
 use Rattle.std.proofs.Common.{◌∙◌}
-use Rattle.basics.specs.Order.{text_eq}
+use Rattle.text_and_lists.specs.Order.{text_eq}
 use Rattle.audit_claims.proofs.Entries.{insert_new}
 use Rattle.audit_claims.proofs.files.TagFiles.add.Goals as goal
 

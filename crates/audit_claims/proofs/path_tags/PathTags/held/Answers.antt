@@ -1,7 +1,7 @@
 use Rattle.std.proofs.Common.{◌∙◌, ap, sym}
 use Rattle.std.specs.FinMap as map
-use Rattle.basics.specs.Order.{text_total}
-use Rattle.basics.proofs.Tree.{entries_made}
+use Rattle.text_and_lists.specs.Order.{text_total}
+use Rattle.text_and_lists.proofs.Tree.{entries_made}
 use Rattle.audit_claims.proofs.path_tags.PathTags.held.Goals as goal
 
 pub returns : goal.returns

@@ -1,5 +1,5 @@
-use Rattle.basics.proofs.Tree.{made_remove}
-use Rattle.basics.specs.Order.{text_total}
+use Rattle.text_and_lists.proofs.Tree.{made_remove}
+use Rattle.text_and_lists.specs.Order.{text_total}
 use Rattle.std.proofs.Common.{ap, ◌∙◌}
 use Rattle.std.proofs.lemmas.Map.Lookups.{exact_bytes}
 use Rattle.std.specs.FinMap as map

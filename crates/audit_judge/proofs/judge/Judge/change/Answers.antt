@@ -4,7 +4,7 @@ use Rattle.audit_judge.specs.Bench.{Bench}
 use Rattle.audit_judge.specs.Changes.{paths_of}
 use Rattle.audit_judge.specs.Scene.{Scene}
 use Rattle.audit_judge.specs.declared.change.Change.{Change}
-use Rattle.basics.specs.Order.{text_cmp}
+use Rattle.text_and_lists.specs.Order.{text_cmp}
 use Rattle.std.proofs.Common.{List}
 use Rattle.std.specs.List.Sorted.{IsStrictlySortedBy}
 use Rattle.audit_judge.proofs.judge.Judge.change.Goals as goal

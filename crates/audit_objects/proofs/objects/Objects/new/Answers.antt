@@ -1,7 +1,7 @@
 use Rattle.std.proofs.Common.{List, [], ℕ, ap, ◌∙◌}
 use Rattle.std.specs.FinMap as map
-use Rattle.basics.specs.Order.{text_cmp, text_total}
-use Rattle.basics.proofs.Tree.{get_made}
+use Rattle.text_and_lists.specs.Order.{text_cmp, text_total}
+use Rattle.text_and_lists.proofs.Tree.{get_made}
 use Rattle.audit_claims.specs.Etags.{TagMap}
 use Rattle.audit_objects.specs.Objects.{tags_in}
 use Rattle.audit_objects.proofs.objects.Objects.new.Goals as goal

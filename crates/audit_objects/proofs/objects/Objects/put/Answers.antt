@@ -1,7 +1,7 @@
 use Rattle.audit_claims.specs.Etags.{TagMap}
 use Rattle.audit_objects.proofs.Places.{found, has_put, one_put, unwritten}
 use Rattle.audit_objects.specs.Objects.{ObjectMap, at, put}
-use Rattle.basics.specs.Order.{text_cmp}
+use Rattle.text_and_lists.specs.Order.{text_cmp}
 use Rattle.std.proofs.Common.{List, None, OnOk, Option, Some, ap, refl, subst, sym, ℕ, ◌∙◌, ◌≡◌}
 use Rattle.std.specs.BTreeMap.{BTreeMap, is_at}
 use Rattle.std.specs.Map.{lookup}

@@ -1,4 +1,4 @@
-use Rattle.basics.proofs.Options.{none_is}
+use Rattle.text_and_lists.proofs.Options.{none_is}
 use Rattle.block_stream.proofs.Invariant.{long_in, short_in}
 use Rattle.block_stream.specs.Kept.{front_of}
 use Rattle.block_stream.specs.Stream.{Stream, wrote}

@@ -1,4 +1,4 @@
-use Rattle.basics.proofs.Options.{none_is}
+use Rattle.text_and_lists.proofs.Options.{none_is}
 use Rattle.block_stream.proofs.Invariant.{close_in}
 use Rattle.block_stream.proofs.Written.{asked_closed, holds_closed, shut_ended}
 use Rattle.block_stream.specs.Kept.{front_of, last_of, seen}

@@ -1,5 +1,5 @@
-use Rattle.basics.proofs.Tree.{entries_made}
-use Rattle.basics.specs.Order.{text_total}
+use Rattle.text_and_lists.proofs.Tree.{entries_made}
+use Rattle.text_and_lists.specs.Order.{text_total}
 use Rattle.cluster_fs.proofs.Listed.{is_rest}
 use Rattle.s3_types.specs.Pages.{begins}
 use Rattle.std.proofs.Common.{List, ap, subst, sym, ℕ, ◌∙◌, ◌≡◌}

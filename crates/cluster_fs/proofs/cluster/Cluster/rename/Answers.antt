@@ -1,4 +1,4 @@
-use Rattle.basics.specs.Order.{text_eq}
+use Rattle.text_and_lists.specs.Order.{text_eq}
 use Rattle.cluster_fs.proofs.Renamed.{onto_another, onto_itself}
 use Rattle.cluster_fs.proofs.cluster.Cluster.rename.Goals.{else-ne, then-ne}
 use Rattle.s3_types.specs.Answer.{renamed}

@@ -1,4 +1,4 @@
-use Rattle.commit_laws.specs.Fitting.{FitsReply}
+use Rattle.commit_lanes.specs.Fitting.{FitsReply}
 use Rattle.job_commit.proofs.Steps.{deletion_told, fits_deletion}
 use Rattle.job_commit.specs.Stages.{operation_of}
 use Rattle.job_commit.specs.declared.step.Step.{Step}

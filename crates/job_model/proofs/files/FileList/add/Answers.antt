@@ -1,4 +1,4 @@
-use Rattle.basics.specs.Order.{text_eq}
+use Rattle.text_and_lists.specs.Order.{text_eq}
 use Rattle.job_model.proofs.Entries.{insert_new}
 use Rattle.std.proofs.Common.{◌∙◌}
 use Rattle.job_model.proofs.files.FileList.add.Goals as goal

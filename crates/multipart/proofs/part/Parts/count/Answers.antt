@@ -1,4 +1,4 @@
-use Rattle.basics.proofs.Tree.{len_made}
+use Rattle.text_and_lists.proofs.Tree.{len_made}
 use Rattle.multipart.proofs.Numbered.{few_parts}
 use Rattle.std.proofs.Common.{List, ap, arith, length, subst, sym, ℕ, ◌∙◌, ◌≡◌, ◌≤◌}
 use Rattle.std.specs.Cmp.{nat_cmp_total}

@@ -1,4 +1,4 @@
-use Rattle.basics.proofs.Tree.{entries_made}
+use Rattle.text_and_lists.proofs.Tree.{entries_made}
 use Rattle.multipart.proofs.Numbered.{all_numbered}
 use Rattle.s3_types.specs.Multipart.{is_part_number}
 use Rattle.std.proofs.Common.{List, ap, subst, sym, true, ℕ, ◌∙◌, ◌≡◌}

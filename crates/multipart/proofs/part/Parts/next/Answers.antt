@@ -1,4 +1,4 @@
-use Rattle.basics.proofs.Tree.{entries_made}
+use Rattle.text_and_lists.proofs.Tree.{entries_made}
 use Rattle.multipart.proofs.Rows.{next_at}
 use Rattle.std.proofs.Common.{List, ap, length, refl, sym, ℕ, ◌∙◌}
 use Rattle.std.proofs.lemmas.Option.{slice_get_past, slice_get_read}

@@ -1,4 +1,4 @@
-use Rattle.basics.proofs.Tree.{entries_made}
+use Rattle.text_and_lists.proofs.Tree.{entries_made}
 use Rattle.s3_types.specs.Multipart.{size_of}
 use Rattle.std.proofs.Common.{ap, map, sym, ◌∙◌}
 use Rattle.std.proofs.lemmas.List.{take_all}

@@ -1,4 +1,4 @@
-use Rattle.basics.proofs.Tree.{entries_made}
+use Rattle.text_and_lists.proofs.Tree.{entries_made}
 use Rattle.multipart.proofs.Keyed.{refs_total}
 use Rattle.s3_types.specs.Multipart.{ref_cmp}
 use Rattle.s3_types.specs.declared.request.UploadRef.{UploadRef}

@@ -1,4 +1,4 @@
-use Rattle.basics.proofs.Tree.{made_insert}
+use Rattle.text_and_lists.proofs.Tree.{made_insert}
 use Rattle.multipart.proofs.Keyed.{exact_refs, refs_total}
 use Rattle.std.proofs.Common.{ap, ◌∙◌}
 use Rattle.std.specs.FinMap as fin

@@ -1,4 +1,4 @@
-use Rattle.basics.proofs.Tree.{made_insert}
+use Rattle.text_and_lists.proofs.Tree.{made_insert}
 use Rattle.std.proofs.Common.{ap, ◌∙◌}
 use Rattle.std.proofs.lemmas.Map.Lookups.{exact_unsigned}
 use Rattle.std.specs.Cmp.{nat_cmp_total}

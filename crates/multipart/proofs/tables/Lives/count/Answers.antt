@@ -1,4 +1,4 @@
-use Rattle.basics.proofs.Tree.{len_made}
+use Rattle.text_and_lists.proofs.Tree.{len_made}
 use Rattle.std.proofs.Common.{ap, sym, ◌∙◌}
 use Rattle.std.specs.Cmp.{nat_cmp_total}
 use Rattle.std.specs.FinMap as fin

@@ -1,4 +1,4 @@
-use Rattle.basics.proofs.Tree.{entries_made, first_taken}
+use Rattle.text_and_lists.proofs.Tree.{entries_made, first_taken}
 use Rattle.s3_types.specs.Store.{Upload}
 use Rattle.std.proofs.Common.{List, ap, sym, ℕ, ◌∙◌}
 use Rattle.std.specs.BTreeMap.Range.{entries_between}

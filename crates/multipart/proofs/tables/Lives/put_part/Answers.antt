@@ -1,4 +1,4 @@
-use Rattle.basics.proofs.Tree.{get_made, insert_same, made_insert}
+use Rattle.text_and_lists.proofs.Tree.{get_made, insert_same, made_insert}
 use Rattle.s3_types.specs.Multipart.{with_part}
 use Rattle.s3_types.specs.Store.{Upload}
 use Rattle.std.proofs.Common.{None, Option, Some, ap, refl, subst, sym, ◌∙◌, ◌≡◌}

@@ -1,4 +1,4 @@
-use Rattle.basics.proofs.Tree.{get_made, made_remove}
+use Rattle.text_and_lists.proofs.Tree.{get_made, made_remove}
 use Rattle.std.proofs.Common.{ap, sym, ◌∙◌}
 use Rattle.std.proofs.lemmas.Map.Lookups.{exact_unsigned}
 use Rattle.std.specs.Cmp.{nat_cmp_total}

@@ -1,4 +1,4 @@
-use Rattle.basics.proofs.Tree.{insert_remove}
+use Rattle.text_and_lists.proofs.Tree.{insert_remove}
 use Rattle.multipart.proofs.Keyed.{keyed_insert}
 use Rattle.multipart.specs.Index.{keyed}
 use Rattle.std.proofs.Common.{None, ap, arith, sym, ◌∙◌, ◌≡◌, ◌≤◌}

@@ -1,5 +1,5 @@
-use Rattle.basics.proofs.Less.{lt}
-use Rattle.basics.specs.Order.{text_cmp}
+use Rattle.text_and_lists.proofs.Less.{lt}
+use Rattle.text_and_lists.specs.Order.{text_cmp}
 use Rattle.multipart.proofs.Follow.{first_after, later_rest}
 use Rattle.s3_types.specs.declared.request.UploadRef.{UploadRef}
 use Rattle.std.proofs.Common.{List, false, length, nat_lt, subst, take, true, ◌∙◌, ◌≡◌}

@@ -1,5 +1,5 @@
-use Rattle.basics.proofs.Viewed.{len_viewed}
-use Rattle.basics.specs.Order.{text_total}
+use Rattle.text_and_lists.proofs.Viewed.{len_viewed}
+use Rattle.text_and_lists.specs.Order.{text_total}
 use Rattle.object_store.specs.declared.objects.Held.{Held}
 use Rattle.std.proofs.Common.{ap, sym, ◌∙◌}
 use Rattle.std.specs.FinMap as map

@@ -1,5 +1,5 @@
-use Rattle.basics.proofs.Viewed.{viewed_remove}
-use Rattle.basics.specs.Order.{text_cmp, text_total}
+use Rattle.text_and_lists.proofs.Viewed.{viewed_remove}
+use Rattle.text_and_lists.specs.Order.{text_cmp, text_total}
 use Rattle.object_store.proofs.Own.{own_remove}
 use Rattle.object_store.specs.Held.{AreOwn}
 use Rattle.object_store.specs.declared.objects.Held.{Held}

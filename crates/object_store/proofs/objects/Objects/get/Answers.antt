@@ -1,4 +1,4 @@
-use Rattle.basics.specs.Order.{text_cmp}
+use Rattle.text_and_lists.specs.Order.{text_cmp}
 use Rattle.object_store.proofs.Own.{got}
 use Rattle.std.proofs.Common.{None, Some, ap, ◌∙◌}
 use Rattle.std.specs.BTreeMap.{get_by}

@@ -1,5 +1,5 @@
-use Rattle.basics.proofs.Viewed.{entries_viewed}
-use Rattle.basics.specs.Order.{text_total}
+use Rattle.text_and_lists.proofs.Viewed.{entries_viewed}
+use Rattle.text_and_lists.specs.Order.{text_total}
 use Rattle.object_store.proofs.Own.{own_contents}
 use Rattle.object_store.specs.Held.{lent}
 use Rattle.object_store.specs.declared.objects.Held.{Held}

@@ -1,4 +1,4 @@
-use Rattle.basics.proofs.Tree.{filter_all}
+use Rattle.text_and_lists.proofs.Tree.{filter_all}
 use Rattle.object_store.proofs.Next.{is_next}
 use Rattle.object_store.specs.Objects.{IsNext, next_of}
 use Rattle.s3_types.specs.declared.object.Object.{Object}

@@ -1,5 +1,5 @@
-use Rattle.basics.proofs.Tree.{map_sorted}
-use Rattle.basics.specs.Order.{text_cmp}
+use Rattle.text_and_lists.proofs.Tree.{map_sorted}
+use Rattle.text_and_lists.specs.Order.{text_cmp}
 use Rattle.s3_types.specs.Pages.{begins}
 use Rattle.s3_types.specs.declared.object.Object.{Object}
 use Rattle.std.proofs.Common.{List, None, Some, ap, cond, false, subst, sym, true, ℕ, ◌∙◌, ◌≡◌}

@@ -1,5 +1,5 @@
-use Rattle.basics.proofs.Viewed.{viewed_insert}
-use Rattle.basics.specs.Order.{text_total}
+use Rattle.text_and_lists.proofs.Viewed.{viewed_insert}
+use Rattle.text_and_lists.specs.Order.{text_total}
 use Rattle.object_store.proofs.Own.{own_insert}
 use Rattle.object_store.specs.Held.{AreOwn}
 use Rattle.object_store.specs.declared.objects.Held.{Held}

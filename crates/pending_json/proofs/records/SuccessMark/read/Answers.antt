@@ -1,4 +1,4 @@
-use Rattle.basics.proofs.Reading.{found_so, only}
+use Rattle.text_and_lists.proofs.Reading.{found_so, only}
 use Rattle.pending_json.proofs.Relations.{success_found, success_only}
 use Rattle.pending_json.specs.Fault.{wanting}
 use Rattle.pending_json.specs.Records.{Spell}

@@ -1,4 +1,4 @@
-use Rattle.basics.proofs.Options.{some_mapped}
+use Rattle.text_and_lists.proofs.Options.{some_mapped}
 use Rattle.pending_json.proofs.Sent.{begun_with, sizes_are, tags_are, text_is, upload_sent, whole_is}
 use Rattle.pending_json.specs.Trees.{version_of}
 use Rattle.std.proofs.Common.{ap, cond, is_some, sym, ◌∙◌, ◌≡◌}

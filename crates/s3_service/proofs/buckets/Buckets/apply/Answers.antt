@@ -1,4 +1,4 @@
-use Rattle.basics.specs.Order.{text_cmp}
+use Rattle.text_and_lists.specs.Order.{text_cmp}
 use Rattle.s3_service.proofs.Changed.{absent, found, unwritten, written}
 use Rattle.s3_types.specs.Answer.{answer_in, apply_in}
 use Rattle.s3_types.specs.Store.{BucketContent}

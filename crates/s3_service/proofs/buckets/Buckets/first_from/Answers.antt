@@ -1,5 +1,5 @@
-use Rattle.basics.proofs.Tree.{entries_made, first_taken}
-use Rattle.basics.specs.Order.{text_cmp, text_total}
+use Rattle.text_and_lists.proofs.Tree.{entries_made, first_taken}
+use Rattle.text_and_lists.specs.Order.{text_cmp, text_total}
 use Rattle.s3_types.specs.Store.{BucketContent}
 use Rattle.std.proofs.Common.{List, Some, ap, sym, ℕ, ◌∙◌, ◌≡◌}
 use Rattle.std.specs.BTreeMap.Range.{entries_between}

@@ -1,5 +1,5 @@
-use Rattle.basics.proofs.Tree.{entries_made}
-use Rattle.basics.specs.Order.{text_total}
+use Rattle.text_and_lists.proofs.Tree.{entries_made}
+use Rattle.text_and_lists.specs.Order.{text_total}
 use Rattle.std.proofs.Common.{ap, sym, ◌∙◌}
 use Rattle.std.specs.FinMap as map
 use Rattle.s3_service.proofs.buckets.Buckets.iter.Goals as goal

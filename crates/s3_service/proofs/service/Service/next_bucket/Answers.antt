@@ -1,4 +1,4 @@
-use Rattle.basics.proofs.Tree.{filter_all}
+use Rattle.text_and_lists.proofs.Tree.{filter_all}
 use Rattle.s3_service.proofs.Next.{is_next}
 use Rattle.s3_service.specs.Next.{IsNext, next_of}
 use Rattle.s3_types.specs.Store.{BucketContent, Content}

@@ -1,6 +1,0 @@
-use Rattle.std.proofs.Common.{rules}
-use Rattle.actor_operations.proofs.Beginnings.{begins_write, task_begun}
-use Rattle.actor_operations.proofs.begun.begin_write.Goals as goal
-
-pub returns-in-Ok-clause-begins : goal.returns-in-Ok-clause-begins
-returns-in-Ok-clause-begins c = task_begun (begins_write c.args.plan) (search rules)

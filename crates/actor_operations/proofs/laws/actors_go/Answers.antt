@@ -1,5 +1,0 @@
-use Rattle.actor_operations.proofs.ActorsGo.{actors_go}
-use Rattle.actor_operations.proofs.laws.actors_go.Goals as goal
-
-pub returns : goal.returns
-returns c = actors_go

@@ -1,5 +1,0 @@
-use Rattle.actor_operations.proofs.WorkLaws.{act_works}
-use Rattle.actor_operations.proofs.works.ActWorks.laws.Goals as goal
-
-pub returns : goal.returns
-returns c = act_works

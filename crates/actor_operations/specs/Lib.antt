@@ -1,7 +1,0 @@
-pub mod Acts
-pub mod Falls
-pub mod ActLaws
-pub mod Plans
-pub mod Laws
-pub mod Beside
-pub mod Rising

@@ -1,2 +1,0 @@
-pub mod CommitEnds
-pub mod Falling

@@ -1,5 +1,0 @@
-use Rattle.commit_laws.proofs.CommitEnds.{commit_ends}
-use Rattle.commit_laws.proofs.ends_by_entries.Goals as goal
-
-pub returns : goal.returns
-returns c = record { ends = commit_ends }

@@ -1,5 +1,0 @@
-use Rattle.commit_parts.proofs.SamePaths.{same_path_is}
-use Rattle.commit_parts.proofs.laws.same_paths.Goals as goal
-
-pub returns : goal.returns
-returns c = record { same = same_path_is }

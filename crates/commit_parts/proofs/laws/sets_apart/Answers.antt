@@ -1,5 +1,0 @@
-use Rattle.commit_parts.proofs.KeysApart.{sets_apart}
-use Rattle.commit_parts.proofs.laws.sets_apart.Goals as goal
-
-pub returns : goal.returns
-returns c = record { apart = sets_apart }

@@ -1,6 +1,0 @@
-use Rattle.commit_parts.specs.Places.{row}
-use Rattle.std.proofs.Common.{◌++◌, ◌≡◌}
-use Rattle.commit_parts.proofs.places.add_row.Given as goal
-
-abbrev pub invariant-loop-index : goal.invariant-loop-index
-invariant-loop-index l = l.places ≡ l.initial.places ++ row l.set l.index

@@ -1,5 +1,0 @@
-use Rattle.job_facts.proofs.Starting.{facts_begin, idle_keeps}
-use Rattle.job_facts.proofs.beginning.Goals as goal
-
-pub returns : goal.returns
-returns c = record { begins = facts_begin; reads = idle_keeps }

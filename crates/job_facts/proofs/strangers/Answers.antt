@@ -1,5 +1,0 @@
-use Rattle.job_facts.proofs.Foreign.{foreign_keeps}
-use Rattle.job_facts.proofs.strangers.Goals as goal
-
-pub returns : goal.returns
-returns c = record { foreign = foreign_keeps }

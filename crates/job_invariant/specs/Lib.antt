@@ -1,0 +1,17 @@
+pub mod Told
+pub mod Stores
+pub mod Facts
+pub mod Foreign
+pub mod Fits
+pub mod Driver
+pub mod Emptying
+pub mod FactsKeep
+pub mod SetupLaws
+pub mod Clearing
+pub mod Standing
+pub mod Turning
+pub mod Filed
+pub mod FiledLaws
+pub mod Within
+pub mod StandingLaws
+pub mod Spares

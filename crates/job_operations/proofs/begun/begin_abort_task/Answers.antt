@@ -1,0 +1,6 @@
+use Rattle.std.proofs.Common.{rules}
+use Rattle.job_operations.proofs.Beginnings.{begins_abort_task, task_begun}
+use Rattle.job_operations.proofs.begun.begin_abort_task.Goals as goal
+
+pub returns-in-Ok-clause-begins : goal.returns-in-Ok-clause-begins
+returns-in-Ok-clause-begins c = task_begun (begins_abort_task c.args.plan) (search rules)

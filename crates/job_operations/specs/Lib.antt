@@ -1,0 +1,7 @@
+pub mod Acts
+pub mod Falls
+pub mod ActLaws
+pub mod Plans
+pub mod Begins
+pub mod Beside
+pub mod Rising

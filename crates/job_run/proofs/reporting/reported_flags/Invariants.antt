@@ -1,0 +1,5 @@
+use Rattle.job_run.specs.Reporting.{AreFlags}
+use Rattle.job_run.proofs.reporting.reported_flags.Given as goal
+
+abbrev pub invariant-loop-place : goal.invariant-loop-place
+invariant-loop-place l = AreFlags l.script l.states l.place l.flags.items

@@ -1,5 +1,0 @@
-use Rattle.job_side.proofs.Beside.{rests_beside}
-use Rattle.job_side.proofs.body.Body.beside.Goals as goal
-
-pub returns : goal.returns
-returns g c = rests_beside g.W.Acts.wants g.W.Works.is_of g.W.Works.running g.W.Works.picks_of

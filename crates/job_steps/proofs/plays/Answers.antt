@@ -1,5 +1,0 @@
-use Rattle.job_steps.proofs.Played.{happenings_play}
-use Rattle.job_steps.proofs.plays.Goals as goal
-
-pub returns : goal.returns
-returns c = record { played = happenings_play }

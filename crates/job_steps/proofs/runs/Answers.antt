@@ -1,5 +1,0 @@
-use Rattle.job_steps.proofs.Running.{is_run}
-use Rattle.job_steps.proofs.runs.Goals as goal
-
-pub returns : goal.returns
-returns c = record { run = λ g opening x j is_opening past ends ahead. is_run g opening j is_opening x past ends ahead }

@@ -1,3 +1,0 @@
-pub mod Transitions
-pub mod Laws
-pub mod Running

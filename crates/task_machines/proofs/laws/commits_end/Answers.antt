@@ -1,5 +1,0 @@
-use Rattle.task_machines.proofs.CommitFalls.{commit_falls}
-use Rattle.task_machines.proofs.laws.commits_end.Goals as goal
-
-pub returns : goal.returns
-returns c = record { falls = commit_falls }

@@ -1,5 +1,0 @@
-use Rattle.task_machines.proofs.WriteFalls.{write_falls}
-use Rattle.task_machines.proofs.laws.writes_end.Goals as goal
-
-pub returns : goal.returns
-returns c = record { falls = write_falls }

@@ -1,8 +1,0 @@
-use Rattle.job_protocol.specs.AtWork.{write_wants}
-use Rattle.std.proofs.Common.{ap}
-use Rattle.task_machines.specs.Tasks.{at}
-use Rattle.job_protocol.specs.Writes as writes
-use Rattle.task_staging.proofs.write.KeepingHoldsTheWrite.ask.Goals as goal
-
-pub returns : goal.returns
-returns c = ap (λ (o : writes.Write). write_wants (at c.args.plan.now o)) c.self.view_is
