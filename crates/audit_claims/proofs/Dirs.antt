@@ -1,5 +1,6 @@
 -- Parent directories of paths, and sets of directories.
-use Rattle.audit_claims.specs.Directories.{AreDirectories, has_dir}
+use Rattle.audit_claims.specs.Directories.{has_dir}
+use Rattle.audit_claims.specs.inner.Directories.{AreDirectories}
 use Rattle.text_and_lists.proofs.Bools.{contrary}
 use Rattle.text_and_lists.proofs.Members.{false_true, same_or_not, text_is, text_true, true_or_false}
 use Rattle.text_and_lists.specs.Members.{IsIn}

@@ -7,7 +7,8 @@ use Rattle.text_and_lists.specs.Order.{text_eq}
 use Rattle.text_and_lists.proofs.Members.{some_is, none_some, false_true, eq_nat, nat_true, text_is}
 use Rattle.soundness.specs.Claims.{Files, file_at}
 use Rattle.judging.specs.Listed.{Listed, Numbered, numbered, with_attempt, with_last, with_file, writes_among, owner}
-use Rattle.audit_claims.specs.Claims.{Claimed, IsIndexed, Tags, last_has}
+use Rattle.audit_claims.specs.Claims.{Claimed, Tags, last_has}
+use Rattle.audit_claims.specs.inner.Claims.{IsIndexed}
 use Rattle.audit_claims.specs.Fits.{fit_by, fit_of}
 use Rattle.audit_claims.specs.declared.claims.FileFit.TheVariants.{Added, Repeated, SamePath}
 

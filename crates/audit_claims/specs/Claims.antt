@@ -1,9 +1,7 @@
 -- The claim of a trace, as its lines list it.
-use Rattle.std.specs.Prelude.{◌≡◌, ◌<◌, ℕ, List, [], Bool, is_some, length}
-use Rattle.std.specs.Map.{lookup}
-use Rattle.text_and_lists.specs.Order.{text_eq}
+use Rattle.judging.specs.Listed.{Listed, last_files, numbered, with_attempt}
 use Rattle.soundness.specs.Claims.{file_at}
-use Rattle.judging.specs.Listed.{Listed, last_files, numbered, owner, with_attempt}
+use Rattle.std.specs.Prelude.{Bool, List, is_some, length, ℕ, [], ◌<◌, ◌≡◌}
 
 -- The identity of a content: the tags of its parts.
 abbrev pub Tags : Type 0
@@ -30,8 +28,3 @@ AllListed listed tasks = (t : ℕ) → t < tasks → 0 < length (numbered t list
 pub record IsFirstMissing (listed : Listed Tags) (t : ℕ) : Type 0 where
   pub missing : numbered t listed ≡ []
   pub before : AllListed listed t
-
--- The index maps each path to the task that owns it. If attempts are listed, the task of the last one has an attempt.
-pub record IsIndexed (listed : Listed Tags) (index : List (List ℕ × ℕ)) (current : ℕ) : Type 0 where
-  pub owners : (p : List ℕ) → lookup (text_eq p) index ≡ owner p listed
-  pub some : 0 < length listed → 0 < length (numbered current listed)

@@ -1,19 +1,14 @@
 -- Which directories attempts write into, and which paths are below them.
-use Rattle.std.specs.Prelude.{◌≡◌, ◌&&◌, ℕ, List, [], ◌∷◌, Bool, false, map}
-use Rattle.std.specs.List.{list_any, list_all}
-use Rattle.text_and_lists.specs.Order.{text_eq}
-use Rattle.soundness.specs.Claims.{Attempts, always_reaches, directory, reaches, writes_into}
-use Rattle.judging.specs.Listed.{Listed, Numbered}
 use Rattle.audit_claims.specs.Claims.{Tags}
+use Rattle.judging.specs.Listed.{Listed, Numbered}
+use Rattle.soundness.specs.Claims.{Attempts, always_reaches, reaches, writes_into}
+use Rattle.std.specs.List.{list_all, list_any}
+use Rattle.std.specs.Prelude.{Bool, List, false, map, ℕ, [], ◌&&◌, ◌∷◌, ◌≡◌}
+use Rattle.text_and_lists.specs.Order.{text_eq}
 
 -- The set has this directory.
 abbrev pub has_dir : List ℕ → List (List ℕ) → Bool
 has_dir d dirs = list_any (text_eq d) dirs
-
--- Each of these is its own parent directory, as a directory is: it ends in `/`, or is empty.
-abbrev pub AreDirectories : List (List ℕ) → Type 0
-AreDirectories [] = Unit {0}
-AreDirectories (d ∷ dirs) = (directory d ≡ d) × AreDirectories dirs
 
 -- The attempts of a task by their files.
 abbrev pub files_of : {I : Type 0} → Numbered I → Attempts I

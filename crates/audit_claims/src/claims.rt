@@ -37,7 +37,8 @@ pub struct Claims {
 }
 
 impl Model for Claims {
-    ghost use Rattle.audit_claims.specs.Claims.{Claimed, IsIndexed};
+    ghost use Rattle.audit_claims.specs.Claims.{Claimed};
+    ghost use Rattle.audit_claims.specs.inner.Claims.{IsIndexed};
 
     ghost Value = { Claimed };
 

@@ -16,7 +16,7 @@ pub(crate) struct DirSet {
 
 impl Model for DirSet {
     ghost use Rattle.std.specs.Prelude.{ℕ, List, map};
-    ghost use Rattle.audit_claims.specs.Directories.{AreDirectories};
+    ghost use Rattle.audit_claims.specs.inner.Directories.{AreDirectories};
 
     ghost Value = { List (List ℕ) };
 

@@ -31,10 +31,13 @@ use Rattle.audit_judge.specs.Reasons.{Holds, IsFirst}
 use Rattle.judging.proofs.InTurn.{in_turn}
 use Rattle.judging.proofs.Listed.{listed_claims}
 use Rattle.judging.proofs.Reasons.{reasons_tell}
-use Rattle.audit_judge.specs.Deciding.{Answers, Followed, bench_of, early_of, left_paths, marked_of, stale_of, whole_paths}
+use Rattle.audit_judge.specs.Deciding.{Answers, bench_of}
+use Rattle.audit_judge.specs.inner.Deciding.{Followed, early_of, left_paths, marked_of, stale_of, whole_paths}
 use Rattle.audit_judge.specs.Following.{Follows, GoodList}
-use Rattle.audit_judge.specs.Narrowed.{Fitting, TellsOfAll, TellsOfTask, has_flag, least_from, narrow_all, paths_of_all}
-use Rattle.audit_judge.specs.Scene.{Scene, meets, shows_sign}
+use Rattle.audit_judge.specs.Narrowed.{TellsOfAll, TellsOfTask, has_flag}
+use Rattle.audit_judge.specs.inner.Narrowed.{Fitting, least_from, narrow_all, paths_of_all}
+use Rattle.audit_judge.specs.Scene.{Scene}
+use Rattle.audit_judge.specs.inner.Scene.{meets, shows_sign}
 use Rattle.audit_judge.specs.declared.change.Change.{Change}
 use Rattle.audit_judge.specs.declared.reason.Reason.{Reason}
 use Rattle.audit_judge.specs.declared.reason.Reason.TheVariants as told

@@ -21,7 +21,8 @@ use Rattle.audit_judge.proofs.Narrowed.{among}
 use Rattle.audit_judge.proofs.Steps.{AllUp, follows_first}
 use Rattle.audit_judge.specs.Bench.{Bench}
 use Rattle.audit_judge.specs.Deciding.{bench_of}
-use Rattle.audit_judge.specs.Scene.{AreKnown, Scene}
+use Rattle.audit_judge.specs.Scene.{Scene}
+use Rattle.audit_judge.specs.inner.Scene.{AreKnown}
 use Rattle.soundness.specs.declared.marker.Marker.{Marker}
 use Rattle.audit_claims.proofs.Owned.{some_attempt, some_file}
 use Rattle.audit_claims.specs.Directories.{Reached}

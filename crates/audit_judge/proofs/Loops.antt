@@ -11,8 +11,9 @@ use Rattle.std.specs.Prelude.{nat_eq, slice_get, ◌&&◌}
 use Rattle.std.proofs.Common.{drop, set, take}
 use Rattle.audit_claims.specs.Directories.{AreOf, Reached, some_always_reaches, some_reaches}
 use Rattle.audit_judge.specs.Following.{GoodList}
-use Rattle.audit_judge.specs.Narrowed.{Fitting, empty_at, has_flag, least_from, lesser, lowered, narrow, narrow_all, narrow_task}
-use Rattle.audit_judge.specs.Scene.{AreKnown}
+use Rattle.audit_judge.specs.Narrowed.{has_flag}
+use Rattle.audit_judge.specs.inner.Narrowed.{Fitting, empty_at, least_from, lesser, lowered, narrow, narrow_all, narrow_task}
+use Rattle.audit_judge.specs.inner.Scene.{AreKnown}
 use Rattle.judging.proofs.Listed.{listed_claims}
 
 -- ---- directories

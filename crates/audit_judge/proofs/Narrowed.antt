@@ -10,7 +10,8 @@ use Rattle.std.specs.List.{AllByRecursion, AllZip}
 use Rattle.std.specs.Map.{lookup}
 use Rattle.std.specs.Option.{unwrap_or}
 use Rattle.std.specs.Prelude.{is_some, nat_eq, nat_lt, ◌&&◌}
-use Rattle.audit_judge.specs.Narrowed.{Tells, TellsOfAll, empty_at, has_flag, least_from, lesser, narrow, narrow_all, narrow_task}
+use Rattle.audit_judge.specs.Narrowed.{Tells, TellsOfAll, has_flag}
+use Rattle.audit_judge.specs.inner.Narrowed.{empty_at, least_from, lesser, narrow, narrow_all, narrow_task}
 
 -- ---- flags
 

@@ -15,12 +15,14 @@ use Rattle.std.specs.Prelude.{IfNone, IfSome, nat_eq, slice_get}
 use Rattle.audit_judge.proofs.Narrowed.{AtLeast, lesser_is, lesser_new, lesser_old}
 use Rattle.audit_judge.specs.Bench.{Bench, claim, opened}
 use Rattle.audit_judge.specs.Following.{Follows}
-use Rattle.audit_judge.specs.Narrowed.{Tells, TellsOfAll, TellsOfTask, lesser}
-use Rattle.audit_judge.specs.Picking.{IsPick, NoPick, least_up, with_number}
+use Rattle.audit_judge.specs.Narrowed.{Tells, TellsOfAll, TellsOfTask}
+use Rattle.audit_judge.specs.inner.Narrowed.{lesser}
+use Rattle.audit_judge.specs.Picking.{IsPick, NoPick}
+use Rattle.audit_judge.specs.inner.Picking.{least_up, with_number}
 use Rattle.audit_judge.proofs.Deciding.{fitting_of}
 use Rattle.audit_judge.proofs.Loops.{as_many, within}
 use Rattle.audit_judge.specs.Deciding.{bench_of}
-use Rattle.audit_judge.specs.Narrowed.{Fitting}
+use Rattle.audit_judge.specs.inner.Narrowed.{Fitting}
 use Rattle.audit_judge.specs.Scene.{Scene}
 use Rattle.soundness.specs.declared.marker.Marker.{Marker}
 use Rattle.judging.proofs.Listed.{listed_claims}

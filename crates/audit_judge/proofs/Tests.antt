@@ -9,7 +9,7 @@ use Rattle.std.proofs.Common.{Bool, List, None, Option, Some, ap, false, inl, in
 use Rattle.std.proofs.lemmas.Bool.{false≢true, true≢false}
 use Rattle.std.specs.Cmp.Lexicographic.{pointwise_decides}
 use Rattle.std.specs.Prelude.{is_some, not, ◌&&◌}
-use Rattle.audit_judge.specs.Tests.{differs, fits_by, same_tags, suits_part, suits_whole, whole_by}
+use Rattle.audit_judge.specs.inner.Tests.{differs, fits_by, same_tags, suits_part, suits_whole, whole_by}
 
 -- ---- tests
 

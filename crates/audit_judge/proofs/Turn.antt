@@ -21,10 +21,12 @@ use Rattle.audit_judge.proofs.Tests.{and_both, and_parts, neither_first, neither
 use Rattle.audit_judge.proofs.Tests.{not_is, or_cases, or_left, or_right, part_is, part_not, same_is, same_or_not}
 use Rattle.audit_judge.proofs.Tests.{some_of, whole_is_at, whole_not_at}
 use Rattle.audit_judge.specs.Following.{GoodList}
-use Rattle.audit_judge.specs.Narrowed.{TellsOfAll, keys_of, narrow_all, paths_of_all, paths_of_task}
+use Rattle.audit_judge.specs.Narrowed.{TellsOfAll}
+use Rattle.audit_judge.specs.inner.Narrowed.{keys_of, narrow_all, paths_of_all, paths_of_task}
 use Rattle.audit_judge.specs.Reasons.{Holds, IsFirst, precedes}
-use Rattle.audit_judge.specs.Tests.{attempts_of, differs, foreign_at, has_content, is_foreign, left_at, lost_at, same_tags, suits_part}
-use Rattle.audit_judge.specs.Tests.{suits_whole}
+use Rattle.audit_judge.specs.inner.Tests.{attempts_of, differs, foreign_at, has_content, is_foreign, left_at, lost_at, same_tags}
+use Rattle.audit_judge.specs.inner.Tests.{suits_part}
+use Rattle.audit_judge.specs.inner.Tests.{suits_whole}
 use Rattle.audit_judge.specs.declared.reason.Reason.{Reason}
 use Rattle.audit_judge.specs.declared.reason.Reason.TheVariants.{Early, Missing, Foreign, Lost, Torn, Stale, Half, Left}
 use Rattle.judging.proofs.Changed.{among}

@@ -1,6 +1,5 @@
 pub mod Bench
 pub mod Narrowed
-pub mod Tests
 pub mod Scene
 pub mod Codes
 pub mod Following
@@ -8,3 +7,4 @@ pub mod Changes
 pub mod Reasons
 pub mod Deciding
 pub mod Picking
+pub mod inner

@@ -1,12 +1,11 @@
 -- The attempt of a task that a judge picks.
-use Rattle.std.specs.Prelude.{ℕ, ◌≤◌, List, [], ◌∷◌, Bool, Option, Some, cond, ◌≡◌}
-use Rattle.std.specs.List.{All, Any}
-use Rattle.soundness.specs.Moments.{Moment}
-use Rattle.judging.specs.Judging.{StillExplains}
-use Rattle.judging.specs.Listed.{Numbered, numbered, of_task}
 use Rattle.audit_claims.specs.Claims.{Tags}
 use Rattle.audit_judge.specs.Bench.{Bench, claim, opened}
-use Rattle.audit_judge.specs.Narrowed.{lesser}
+use Rattle.judging.specs.Judging.{StillExplains}
+use Rattle.judging.specs.Listed.{numbered, of_task}
+use Rattle.soundness.specs.Moments.{Moment}
+use Rattle.std.specs.List.{All, Any}
+use Rattle.std.specs.Prelude.{List, ℕ, ◌≡◌, ◌≤◌}
 
 -- The attempt explains all moments.
 abbrev pub ExplainsAll : Bench → List (Moment Tags) → (task : ℕ) → ℕ × List (List ℕ × Tags) → Type 0
@@ -20,13 +19,3 @@ pub record IsPick (b : Bench) (moments : List (Moment Tags)) (t a : ℕ) : Type 
 -- No attempt of the task explains all moments.
 abbrev pub NoPick : Bench → List (Moment Tags) → ℕ → Type 0
 NoPick b moments t = All (λ x. ExplainsAll b moments t x → ⊥) (numbered t b.claimed.listed)
-
--- The lesser of a number and that of an attempt, if its flag is up.
-abbrev pub with_number : Bool → ℕ → Option ℕ → Option ℕ
-with_number up a o = cond up (lesser o (Some a)) o
-
--- The least of a number and those of the attempts whose flags are up.
-abbrev pub least_up : Numbered Tags → List Bool → Option ℕ → Option ℕ
-least_up [] flags o = o
-least_up (a ∷ attempts) [] o = o
-least_up (a ∷ attempts) (flag ∷ flags) o = least_up attempts flags (with_number flag a.0 o)

@@ -1,5 +1,6 @@
 ghost use Rattle.std.specs.Prelude.{◌≡◌, ◌<◌, true, false, get_or, length, replicate, IfOk};
-ghost use Rattle.audit_judge.specs.Narrowed.{has_flag, lowered};
+ghost use Rattle.audit_judge.specs.Narrowed.{has_flag};
+ghost use Rattle.audit_judge.specs.inner.Narrowed.{lowered};
 
 use std::alloc::{AllocError, Global};
 use std::marker::Model;

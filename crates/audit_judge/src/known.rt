@@ -10,8 +10,8 @@ ghost use Rattle.audit_claims.specs.Claims.{with_next};
 ghost use Rattle.audit_claims.specs.Fits.{after_fit, fit_of};
 ghost use Rattle.audit_judge.specs.Changes.{change_all, paths_of};
 ghost use Rattle.audit_judge.specs.Following.{GoodList, rows_up};
-ghost use Rattle.audit_judge.specs.Scene.{claim_in, meets, seen, shows_sign};
-ghost use Rattle.audit_judge.specs.Tests.{attempts_of, foreign_at, has_content, left_at, lost_at};
+ghost use Rattle.audit_judge.specs.inner.Scene.{claim_in, meets, seen, shows_sign};
+ghost use Rattle.audit_judge.specs.inner.Tests.{attempts_of, foreign_at, has_content, left_at, lost_at};
 
 use crate::change::Change;
 use crate::flags::Flags;
@@ -38,7 +38,8 @@ pub(crate) struct Known {
 impl Model for Known {
     ghost use Rattle.std.specs.Prelude.{is_some};
     ghost use Rattle.audit_judge.specs.Codes.{coded_scene};
-    ghost use Rattle.audit_judge.specs.Scene.{AreKnown, Scene};
+    ghost use Rattle.audit_judge.specs.inner.Scene.{AreKnown};
+    ghost use Rattle.audit_judge.specs.Scene.{Scene};
 
     ghost Value = { Scene };
 

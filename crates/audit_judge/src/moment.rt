@@ -7,11 +7,12 @@ ghost use Rattle.judging.specs.Listed.{of_task};
 ghost use Rattle.soundness.specs.Moments.{Moment, Same};
 ghost use Rattle.audit_claims.specs.Claims.{Tags};
 ghost use Rattle.audit_judge.specs.Changes.{paths_of};
-ghost use Rattle.audit_judge.specs.Deciding.{Answers, Followed, FollowedSome, IsNeed, bench_of, early_of, left_paths, marked_of};
-ghost use Rattle.audit_judge.specs.Deciding.{stale_of, whole_paths};
+ghost use Rattle.audit_judge.specs.Deciding.{Answers, bench_of};
+ghost use Rattle.audit_judge.specs.inner.Deciding.{Followed, FollowedSome, IsNeed, early_of, left_paths, marked_of};
+ghost use Rattle.audit_judge.specs.inner.Deciding.{stale_of, whole_paths};
 ghost use Rattle.audit_judge.specs.Following.{GoodList};
-ghost use Rattle.audit_judge.specs.Narrowed.{Fitting, least_from, narrow_all};
-ghost use Rattle.audit_judge.specs.Scene.{meets, seen, shows_sign};
+ghost use Rattle.audit_judge.specs.inner.Narrowed.{Fitting, least_from, narrow_all};
+ghost use Rattle.audit_judge.specs.inner.Scene.{meets, seen, shows_sign};
 
 use crate::change::Change;
 use crate::flags::Flags;

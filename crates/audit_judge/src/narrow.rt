@@ -1,10 +1,10 @@
 ghost use Rattle.std.specs.Prelude.{◌≡◌, None, true, length};
 ghost use Rattle.audit_judge.specs.Changes.{paths_of};
 ghost use Rattle.audit_judge.specs.Following.{GoodList};
-ghost use Rattle.audit_judge.specs.Narrowed.{Fitting, empty_at, keys_of, least_from, lesser, narrow, narrow_all, narrow_task};
-ghost use Rattle.audit_judge.specs.Narrowed.{paths_of_all, paths_of_task};
-ghost use Rattle.audit_judge.specs.Picking.{least_up, with_number};
-ghost use Rattle.audit_judge.specs.Scene.{meets};
+ghost use Rattle.audit_judge.specs.inner.Narrowed.{Fitting, empty_at, keys_of, least_from, lesser, narrow, narrow_all, narrow_task};
+ghost use Rattle.audit_judge.specs.inner.Narrowed.{paths_of_all, paths_of_task};
+ghost use Rattle.audit_judge.specs.inner.Picking.{least_up, with_number};
+ghost use Rattle.audit_judge.specs.inner.Scene.{meets};
 
 use crate::change::Change;
 use crate::flags::Flags;

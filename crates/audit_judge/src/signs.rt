@@ -1,6 +1,6 @@
 ghost use Rattle.std.specs.Option.{option_copied};
 ghost use Rattle.std.specs.Prelude.{◌≡◌};
-ghost use Rattle.audit_judge.specs.Tests.{fits_by, has_content, same_tags, whole_by};
+ghost use Rattle.audit_judge.specs.inner.Tests.{fits_by, has_content, same_tags, whole_by};
 
 use audit_claims::{Attempts, Etags};
 use s3_types::Text;

@@ -39,7 +39,8 @@ pub if_made : {A E : Type 0} (x : Result A E) (P Q : A → Type 0) → ((t : A) 
 if_made (Ok t) P Q f h = f t h
 if_made (Err e) P Q f h = tt
 
-pub tells_sound : (h : AuditState) (all : List (List ℕ)) (t : IsTold h all) (n changes : ℕ) (marker : Marker) (picks : List Pick) (text : List ℕ)
+pub tells_sound : (h : AuditState) (all : List (List ℕ)) (t : IsTold h all) (n changes : ℕ) (marker : Marker) (picks : List Pick)
+    (text : List ℕ)
     → n ≡ length all → changes ≡ min t.said.changes (2 ^ 64 - 1) → marker ≡ marker_of t.said → ArePicks marker all t.said picks
     → text ≡ sound_text n changes marker picks → TellsSound all text
 tells_sound h all t n changes marker picks text count c m are is = record {

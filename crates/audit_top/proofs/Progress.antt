@@ -5,7 +5,8 @@ use Rattle.std.proofs.Common.{true, ℕ, ◌+◌, ◌++◌, ◌<◌, ◌≤◌, 
 use Rattle.std.proofs.lemmas.List.{append-nil, append_assoc, length-append, length-take}
 use Rattle.audit_model.specs.Answers.{IsFaulty, IsUnsound}
 use Rattle.audit_model.specs.Recorded.{Recorded, after, read_after, stage_of}
-use Rattle.audit_top.specs.Progress.{AreLines, AreRead, IsAt, IsOver, LineTaken, OfLines, StepsTo}
+use Rattle.audit_top.specs.Progress.{AreLines, OfLines}
+use Rattle.audit_top.specs.inner.Progress.{AreRead, IsAt, IsOver, LineTaken, StepsTo}
 use Rattle.audit_top.specs.declared.verdict.Step.{Step}
 use Rattle.audit_top.specs.declared.verdict.Step.TheVariants as step
 use Rattle.auditor.proofs.Taking.{faulty, faulty_first}

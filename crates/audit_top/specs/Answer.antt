@@ -1,19 +1,17 @@
 -- The answer of an audit.
-use Rattle.std.specs.Prelude.{ℕ, ◌+◌, ◌-◌, ◌^◌, List, [], ◌∷◌, codes, length, min, string_bytes, ◌++◌, ◌≡◌}
 use Rattle.audit_judge.specs.declared.reason.Reason.{Reason}
 use Rattle.audit_model.specs.Answers.{IsFaulty, IsLeast, IsSound, IsUnsound}
 use Rattle.audit_model.specs.Moments.{marker_of}
 use Rattle.audit_model.specs.Recorded.{Recorded}
 use Rattle.audit_text.specs.Answer.{fault_text, sound_text, unsound_text}
 use Rattle.audit_text.specs.declared.sound.Pick.{Pick}
-use Rattle.audit_top.specs.declared.answer.Words.{Words}
-use Rattle.audit_top.specs.declared.answer.Words.TheVariants as words
 use Rattle.exit_status.specs.Statuses.{memory_text, read_text}
 use Rattle.exit_status.specs.declared.statuses.Status.{Status}
-use Rattle.exit_status.specs.declared.statuses.Status.TheVariants as status
 use Rattle.soundness.specs.declared.marker.Marker.{Marker}
-use Rattle.soundness.specs.declared.marker.Marker.TheVariants as marker
+use Rattle.std.specs.Prelude.{List, codes, length, min, ℕ, [], ◌++◌, ◌+◌, ◌-◌, ◌^◌, ◌∷◌, ◌≡◌}
 use Rattle.trace_reader.specs.declared.fault.TraceFault.{TraceFault}
+use Rattle.exit_status.specs.declared.statuses.Status.TheVariants as status
+use Rattle.soundness.specs.declared.marker.Marker.TheVariants as marker
 
 -- For each task from this one on, in order, the least attempt that explains what readers saw of it at each moment.
 abbrev pub AreLeast : (lines : List (List ℕ)) → Recorded → (task : ℕ) → List Pick → Type 0
@@ -60,8 +58,3 @@ IsAnswer _ text lines = ⊥
 -- The answer to a command line with words.
 abbrev pub usage_text : List ℕ
 usage_text = codes "usage: audit" ++ 10 ∷ []
-
--- The bytes of a text.
-abbrev pub text_of : Words → List ℕ
-text_of (words.Made text) = string_bytes text
-text_of (words.Fixed text) = text.now

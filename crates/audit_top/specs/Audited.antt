@@ -1,15 +1,10 @@
 -- The text that an audit wrote.
-use Rattle.std.specs.Prelude.{ℕ, List, Option, take, ◌≡◌, ◌≢◌}
-use Rattle.audit_top.specs.Answer.{IsAnswer, text_of}
+use Rattle.audit_top.specs.Answer.{IsAnswer}
 use Rattle.audit_top.specs.Progress.{OfLines}
-use Rattle.audit_top.specs.declared.answer.Words.{Words}
+use Rattle.devices.specs.Devices.{Appends}
 use Rattle.exit_status.specs.declared.statuses.Status.{Status}
 use Rattle.exit_status.specs.declared.statuses.Status.TheVariants.{WriteFault}
-use Rattle.devices.specs.Devices.{Appends}
-
--- The text is the answer to the lines of the input with this status.
-abbrev pub Answers : Option (List ℕ) → Status → Words → Type 0
-Answers left due text = OfLines left (IsAnswer due (text_of text))
+use Rattle.std.specs.Prelude.{List, Option, take, ℕ, ◌≡◌, ◌≢◌}
 
 -- The output has grown by some first bytes of the text.
 abbrev pub WritesSome : Option (List ℕ) → Option (List ℕ) → List ℕ → Type 0

@@ -1,3 +1,4 @@
 pub mod Progress
 pub mod Answer
 pub mod Audited
+pub mod inner

@@ -1,6 +1,8 @@
 ghost use Rattle.std.specs.Prelude.{◌≡◌, ◌≢◌, ℕ, List, Option, length, string_bytes, IfOk, OnErr, OnOk};
-ghost use Rattle.audit_top.specs.Answer.{AreLeast, ArePicks, IsAnswer, TellsSound, text_of, usage_text};
-ghost use Rattle.audit_top.specs.Progress.{IsOver, Judged, JudgedSome, OfLines};
+ghost use Rattle.audit_top.specs.Answer.{AreLeast, ArePicks, IsAnswer, TellsSound, usage_text};
+ghost use Rattle.audit_top.specs.inner.Answer.{text_of};
+ghost use Rattle.audit_top.specs.inner.Progress.{IsOver, Judged, JudgedSome};
+ghost use Rattle.audit_top.specs.Progress.{OfLines};
 ghost use Rattle.auditor.specs.SoFar.{IsOfSome, IsTold, IsToldSome};
 ghost use Rattle.exit_status.specs.Statuses.{memory_text};
 

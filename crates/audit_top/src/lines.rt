@@ -1,5 +1,5 @@
 ghost use Rattle.std.specs.Prelude.{◌≡◌, ◌≢◌, ◌<◌, ◌^◌, ◌-◌, ℕ, List, Option, None};
-ghost use Rattle.audit_top.specs.Progress.{IsAt, Judged, LineTaken, StepsTo};
+ghost use Rattle.audit_top.specs.inner.Progress.{IsAt, Judged, LineTaken, StepsTo};
 ghost use Rattle.auditor.specs.SoFar.{IsOfSome};
 ghost use Rattle.line_input.specs.Reading.{unread};
 

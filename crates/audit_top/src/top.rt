@@ -1,5 +1,6 @@
 ghost use Rattle.std.specs.Prelude.{◌≡◌, ◌≢◌, ◌<◌, ◌^◌, ◌-◌, []};
-ghost use Rattle.audit_top.specs.Audited.{Answers, Audited, Writes};
+ghost use Rattle.audit_top.specs.inner.Audited.{Answers};
+ghost use Rattle.audit_top.specs.Audited.{Audited, Writes};
 ghost use Rattle.audit_top.specs.Answer.{usage_text};
 
 use crate::answer::{AuditAnswer, answer_of, usage};

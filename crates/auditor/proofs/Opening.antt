@@ -20,9 +20,10 @@ use Rattle.audit_model.specs.Recorded.{Recorded, attempt_after, begin, file_afte
 use Rattle.audit_objects.specs.Objects.{ObjectMap, Objects, at, no_objects, put, same_place}
 use Rattle.auditor.proofs.Stepping.{Told}
 use Rattle.auditor.proofs.Telling.{shown_by}
-use Rattle.auditor.specs.AuditState.{At, GoesBy, AuditState, Stands, Stepped, Tells, moments_after}
-use Rattle.auditor.specs.Paths.{given, has_path}
-use Rattle.auditor.specs.Steps.{Opened, no_paths}
+use Rattle.auditor.specs.AuditState.{At, AuditState, Stands, Tells}
+use Rattle.auditor.specs.inner.AuditState.{GoesBy, Stepped, moments_after}
+use Rattle.auditor.specs.inner.Paths.{given, has_path}
+use Rattle.auditor.specs.inner.Steps.{Opened, no_paths}
 use Rattle.text_and_lists.specs.Order.{text_cmp}
 use Rattle.text_and_lists.specs.Reading.{check, ◌>>=◌}
 use Rattle.judging.specs.Listed.{has_attempt, owner}

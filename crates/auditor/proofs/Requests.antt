@@ -19,10 +19,11 @@ use Rattle.audit_model.specs.Recorded.{Recorded, changed, is_marker, marker_key}
 use Rattle.audit_objects.specs.Objects.{Objects, at, delete, put, same_place}
 use Rattle.auditor.proofs.Stepping.{Told, changing}
 use Rattle.auditor.proofs.Telling.{Made, marker_after_delete, marker_after_put, same_elements, shown_by, told as telling}
-use Rattle.auditor.specs.Destinations.{in_list}
-use Rattle.auditor.specs.AuditState.{AtSome, AuditState, Stepped, Tells}
-use Rattle.auditor.specs.Paths.{given, has_path}
-use Rattle.auditor.specs.Steps.{Answered, Begun, delete_after, put_after}
+use Rattle.auditor.specs.inner.Destinations.{in_list}
+use Rattle.auditor.specs.AuditState.{AuditState, Tells}
+use Rattle.auditor.specs.inner.AuditState.{AtSome, Stepped}
+use Rattle.auditor.specs.inner.Paths.{given, has_path}
+use Rattle.auditor.specs.inner.Steps.{Answered, Begun, delete_after, put_after}
 use Rattle.text_and_lists.specs.Order.{text_cmp}
 use Rattle.path_keys.specs.Paths.{Path}
 use Rattle.soundness.specs.Moments.{Moment}

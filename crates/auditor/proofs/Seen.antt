@@ -1,6 +1,6 @@
 -- The paths below a destination at which readers see files.
 use Rattle.audit_model.specs.Answers.{seen_paths, visible_in}
-use Rattle.auditor.specs.Destinations.{behind, in_list}
+use Rattle.auditor.specs.inner.Destinations.{behind, in_list}
 use Rattle.path_keys.specs.Paths.{Path, below}
 use Rattle.soundness.specs.Paths.{is_visible}
 use Rattle.std.proofs.Common.{Bool, Bor, List, MatchOption, None, Option, Some, ap, cond, drop, false, length, nat_eq, option_map, refl}

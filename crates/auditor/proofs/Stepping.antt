@@ -12,7 +12,8 @@ use Rattle.audit_judge.specs.declared.change.Change.{Change}
 use Rattle.audit_judge.specs.declared.reason.Reason.{Reason}
 use Rattle.audit_laws.specs.Alike.{SameElements}
 use Rattle.audit_model.specs.Recorded.{Recorded}
-use Rattle.auditor.specs.AuditState.{At, BreaksBy, GoesBy, AuditState, Stands, Stepped, Tells, moments_after}
+use Rattle.auditor.specs.AuditState.{At, AuditState, Stands, Tells}
+use Rattle.auditor.specs.inner.AuditState.{BreaksBy, GoesBy, Stepped, moments_after}
 use Rattle.path_keys.specs.Paths.{Path}
 use Rattle.soundness.specs.Moments.{Moment}
 use Rattle.soundness.specs.declared.marker.Marker.{Marker}

@@ -20,8 +20,10 @@ use Rattle.audit_model.specs.Answers.{IsFaulty, IsLeast, IsSafe, IsSound, IsUnso
 use Rattle.audit_model.specs.Moments.{claim, moment, moment_if, moments, opening, said_by}
 use Rattle.audit_model.specs.Recorded.{Recorded, after, read_after, stage_of}
 use Rattle.auditor.proofs.Due.{Sure, sure}
-use Rattle.auditor.specs.AuditState.{At, Breaks, BreaksBy, GoesBy, AuditState, Stands, Stepped, Tells, moments_after}
-use Rattle.auditor.specs.SoFar.{BegunBy, IsDue, IsOfSome, IsSoFar, IsTold, Taken}
+use Rattle.auditor.specs.AuditState.{At, AuditState, Stands, Tells}
+use Rattle.auditor.specs.inner.AuditState.{Breaks, BreaksBy, GoesBy, Stepped, moments_after}
+use Rattle.auditor.specs.SoFar.{IsOfSome, IsSoFar, IsTold, Taken}
+use Rattle.auditor.specs.inner.SoFar.{BegunBy, IsDue}
 use Rattle.text_and_lists.specs.Reading.{Unless, ◌>>=◌}
 use Rattle.judging.specs.Judging.{StillExplains}
 use Rattle.judging.specs.Listed.{Listed, claim_of, numbered, of_task}

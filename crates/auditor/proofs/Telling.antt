@@ -19,7 +19,7 @@ use Rattle.audit_objects.specs.Objects.{Objects, ObjectMap, at, delete, put}
 use Rattle.audit_laws.proofs.Judge.{changed_all}
 use Rattle.audit_laws.proofs.Seen.{marker_laws}
 use Rattle.auditor.specs.AuditState.{AuditState, Tells}
-use Rattle.auditor.specs.Paths.{given, has_path}
+use Rattle.auditor.specs.inner.Paths.{given, has_path}
 use Rattle.path_keys.specs.Paths.{Path}
 use Rattle.soundness.specs.Moments.{Shown}
 use Rattle.soundness.specs.declared.marker.Marker.{Marker}

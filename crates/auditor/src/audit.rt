@@ -11,11 +11,12 @@ ghost use Rattle.audit_model.specs.Moments.{marker_of};
 ghost use Rattle.audit_model.specs.Recorded.{Recorded, attempt_after, begin, commit_after, copy_after, file_after, is_marker};
 ghost use Rattle.audit_model.specs.Recorded.{object_after, stage_of};
 ghost use Rattle.audit_objects.specs.Objects.{at};
-ghost use Rattle.auditor.specs.Destinations.{in_list};
-ghost use Rattle.auditor.specs.AuditState.{At, AtSome, Stepped, Tells};
-ghost use Rattle.auditor.specs.Paths.{given};
+ghost use Rattle.auditor.specs.inner.Destinations.{in_list};
+ghost use Rattle.auditor.specs.AuditState.{At, Tells};
+ghost use Rattle.auditor.specs.inner.AuditState.{AtSome, Stepped};
+ghost use Rattle.auditor.specs.inner.Paths.{given};
 ghost use Rattle.auditor.specs.SoFar.{IsTold, IsToldSome};
-ghost use Rattle.auditor.specs.Steps.{Answered, Begun, Opened, delete_after, no_paths, put_after};
+ghost use Rattle.auditor.specs.inner.Steps.{Answered, Begun, Opened, delete_after, no_paths, put_after};
 ghost use Rattle.std.specs.List.{Contains};
 
 use crate::destination::Destination;

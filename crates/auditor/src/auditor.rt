@@ -3,8 +3,9 @@ ghost use Rattle.std.specs.Prelude.{◌≡◌, ℕ, List, [], None, Some, Ok, Op
 ghost use Rattle.audit_model.specs.Answers.{changed_paths};
 ghost use Rattle.audit_model.specs.Moments.{said_by};
 ghost use Rattle.audit_model.specs.Recorded.{Recorded, after, stage_of};
-ghost use Rattle.auditor.specs.AuditState.{AtSome, Stepped};
-ghost use Rattle.auditor.specs.SoFar.{Begins, IsDue, IsOfSome, IsSoFar, Taken};
+ghost use Rattle.auditor.specs.inner.AuditState.{AtSome, Stepped};
+ghost use Rattle.auditor.specs.inner.SoFar.{Begins, IsDue};
+ghost use Rattle.auditor.specs.SoFar.{IsOfSome, IsSoFar, Taken};
 
 use crate::audit::Audit;
 use audit_judge::Reason;

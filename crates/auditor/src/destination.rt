@@ -2,7 +2,7 @@ ghost use Rattle.std.specs.Prelude.{◌≡◌, [], ◌∷◌, IfOk, option_map};
 ghost use Rattle.std.specs.Str.{bytes_eq};
 ghost use Rattle.audit_model.specs.Answers.{seen_paths};
 ghost use Rattle.audit_model.specs.Recorded.{is_marker};
-ghost use Rattle.auditor.specs.Destinations.{behind, in_list};
+ghost use Rattle.auditor.specs.inner.Destinations.{behind, in_list};
 
 use path_keys::S3Path;
 use s3_types::Text;
@@ -20,7 +20,7 @@ pub(crate) struct Destination {
 
 impl Model for Destination {
     ghost use Rattle.path_keys.specs.Paths.{Path};
-    ghost use Rattle.auditor.specs.Destinations.{IsSpelled};
+    ghost use Rattle.auditor.specs.inner.Destinations.{IsSpelled};
 
     ghost Value = { Path };
 

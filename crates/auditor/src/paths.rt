@@ -3,7 +3,7 @@ ghost use Rattle.std.specs.List.Sorted.{IsStrictlySortedBy};
 ghost use Rattle.std.specs.Prelude.{◌≡◌, ◌||◌, ℕ, List, [], None, IfOk, OnOk};
 ghost use Rattle.text_and_lists.specs.Order.{text_cmp, text_eq};
 ghost use Rattle.audit_model.specs.Answers.{seen_paths};
-ghost use Rattle.auditor.specs.Paths.{given, has_path};
+ghost use Rattle.auditor.specs.inner.Paths.{given, has_path};
 
 use crate::destination::Destination;
 use audit_judge::Change;

@@ -1,7 +1,8 @@
 -- What a stream's blocks show of the pending bytes.
 use Rattle.text_and_lists.proofs.Naturals.{above_so, at_most_so}
 use Rattle.block_stream.proofs.FillingLaws.{AtStage, at_stage}
-use Rattle.block_stream.specs.Kept.{IsCutUp, first_of, is_due, is_short, is_whole, next_at, seen, settles, stage_by}
+use Rattle.block_stream.specs.Kept.{seen}
+use Rattle.block_stream.specs.inner.Kept.{IsCutUp, first_of, is_due, is_short, is_whole, next_at, settles, stage_by}
 use Rattle.block_stream.specs.Stream.{Stream, asks_with, begin_or_wait, complete_or_wait, ended, has_part, has_some, is_direct, is_settled}
 use Rattle.block_stream.specs.Stream.{is_small, settled, stage_of, wanted}
 use Rattle.block_stream.specs.declared.mode.StreamEnd.{StreamEnd}

@@ -4,7 +4,8 @@ use Rattle.block_stream.proofs.FillingLaws.{AtStage, at_stage, due, room_after, 
 use Rattle.block_stream.proofs.Grown.{room_shut, room_wrote}
 use Rattle.block_stream.proofs.KeepingLaws.{unsettled}
 use Rattle.block_stream.specs.Holds.{AreLong, HasRoom}
-use Rattle.block_stream.specs.Kept.{AreCut, CutUp, IsCutUp, IsKept, first_of, front_of, is_whole, last_of, next_by, seen}
+use Rattle.block_stream.specs.Kept.{seen}
+use Rattle.block_stream.specs.inner.Kept.{AreCut, CutUp, IsCutUp, IsKept, first_of, front_of, is_whole, last_of, next_by}
 use Rattle.block_stream.specs.Stream.{Stream, added, asks, asks_with, close, closed_by, complete_or_wait, ended, has_part, parted, settled}
 use Rattle.block_stream.specs.Stream.{shut, stage, stage_of, wanted, wrote}
 use Rattle.block_stream.specs.declared.mode.StreamEnd.{StreamEnd}

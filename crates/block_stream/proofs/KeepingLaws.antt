@@ -215,7 +215,8 @@ module _ (m : Stream) (s : Scene) (repeated : Bool) (bytes : List ℕ) (h : Hold
   Sent g None = Unit {0}
   Sent g (Some r) = IsSent g r
 
-  sent : (g : StreamStage) (r : Request) (a : Reply) → IsStoreRequest r m.bucket s → answer_in h.content s.content.next s.content.minimum r ≡ a
+  sent : (g : StreamStage) (r : Request) (a : Reply) → IsStoreRequest r m.bucket s
+      → answer_in h.content s.content.next s.content.minimum r ≡ a
       → HoldsIn m.end m.upload m (after r) true bytes
       → (IsPlace m.bucket m.block (apply s r) (after r) → Holds (told g m repeated a) (apply s r) false bytes) → answers g a ≡ true
       → left (told g m repeated a) < left m

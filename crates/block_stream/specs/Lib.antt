@@ -3,3 +3,4 @@ pub mod Holds
 pub mod Stored
 pub mod Kept
 pub mod Coded
+pub mod inner

@@ -3,7 +3,7 @@ ghost use Rattle.std.specs.Option.{unwrap_or};
 ghost use Rattle.s3_types.specs.declared.limits.TheConstants.{MOST_PARTS};
 ghost use Rattle.block_stream.specs.Stream.{asks_with, has_some};
 ghost use Rattle.block_stream.specs.declared.stage.StreamStage.TheVariants.{Putting, Sending, Completing};
-ghost use Rattle.block_stream.specs.Kept.{first_of, next_by, stage_by, settles};
+ghost use Rattle.block_stream.specs.inner.Kept.{first_of, next_by, stage_by, settles};
 
 use crate::mode::{StreamEnd, StreamMode};
 use crate::queue::Queue;

@@ -1,5 +1,5 @@
 ghost use Rattle.std.specs.Prelude.{◌≡◌, ℕ, List, [], ◌∷◌, ◌++◌, drop, length, IfOk, OnOk, OnErr};
-ghost use Rattle.block_stream.specs.Kept.{first_of, is_whole};
+ghost use Rattle.block_stream.specs.inner.Kept.{first_of, is_whole};
 ghost use Rattle.block_stream.specs.Stream.{has_some};
 
 use s3_types::Bytes;

@@ -6,7 +6,7 @@ ghost use Rattle.s3_types.specs.declared.limits.TheConstants.{MOST_PARTS};
 ghost use Rattle.retries.specs.Retries.{OutOfMemory};
 ghost use Rattle.block_stream.specs.Stream.{fresh, is_direct, delayed_of, stage, wanted, moved, answers, Fits, told, begun, parted, settled, ended, broken, wrote, close, end_of, left, standing};
 ghost use Rattle.block_stream.specs.Holds.{Holds, IsReady};
-ghost use Rattle.block_stream.specs.Kept.{next_by, front_of, last_of};
+ghost use Rattle.block_stream.specs.inner.Kept.{next_by, front_of, last_of};
 ghost use Rattle.block_stream.specs.declared.mode.StreamEnd.TheVariants.{Done};
 ghost use Rattle.block_stream.specs.declared.mode.StreamFault.TheVariants.{TooLong};
 ghost use Rattle.block_stream.specs.declared.stage.StreamStage.TheVariants.{Beginning, Sending};
@@ -44,7 +44,8 @@ pub struct BlockStream {
 
 impl Model for BlockStream {
     ghost use Rattle.block_stream.specs.Stream.{Stream};
-    ghost use Rattle.block_stream.specs.Kept.{seen, IsKept};
+    ghost use Rattle.block_stream.specs.Kept.{seen};
+    ghost use Rattle.block_stream.specs.inner.Kept.{IsKept};
     ghost use Rattle.block_stream.specs.Coded.{coded_stream};
 
     ghost Value = { Stream };

@@ -2,9 +2,10 @@
 use Rattle.text_and_lists.proofs.Members.{same_or_other, text_gone, text_here, text_left, text_other}
 use Rattle.text_and_lists.proofs.Tree.{insert_same}
 use Rattle.text_and_lists.specs.Order.{text_cmp, text_total}
-use Rattle.bucket_ops.specs.Asks.{Ask, Copy, Drop, DropAll, Head, Put, edited, objects_at, objects_of, reply_at, reply_in, request_of}
+use Rattle.bucket_ops.specs.Asks.{Ask, Copy, Drop, DropAll, Head, Put, edited, objects_at, objects_of, reply_in, request_of}
+use Rattle.bucket_ops.specs.inner.Asks.{reply_at}
 use Rattle.bucket_ops.specs.Asks.{with_objects, with_objects_if}
-use Rattle.operations.specs.Plans.{Repeats}
+use Rattle.operations.specs.inner.Plans.{Repeats}
 use Rattle.s3_types.specs.Answer.{answer, answer_at, apply, apply_at, copied, copy_answer, without}
 use Rattle.s3_types.specs.Store.{BucketContent, Buckets, Objects, Scene}
 use Rattle.s3_types.specs.declared.object.Object.{Object}

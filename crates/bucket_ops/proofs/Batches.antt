@@ -1,7 +1,8 @@
 -- Keys are deleted batch by batch.
 use Rattle.text_and_lists.proofs.Naturals.{below_is}
 use Rattle.bucket_ops.specs.Asks.{DropAll, edited}
-use Rattle.bucket_ops.specs.Sweeping.{IsDeleted, IsDeleting}
+use Rattle.bucket_ops.specs.Sweeping.{IsDeleting}
+use Rattle.bucket_ops.specs.inner.Sweeping.{IsDeleted}
 use Rattle.list_walk.specs.Walks.{deleting}
 use Rattle.s3_types.specs.Answer.{without}
 use Rattle.s3_types.specs.Store.{Objects}

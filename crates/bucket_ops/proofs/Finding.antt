@@ -3,7 +3,8 @@ use Rattle.bucket_ops.proofs.Below.{below_stands}
 use Rattle.bucket_ops.proofs.Rising.{sorted}
 use Rattle.bucket_ops.proofs.Walks.{walk_begins, walk_falls, walk_goes}
 use Rattle.bucket_ops.specs.Asks.{reply_in}
-use Rattle.bucket_ops.specs.Walking.{FindsAll, IsWalked, LessWalked, all_below, keys_below, told_pages, walk_asks, walk_left}
+use Rattle.bucket_ops.specs.Walking.{FindsAll, all_below, keys_below, told_pages, walk_asks, walk_left}
+use Rattle.bucket_ops.specs.inner.Walking.{IsWalked, LessWalked}
 use Rattle.list_walk.specs.Walks.{More, Walked, Whole, walked_entries}
 use Rattle.s3_types.specs.Store.{Objects}
 use Rattle.s3_types.specs.declared.reply.PageEntry.{PageEntry}

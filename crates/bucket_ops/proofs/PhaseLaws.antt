@@ -1,12 +1,14 @@
 -- An operation on the objects of one bucket is an operation on the store.
 use Rattle.bucket_ops.proofs.AskLaws.{answered, applied_none, applied_some, objects_with, repeats, with_same, with_with}
-use Rattle.bucket_ops.specs.Asks.{Ask, edited, objects_at, reply_at, reply_in, request_of, with_objects}
+use Rattle.bucket_ops.specs.Asks.{Ask, edited, objects_at, reply_in, request_of, with_objects}
+use Rattle.bucket_ops.specs.inner.Asks.{reply_at}
 use Rattle.bucket_ops.specs.Phases.{Always, Gives, Holds, InScene, IsPhases, MayAsk, Sends, SendsAt, SendsIn, Starts, led, left_at, left_in}
 use Rattle.bucket_ops.specs.Phases.{request, stepped}
 use Rattle.bucket_ops.specs.declared.bucket.InBucket.{InBucket}
 use Rattle.operations.proofs.PlanLaws.{sends_of}
 use Rattle.operations.specs.Courses.{MaySend, reached}
-use Rattle.operations.specs.Plans.{Falls, Goes, IsPlan}
+use Rattle.operations.specs.Plans.{Falls, Goes}
+use Rattle.operations.specs.inner.Plans.{IsPlan}
 use Rattle.operations.specs.declared.plan.Step.{Step}
 use Rattle.operations.specs.declared.plan.Step.TheVariants.{End, Next}
 use Rattle.s3_types.specs.Answer.{answer, apply}

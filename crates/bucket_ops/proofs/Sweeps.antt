@@ -3,8 +3,10 @@ use Rattle.text_and_lists.proofs.Tree.{filter_all}
 use Rattle.bucket_ops.proofs.Batches.{batch_goes, deleting_all, within}
 use Rattle.bucket_ops.proofs.Walks.{fits_decides, page_fits, walk_falls, walk_goes}
 use Rattle.bucket_ops.specs.Asks.{DropAll, edited, reply_in}
-use Rattle.bucket_ops.specs.Sweeping.{IsDeleted, IsSweeping, IsSwept, LessLeft, sweep_asks, sweep_left}
-use Rattle.bucket_ops.specs.Walking.{IsWalked, IsWalking, LessWalked, fits, keys_below, walk_asks}
+use Rattle.bucket_ops.specs.Sweeping.{IsSweeping, sweep_asks, sweep_left}
+use Rattle.bucket_ops.specs.inner.Sweeping.{IsDeleted, IsSwept, LessLeft}
+use Rattle.bucket_ops.specs.Walking.{IsWalking, fits, keys_below, walk_asks}
+use Rattle.bucket_ops.specs.inner.Walking.{IsWalked, LessWalked}
 use Rattle.list_walk.proofs.Keys.{on_keys, walked_keys}
 use Rattle.list_walk.specs.Fitting.{FitsSweep}
 use Rattle.list_walk.specs.Walks.{Deleting, Listing, More, Sweep, Walked, Whole, all_go, deleting, keys_on, last_of, sweep_hears}

@@ -6,7 +6,8 @@ use Rattle.list_walk.proofs.Uploads.{behind_uploads, refs_append}
 use Rattle.list_walk.specs.Walks.{last_ref, walked_by}
 use Rattle.operations.proofs.PlanLaws.{sends_of}
 use Rattle.operations.specs.Courses.{MaySend, reached}
-use Rattle.operations.specs.Plans.{Falls, Goes, IsPlan, Repeats}
+use Rattle.operations.specs.Plans.{Falls, Goes}
+use Rattle.operations.specs.inner.Plans.{IsPlan, Repeats}
 use Rattle.s3_types.specs.Answer.{answer, answer_at, apply}
 use Rattle.s3_types.specs.Multipart.{listed}
 use Rattle.s3_types.specs.Store.{BucketContent, Scene}

@@ -1,7 +1,8 @@
 -- A walk goes on page by page, and it ends.
 use Rattle.text_and_lists.proofs.Naturals.{below_is, below_not}
 use Rattle.bucket_ops.specs.Asks.{reply_in}
-use Rattle.bucket_ops.specs.Walking.{IsWalked, IsWalking, LessWalked, fits, is_there, walk_asks, walk_left}
+use Rattle.bucket_ops.specs.Walking.{IsWalking, fits, is_there, walk_asks, walk_left}
+use Rattle.bucket_ops.specs.inner.Walking.{IsWalked, LessWalked}
 use Rattle.list_walk.proofs.Fitted.{keys_decide}
 use Rattle.list_walk.proofs.Keys.{keys_joined, page_keys}
 use Rattle.list_walk.proofs.Listing.{behind_page, last_append}

@@ -3,7 +3,7 @@ use Rattle.s3_types.specs.Answer.{copied, copy_answer, found, head, without}
 use Rattle.s3_types.specs.Pages.{listed, page}
 use Rattle.s3_types.specs.Store.{BucketContent, Objects, Scene}
 use Rattle.s3_types.specs.Tags.{plain_tag}
-use Rattle.s3_types.specs.declared.reply.Refusal.TheVariants.{NoSuchBucket, TooManyKeys}
+use Rattle.s3_types.specs.declared.reply.Refusal.TheVariants.{TooManyKeys}
 use Rattle.s3_types.specs.declared.reply.Reply.{Reply}
 use Rattle.s3_types.specs.declared.reply.Reply.TheVariants.{Deleted, Refused, Stored}
 use Rattle.s3_types.specs.declared.request.Request.{Request}
@@ -60,11 +60,6 @@ edited (Drop k) m = fin.remove m k
 edited (DropAll ks) m = cond (nat_lt 1000 (length ks)) m (without m ks)
 edited (Copy k q) m = copied m q (fin.get m k)
 edited _ m = m
-
--- The answer to an ask, or NoSuchBucket.
-abbrev pub reply_at : Option Objects → Ask → Reply
-reply_at None a = Refused NoSuchBucket
-reply_at (Some m) a = reply_in m a
 
 -- The objects of a bucket, if it exists.
 abbrev pub objects_of : Option BucketContent → Option Objects

@@ -4,3 +4,4 @@ pub mod Looks
 pub mod Walking
 pub mod Sweeping
 pub mod Uploads
+pub mod inner

@@ -6,7 +6,7 @@ use Rattle.s3_types.specs.Answer.{without}
 use Rattle.s3_types.specs.Pages.{listed}
 use Rattle.s3_types.specs.Store.{Objects}
 use Rattle.s3_types.specs.declared.reply.PageEntry.{PageEntry}
-use Rattle.std.specs.Prelude.{List, None, Option, Some, false, length, take, ℕ, ◌*◌, ◌++◌, ◌+◌, ◌<◌, ◌∷◌, ◌≡◌}
+use Rattle.std.specs.Prelude.{List, false, length, take, ℕ, ◌*◌, ◌++◌, ◌+◌, ◌∷◌, ◌≡◌}
 
 -- The next request of a sweep to the bucket.
 abbrev pub sweep_asks : List ℕ → Sweep → Ask
@@ -17,28 +17,12 @@ sweep_asks q (Deleting k ks) = DropAll (take 1000 (k ∷ ks))
 abbrev pub IsDeleting : Objects → List (List ℕ) → List (List ℕ) → Objects → Type 0
 IsDeleting z all left m = (gone : List (List ℕ)) × (gone ++ left ≡ all) × (m ≡ without z gone)
 
--- The sweep goes on deleting, or all keys are deleted.
-abbrev pub IsDeleted : Objects → List (List ℕ) → Option Sweep → Objects → Type 0
-IsDeleted z all (Some (Listing keys)) m = ⊥
-IsDeleted z all (Some (Deleting k ks)) m = IsDeleting z all (k ∷ ks) m
-IsDeleted z all None m = m ≡ without z all
-
 -- The sweep lists these keys and has deleted nothing; or it has deleted the first of all keys.
 abbrev pub IsSweeping : List ℕ → Objects → Sweep → Objects → Type 0
 IsSweeping q z (Listing keys) m = (m ≡ z) × ((found : List PageEntry) × (keys ≡ keys_on found) × IsWalking q z found)
 IsSweeping q z (Deleting k ks) m = IsDeleting z (keys_below q z) (k ∷ ks) m
 
--- The sweep goes on as it should, or all keys are deleted.
-abbrev pub IsSwept : List ℕ → Objects → Option Sweep → Objects → Type 0
-IsSwept q z (Some w) m = IsSweeping q z w m
-IsSwept q z None m = m ≡ without z (keys_below q z)
-
 -- At most this much is left.
 abbrev pub sweep_left : List ℕ → Sweep → Objects → ℕ
 sweep_left q (Listing keys) m = 1 + length keys + 2 * length (listed q false (last_of keys) m)
 sweep_left q (Deleting k ks) m = length (k ∷ ks)
-
--- The sweep has less left than n.
-abbrev pub LessLeft : List ℕ → Objects → Option Sweep → ℕ → Type 0
-LessLeft q m (Some w) n = sweep_left q w m < n
-LessLeft q m None n = 0 < n

@@ -1,6 +1,4 @@
 -- A walk over all keys below a prefix, as a part of an operation on a bucket's objects (Amazon S3 API: ListObjectsV2).
-use Rattle.text_and_lists.specs.Members.{IsIn}
-use Rattle.text_and_lists.specs.Order.{text_cmp}
 use Rattle.bucket_ops.specs.Asks.{Ask, Page, reply_in}
 use Rattle.list_walk.specs.Fitting.{is_key}
 use Rattle.list_walk.specs.Walks.{More, Walked, Whole, keys_on, last_of, walked_entries}
@@ -14,7 +12,9 @@ use Rattle.s3_types.specs.declared.reply.Reply.{Reply}
 use Rattle.s3_types.specs.declared.reply.Reply.TheVariants.{Page as APage, Refused}
 use Rattle.std.specs.List.{list_all}
 use Rattle.std.specs.List.Sorted.{IsStrictlySortedBy}
-use Rattle.std.specs.Prelude.{Bool, List, Some, false, length, suc, true, zero, ℕ, [], ◌*◌, ◌++◌, ◌+◌, ◌<◌, ◌∷◌, ◌≡◌, ◌≤◌}
+use Rattle.std.specs.Prelude.{Bool, List, Some, false, length, suc, true, zero, ℕ, [], ◌*◌, ◌++◌, ◌+◌, ◌∷◌, ◌≡◌, ◌≤◌}
+use Rattle.text_and_lists.specs.Members.{IsIn}
+use Rattle.text_and_lists.specs.Order.{text_cmp}
 use Rattle.std.specs.FinMap as fin
 
 -- The entries of all keys below a prefix.
@@ -44,19 +44,9 @@ fits _ = true
 abbrev pub IsWalking : List ℕ → Objects → List PageEntry → Type 0
 IsWalking q z found = found ++ listed q false (last_of (keys_on found)) z ≡ all_below q z
 
--- The walk goes on, or these entries are all.
-abbrev pub IsWalked : List ℕ → Objects → Walked PageEntry → Type 0
-IsWalked q z (More found) = IsWalking q z found
-IsWalked q z (Whole found) = found ≡ all_below q z
-
 -- At most this much is left, if each key that is found takes one step more.
 abbrev pub walk_left : List ℕ → List PageEntry → Objects → ℕ
 walk_left q found m = 1 + length found + 2 * length (listed q false (last_of (keys_on found)) m)
-
--- Less than n is left; if the walk is whole, it found fewer than n keys.
-abbrev pub LessWalked : List ℕ → Objects → Walked PageEntry → ℕ → Type 0
-LessWalked q m (More found) n = walk_left q found m < n
-LessWalked q m (Whole found) n = length found < n
 
 -- ---- a walk that receives the pages that the store gives
 

@@ -1,7 +1,8 @@
 -- Places among uploads and paths.
 use Rattle.text_and_lists.proofs.Naturals.{below_is, below_not}
-use Rattle.cleanup.specs.Held.{abort_stage, aborting_from, clean_at, stage_after, within}
-use Rattle.cleanup.specs.Places.{abort_asks, behind, remove_asks}
+use Rattle.cleanup.specs.Held.{aborting_from, clean_at}
+use Rattle.cleanup.specs.inner.Held.{abort_stage, stage_after, within}
+use Rattle.cleanup.specs.inner.Places.{abort_asks, behind, remove_asks}
 use Rattle.cleanup.specs.declared.clean_state.CleanStage.{CleanStage}
 use Rattle.job_model.specs.JobScript.{Script}
 use Rattle.job_model.specs.declared.ends.CleanEnd.{CleanEnd}
@@ -80,7 +81,8 @@ asks_removing w l = grind arith
 
 -- ---- the steps, with the stage given by an equation
 
-pub hears_aborting : (w : Script) (r : Reply) (stage : CleanStage) (found : List UploadRef) (sweep : Sweep) (paths : List (List ℕ)) (at n : ℕ)
+pub hears_aborting : (w : Script) (r : Reply) (stage : CleanStage) (found : List UploadRef) (sweep : Sweep) (paths : List (List ℕ))
+    (at n : ℕ)
     (c : Committer) (new : Clean)
     → stage ≡ stages.Aborting → within stage at (length found) (length paths) ≡ true → n ≡ behind at 1 (length found) → c ≡ w.committer
     → new ≡ aborting c (drop n found) → new ≡ clean_hears w (clean_at stage found sweep paths at) r

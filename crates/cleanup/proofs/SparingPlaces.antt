@@ -1,8 +1,9 @@
 -- Places among the items that a sparing clean listed.
 use Rattle.cleanup.proofs.Places.{drop_behind, some_at, some_so}
-use Rattle.cleanup.specs.Places.{abort_asks, behind, delete_asks, get_asks, get_file_asks, remove_asks}
-use Rattle.cleanup.specs.SparingHeld.{aborting_from, all_of, lists_keys, places_of, read_asks, reading_from, sparing_at, sparing_of, within}
-use Rattle.cleanup.specs.SparingHeld.{within_of}
+use Rattle.cleanup.specs.inner.Places.{abort_asks, behind, delete_asks, get_asks, get_file_asks, remove_asks}
+use Rattle.cleanup.specs.SparingHeld.{aborting_from, all_of, places_of, reading_from, sparing_at, sparing_of}
+use Rattle.cleanup.specs.inner.SparingHeld.{lists_keys, read_asks, within}
+use Rattle.cleanup.specs.inner.SparingHeld.{within_of}
 use Rattle.cleanup.specs.declared.sparing_state.SparingState.{SparingState}
 use Rattle.cleanup.specs.declared.sparing_state.SparingStage.{SparingStage}
 use Rattle.job_model.specs.JobScript.{Script}

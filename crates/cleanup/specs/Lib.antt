@@ -1,4 +1,3 @@
-pub mod Places
 pub mod Held
 pub mod Fits
 pub mod Left
@@ -8,3 +7,4 @@ pub mod SparingLeft
 pub mod CleansEnd
 pub mod AskingLaws
 pub mod SparingAskingLaws
+pub mod inner

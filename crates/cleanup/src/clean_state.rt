@@ -2,7 +2,8 @@ ghost use Rattle.std.specs.Prelude.{◌≡◌, drop, IfOk, OnOk, true};
 ghost use Rattle.job_protocol.specs.AtWork.{job_script};
 ghost use Rattle.list_walk.specs.Walks.{walked_uploads, sweep_hears, all_go};
 ghost use Rattle.job_protocol.specs.Cleanups.{clean_start, clean_asks, clean_hears, walking, aborting, sweeping, naming, removing};
-ghost use Rattle.cleanup.specs.Held.{clean_of, within_of, stage_after, abort_stage, remove_stage};
+ghost use Rattle.cleanup.specs.Held.{clean_of};
+ghost use Rattle.cleanup.specs.inner.Held.{within_of, stage_after, abort_stage, remove_stage};
 ghost use Rattle.cleanup.specs.Fits.{FitsClean};
 
 use crate::listed::{next_place, shared_texts};

@@ -26,7 +26,8 @@ impl Model for Cleaning {
     ghost use Rattle.std.specs.Prelude.{◌≡◌, true};
     ghost use Rattle.job_protocol.specs.AtWork.{Driving};
     ghost use Rattle.job_protocol.specs.Cleanups.{Clean};
-    ghost use Rattle.cleanup.specs.Held.{clean_of, within_of};
+    ghost use Rattle.cleanup.specs.Held.{clean_of};
+    ghost use Rattle.cleanup.specs.inner.Held.{within_of};
 
     ghost Value = { Driving Clean };
 

@@ -1,5 +1,5 @@
 ghost use Rattle.std.specs.Prelude.{◌≡◌, IfOk};
-ghost use Rattle.cleanup.specs.Places.{behind};
+ghost use Rattle.cleanup.specs.inner.Places.{behind};
 
 use s3_types::{Sequence, Text, TextList, let_go};
 use std::alloc::{AllocError, Global};

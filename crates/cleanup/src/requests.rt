@@ -2,7 +2,7 @@ ghost use Rattle.std.specs.Prelude.{◌≡◌, ◌++◌, drop, codes, IfOk, Some
 ghost use Rattle.s3_types.specs.declared.request.Request.TheVariants.{ClusterList};
 ghost use Rattle.magic_paths.specs.Layout as layout;
 ghost use Rattle.list_walk.specs.Walks.{keys_on, page_after, uploads_after, sweep_asks};
-ghost use Rattle.cleanup.specs.Places.{abort_asks, remove_asks, get_asks, get_file_asks, delete_asks};
+ghost use Rattle.cleanup.specs.inner.Places.{abort_asks, remove_asks, get_asks, get_file_asks, delete_asks};
 
 use list_walk::{KeyWalk, Sweep, UploadWalk, batch_request, keys_behind};
 use magic_paths::{cluster_prefix, dest_prefix, magic_prefix};

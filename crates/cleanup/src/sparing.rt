@@ -30,7 +30,8 @@ impl Model for SparingClean {
     ghost use Rattle.std.specs.Prelude.{◌≡◌, true};
     ghost use Rattle.job_protocol.specs.AtWork.{Driving};
     ghost use Rattle.job_protocol.specs.Sparing.{Sparing};
-    ghost use Rattle.cleanup.specs.SparingHeld.{sparing_of, within_of};
+    ghost use Rattle.cleanup.specs.SparingHeld.{sparing_of};
+    ghost use Rattle.cleanup.specs.inner.SparingHeld.{within_of};
 
     ghost Value = { Driving Sparing };
 

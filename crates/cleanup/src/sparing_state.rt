@@ -4,7 +4,8 @@ ghost use Rattle.job_protocol.specs.AtWork.{job_script};
 ghost use Rattle.list_walk.specs.Walks.{keys_on, walked};
 ghost use Rattle.list_walk.specs.Fitting.{FitsPage};
 ghost use Rattle.job_protocol.specs.Sparing.{sparing_start, sparing_asks, sparing_hears, names, walking, naming, reading_on, aborting, emptying, deleting, removing};
-ghost use Rattle.cleanup.specs.SparingHeld.{lists_keys, start_stage, places_of, all_of, sparing_of, within_of, read_asks};
+ghost use Rattle.cleanup.specs.inner.SparingHeld.{lists_keys, start_stage, within_of, read_asks};
+ghost use Rattle.cleanup.specs.SparingHeld.{places_of, all_of, sparing_of};
 ghost use Rattle.cleanup.specs.SparingFits.{FitsSparing};
 
 use crate::listed::{next_place, shared_texts};

@@ -2,7 +2,7 @@
 use Rattle.text_and_lists.proofs.Bools.{contrary}
 use Rattle.text_and_lists.proofs.Less.{le_le, le_not, lt, lt_not}
 use Rattle.text_and_lists.specs.Order.{text_cmp, text_total}
-use Rattle.cluster_fs.specs.Cluster.{Follows}
+use Rattle.cluster_fs.specs.inner.Cluster.{Follows}
 use Rattle.s3_types.proofs.Begins.{between, from_prefix}
 use Rattle.s3_types.specs.Pages.{begins}
 use Rattle.std.proofs.Common.{Bool, List, ap, cond, false, not, refl, subst, sym, true, ℕ, [], ◌&&◌, ◌∙◌, ◌∷◌, ◌≡◌}

@@ -7,7 +7,8 @@ ghost use Rattle.s3_types.specs.Pages.{begins};
 ghost use Rattle.s3_types.specs.Store.{Content};
 ghost use Rattle.s3_types.specs.Answer.{answer, apply, renamed, rename_answer, read_answer};
 ghost use Rattle.s3_types.specs.Requests.{is_cluster};
-ghost use Rattle.cluster_fs.specs.Cluster.{beside, Follows};
+ghost use Rattle.cluster_fs.specs.Cluster.{beside};
+ghost use Rattle.cluster_fs.specs.inner.Cluster.{Follows};
 
 use s3_types::{Bytes, Refusal, Reply, Request, Text, TextList};
 use std::alloc::{AllocError, Global};

@@ -4,7 +4,8 @@ use Rattle.text_and_lists.proofs.Members.{none_some, some_is}
 use Rattle.text_and_lists.proofs.Naturals.{below_is}
 use Rattle.text_and_lists.specs.Order.{text_cmp}
 use Rattle.commit_lanes.specs.Fitting.{FitsReply, SpellsSet}
-use Rattle.commit_lanes.specs.CommitEnds.{CommitFalls, FitsFew, HasFew, ReadsFew, all_left, any_sweep, deletion_left, if_staging, lanes_left}
+use Rattle.commit_lanes.specs.CommitEnds.{CommitFalls, FitsFew, HasFew, ReadsFew, all_left, any_sweep, deletion_left, if_staging}
+use Rattle.commit_lanes.specs.CommitEnds.{lanes_left}
 use Rattle.commit_lanes.specs.CommitEnds.{left_of, prefixes_most, read_left, rise_of, turn_left, turns_left, widest}
 use Rattle.job_model.specs.Attempts.{Who, same_name}
 use Rattle.job_model.specs.JobScript.{Script}

@@ -7,7 +7,8 @@ use Rattle.commit_lanes.proofs.Undoing.{drop_nth}
 use Rattle.commit_lanes.specs.Clashes.{Item, items_from}
 use Rattle.commit_lanes.specs.Places.{places_from}
 use Rattle.commit_lanes.specs.ReadSets.{AreRead, HasAll}
-use Rattle.commit_lanes.specs.Relatives.{paths_below, relative_of}
+use Rattle.commit_lanes.specs.Relatives.{relative_of}
+use Rattle.commit_lanes.specs.inner.Relatives.{paths_below}
 use Rattle.commit_lanes.specs.declared.places.Place.{Place}
 use Rattle.job_model.specs.Attempts.{Who, same_name}
 use Rattle.job_model.specs.Files.{File, has_path}

@@ -5,7 +5,8 @@ use Rattle.text_and_lists.proofs.Members.{eq_nat, false_true, nat_true, same_or_
 use Rattle.text_and_lists.specs.Order.{text_cmp, text_eq, text_total}
 use Rattle.commit_lanes.proofs.ReadFiles.{item_at}
 use Rattle.commit_lanes.proofs.Trying.{take_next}
-use Rattle.commit_lanes.specs.Clashes.{Finds, IsBest, IsOwner, Item, clash_of, is_better, items_from}
+use Rattle.commit_lanes.specs.Clashes.{IsBest, Item, items_from}
+use Rattle.commit_lanes.specs.inner.Clashes.{Finds, IsOwner, clash_of, is_better}
 use Rattle.commit_lanes.specs.declared.sharing.Clash.{Clash}
 use Rattle.job_protocol.proofs.Members.{in_append, in_last, in_left, in_map, in_push}
 use Rattle.job_protocol.specs.LaneTable.{In}

@@ -1,6 +1,7 @@
 -- The list of a revert, built from its end.
 use Rattle.commit_lanes.proofs.Trying.{in_at}
-use Rattle.commit_lanes.specs.Undos.{Adds, IsRevert, NumbersWithin, number_in, undo_request, with_tried, with_unsent}
+use Rattle.commit_lanes.specs.Undos.{IsRevert, NumbersWithin, number_in, undo_request}
+use Rattle.commit_lanes.specs.inner.Undos.{Adds, with_tried, with_unsent}
 use Rattle.commit_lanes.specs.declared.undo.Undo.{Undo}
 use Rattle.commit_lanes.specs.declared.undo.Undo.TheVariants.{Abort, Delete}
 use Rattle.job_protocol.proofs.Members.{in_left, in_right}

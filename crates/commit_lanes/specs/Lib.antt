@@ -7,3 +7,4 @@ pub mod Clashes
 pub mod Apart
 pub mod Fitting
 pub mod CommitEnds
+pub mod inner

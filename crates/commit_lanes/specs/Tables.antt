@@ -20,8 +20,3 @@ listed (Some x) = x ∷ []
 -- The next turn of the lane of upload `n`, if there is one.
 abbrev pub next_turn : ℕ → ℕ → ℕ → Option Turn
 next_turn lanes total n = cond (nat_lt (n + lanes) total) (Some (fresh_turn (n + lanes))) None
-
--- How many sends of the completion in turn got no answer.
-abbrev pub first_missed : List Turn → ℕ
-first_missed [] = 0
-first_missed (x ∷ xs) = x.missed

@@ -4,7 +4,7 @@ use Rattle.job_protocol.specs.LaneTable.{In}
 use Rattle.job_protocol.specs.Lanes.{Turn, abort, deletion, nth, revert}
 use Rattle.pending_json.specs.Pending.{Pending}
 use Rattle.s3_types.specs.declared.request.Request.{Request}
-use Rattle.std.specs.Prelude.{Bool, List, false, length, map, true, ℕ, ◌++◌, ◌<◌, ◌∷◌, ◌≡◌}
+use Rattle.std.specs.Prelude.{List, length, map, ℕ, ◌<◌, ◌≡◌}
 use Rattle.commit_lanes.specs.declared.undo.Undo.TheVariants as undos
 
 -- The request of S3 for a step of a revert, by the number of its upload.
@@ -24,17 +24,3 @@ number_in (undos.Delete n) = n
 -- Each step is about one of the `total` uploads.
 abbrev pub NumbersWithin : ℕ → List Undo → Type 0
 NumbersWithin total u = (x : Undo) → In x u → number_in x < total
-
--- The steps that `part` names were put in front of the others.
-abbrev pub Adds : ℕ → (List Pending → List Request) → List Undo → List Undo → Type 0
-Adds total part old new = (all : List Pending) → length all ≡ total → map (undo_request all) new ≡ part all ++ map (undo_request all) old
-
--- The list with the abort and the deletion of an upload in front, if its completion was sent and got no answer.
-abbrev pub with_tried : Bool → ℕ → List Undo → List Undo
-with_tried true n list = undos.Abort n ∷ undos.Delete n ∷ list
-with_tried false n list = list
-
--- The list with the abort of an upload in front, if its completion was never sent.
-abbrev pub with_unsent : Bool → ℕ → List Undo → List Undo
-with_unsent true n list = list
-with_unsent false n list = undos.Abort n ∷ list

@@ -6,7 +6,8 @@ ghost use Rattle.job_protocol.specs.JobCommits.{all_commits, Marking, commit_ask
 ghost use Rattle.job_protocol.specs.AtWork.{read_script};
 ghost use Rattle.commit_lanes.specs.Places.{places_from};
 ghost use Rattle.commit_lanes.specs.ReadSets.{HasAll};
-ghost use Rattle.commit_lanes.specs.Relatives.{relative_of, paths_below};
+ghost use Rattle.commit_lanes.specs.Relatives.{relative_of};
+ghost use Rattle.commit_lanes.specs.inner.Relatives.{paths_below};
 
 use crate::places::{Place, upload};
 use job_model::JobPlan;

@@ -3,7 +3,8 @@ ghost use Rattle.std.specs.BTreeSet.{contains};
 ghost use Rattle.std.specs.Ordering.{nat_cmp};
 ghost use Rattle.job_protocol.specs.Lanes.{undo, chosen, is_tried, is_in, is_unsent, in_turn, abort, deletion};
 ghost use Rattle.job_protocol.specs.LaneTable.{In};
-ghost use Rattle.commit_lanes.specs.Undos.{Adds, IsRevert, NumbersWithin, with_tried, with_unsent};
+ghost use Rattle.commit_lanes.specs.inner.Undos.{Adds, with_tried, with_unsent};
+ghost use Rattle.commit_lanes.specs.Undos.{IsRevert, NumbersWithin};
 
 use crate::lanes::Lanes;
 use crate::undo::{Undo, UndoList};

@@ -3,7 +3,8 @@ ghost use Rattle.std.specs.HashMap.{get as found, Updates};
 ghost use Rattle.std.specs.Option.{unwrap_or};
 ghost use Rattle.text_and_lists.specs.Order.{text_eq};
 ghost use Rattle.job_protocol.specs.LaneTable.{In};
-ghost use Rattle.commit_lanes.specs.Clashes.{Item, items_from, IsBest, is_better, clash_of, Finds};
+ghost use Rattle.commit_lanes.specs.Clashes.{Item, items_from, IsBest};
+ghost use Rattle.commit_lanes.specs.inner.Clashes.{is_better, clash_of, Finds};
 
 use pending_json::{PendingSet, PendingUpload};
 use s3_types::{Key, Text, put};

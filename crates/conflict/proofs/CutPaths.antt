@@ -1,6 +1,6 @@
 -- The directory of a path, by the place where the path is cut; and texts that begin with a directory and a `/`.
 use Rattle.text_and_lists.specs.Parts.{is_other}
-use Rattle.conflict.specs.Partitions.{with_partition}
+use Rattle.conflict.specs.inner.Partitions.{with_partition}
 use Rattle.job_protocol.specs.Conflicts.{dir_from, dir_of, dirs_of, partitions, with_dir}
 use Rattle.job_protocol.specs.Outputs.{ordered}
 use Rattle.s3_types.specs.Pages.{begins}

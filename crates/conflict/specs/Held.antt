@@ -1,11 +1,10 @@
 -- A check before a commit in progress, as data.
-use Rattle.conflict.specs.declared.check_state.CheckState.{CheckState}
 use Rattle.conflict.specs.declared.check_state.CheckStage.{CheckStage}
+use Rattle.conflict.specs.declared.check_state.CheckState.{CheckState}
 use Rattle.job_model.specs.declared.ends.CheckEnd.{CheckEnd}
-use Rattle.job_protocol.specs.Rechecks.{Check, CheckOver, Looking, Probing, probing}
+use Rattle.job_protocol.specs.Rechecks.{Check, CheckOver, Looking, Probing}
 use Rattle.list_walk.specs.Walks.{keys_on}
-use Rattle.std.specs.Prelude.{List, None, Option, Some, ℕ, [], ◌∷◌}
-use Rattle.job_model.specs.declared.ends.CheckEnd.TheVariants as ends
+use Rattle.std.specs.Prelude.{List, ℕ, [], ◌∷◌}
 use Rattle.conflict.specs.declared.check_state.CheckStage.TheVariants as stages
 
 -- The check that looks below the next of these partitions, or has ended if none is left.
@@ -22,8 +21,3 @@ check_at stages.Over keys left end = CheckOver end
 -- The check that the kept values represent.
 abbrev pub check_of : CheckState → Check
 check_of h = check_at h.stage (keys_on h.walk) h.partitions h.end
-
--- The check that found a key below this partition, or has these partitions left to check.
-abbrev pub after_key : Option (List ℕ) → List (List ℕ) → Check
-after_key (Some d) ds = CheckOver (ends.Conflict d)
-after_key None ds = probing ds

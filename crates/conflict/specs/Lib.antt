@@ -1,4 +1,3 @@
-pub mod Partitions
 pub mod Checks
 pub mod Deletions
 pub mod Rechecks
@@ -7,3 +6,4 @@ pub mod Fits
 pub mod Left
 pub mod ChecksEnd
 pub mod AskingLaws
+pub mod inner

@@ -6,7 +6,8 @@ ghost use Rattle.list_walk.specs.Walks.{keys_on};
 ghost use Rattle.list_walk.specs.Fitting.{FitsPage};
 ghost use Rattle.conflict.specs.Checks.{found_below, left_after};
 ghost use Rattle.conflict.specs.Rechecks.{check_of_plan};
-ghost use Rattle.conflict.specs.Held.{check_at, check_of, after_key};
+ghost use Rattle.conflict.specs.Held.{check_at, check_of};
+ghost use Rattle.conflict.specs.inner.Held.{after_key};
 ghost use Rattle.conflict.specs.Fits.{FitsLook};
 
 use crate::absent::CheckAbsent;

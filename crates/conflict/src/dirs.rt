@@ -1,6 +1,6 @@
 ghost use Rattle.std.specs.Prelude.{◌≡◌, IfOk, OnOk, option_map};
 ghost use Rattle.job_protocol.specs.Conflicts.{dir_of, partitions};
-ghost use Rattle.conflict.specs.Partitions.{with_partition};
+ghost use Rattle.conflict.specs.inner.Partitions.{with_partition};
 
 use s3_types::{Sequence, Text, TextList};
 use std::alloc::{AllocError, Global};

@@ -6,8 +6,10 @@ use Rattle.copy_tree.proofs.FallLaws.{falls, stays}
 use Rattle.copy_tree.proofs.MoveLaws.{in_part}
 use Rattle.copy_tree.proofs.Moved.{is_new}
 use Rattle.copy_tree.proofs.StepLaws.{each, reads, sent_copy}
-use Rattle.copy_tree.specs.code.Copy.{Answer, CopyPaths, asks, first, goes, on}
-use Rattle.copy_tree.specs.code.Meaning.{always, gives, holds, left, sends}
+use Rattle.copy_tree.specs.code.Copy.{Answer, CopyPaths, asks, first}
+use Rattle.copy_tree.specs.inner.Copy.{goes, on}
+use Rattle.copy_tree.specs.code.Meaning.{sends}
+use Rattle.copy_tree.specs.inner.Meaning.{always, gives, holds, left}
 use Rattle.copy_tree.specs.declared.stages.CopyStage.{CopyStage}
 use Rattle.copy_tree.specs.declared.stages.CopyStage.TheVariants.{Copy, Here, Source, Target}
 use Rattle.fs_ops.proofs.AtPathLaws.{looks_there}

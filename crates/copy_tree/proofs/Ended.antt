@@ -4,7 +4,8 @@ use Rattle.bucket_ops.specs.Phases.{AlwaysIn, SendsIn, left_at}
 use Rattle.bucket_ops.specs.Walking.{all_below}
 use Rattle.copy_tree.specs.Public.{CopiesIn, CopySends, StandsCopied, most_copies}
 use Rattle.copy_tree.specs.code.Copy.{Answer, CopyPaths, asks, climb, first as first_stage}
-use Rattle.copy_tree.specs.code.Meaning.{always, gives, left, sends}
+use Rattle.copy_tree.specs.code.Meaning.{sends}
+use Rattle.copy_tree.specs.inner.Meaning.{always, gives, left}
 use Rattle.fs_ops.specs.Places.{prefix_of}
 use Rattle.fs_rename.specs.Between.{GivesBetween, Route, most_in}
 use Rattle.fs_tree.specs.declared.copy.CopyRefusal.TheVariants.{NoSuchBucket, OtherBucket}

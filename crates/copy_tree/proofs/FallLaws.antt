@@ -4,12 +4,14 @@ use Rattle.bucket_ops.proofs.Sweeps.{length_keys}
 use Rattle.bucket_ops.proofs.Walks.{walk_falls, walk_fits}
 use Rattle.bucket_ops.specs.Asks.{edited, reply_in}
 use Rattle.bucket_ops.specs.Looks.{look_of}
-use Rattle.bucket_ops.specs.Walking.{LessWalked, walk_left}
+use Rattle.bucket_ops.specs.Walking.{walk_left}
+use Rattle.bucket_ops.specs.inner.Walking.{LessWalked}
 use Rattle.bucket_ops.specs.declared.look.Look.{Look}
 use Rattle.copy_tree.proofs.PartLaws.{all_counted}
-use Rattle.copy_tree.specs.code.Copy.{CopyPaths, asks, begun, climb, compared, copies, count_of, differ, here, listed, on, on_climb}
-use Rattle.copy_tree.specs.code.Copy.{on_compare, on_copied, on_read, on_shown, on_walked, overlaps, pairs, parts_of, same_header}
-use Rattle.copy_tree.specs.code.Meaning.{holds, left}
+use Rattle.copy_tree.specs.code.Copy.{CopyPaths, asks, climb}
+use Rattle.copy_tree.specs.inner.Copy.{begun, compared, copies, count_of, differ, here, listed, on, on_climb}
+use Rattle.copy_tree.specs.inner.Copy.{on_compare, on_copied, on_read, on_shown, on_walked, overlaps, pairs, parts_of, same_header}
+use Rattle.copy_tree.specs.inner.Meaning.{holds, left}
 use Rattle.copy_tree.specs.declared.stages.CopyStage.{CopyStage}
 use Rattle.copy_tree.specs.declared.stages.CopyStage.TheVariants.{Copy, Here, Source, Target, Up, Walk, WalkTarget}
 use Rattle.copy_tree.specs.declared.stages.Parts.{Parts}
@@ -19,7 +21,8 @@ use Rattle.fs_ops.specs.Places.{look_asks, prefix_of}
 use Rattle.fs_ops.specs.code.Climbs.{climbed, climbing}
 use Rattle.fs_ops.specs.declared.climb.Climbed.{Climbed}
 use Rattle.fs_rename.proofs.CopyLaws.{copying_falls}
-use Rattle.fs_rename.specs.Copies.{LessCopies, copied_next, copies_left, has_more}
+use Rattle.fs_rename.specs.Copies.{copied_next, has_more}
+use Rattle.fs_rename.specs.inner.Copies.{LessCopies, copies_left}
 use Rattle.fs_rename.specs.declared.copying.CopyStep.{CopyStep}
 use Rattle.fs_tree.specs.declared.copy.CopyCount.{CopyCount}
 use Rattle.list_walk.specs.Walks.{More, Walked, Whole, keys_on}

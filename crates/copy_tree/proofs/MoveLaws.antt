@@ -8,15 +8,16 @@ use Rattle.bucket_ops.proofs.Rising.{sorted}
 use Rattle.bucket_ops.specs.Walking.{all_below, keys_below}
 use Rattle.copy_tree.proofs.Moved.{move_below, moved_rest, one_source}
 use Rattle.copy_tree.proofs.PartLaws.{all_shown, kept_each, kept_has, sources_rise, targets_rise}
-use Rattle.copy_tree.specs.code.Copy.{CopyPaths, count_of}
-use Rattle.copy_tree.specs.code.Meaning.{absent, all_parts, moves, standing}
+use Rattle.copy_tree.specs.code.Copy.{CopyPaths}
+use Rattle.copy_tree.specs.inner.Copy.{count_of}
+use Rattle.copy_tree.specs.inner.Meaning.{absent, all_parts, moves, standing}
 use Rattle.dir_markers.specs.Markers.{marker_of}
 use Rattle.fs_ops.proofs.Showing.{cmp_behind}
 use Rattle.fs_rename.proofs.CopyLaws.{all_stand, copied_stand, copies_keep, in_targets, is_target, one_in_take}
 use Rattle.fs_rename.proofs.NewKeys.{new_is}
 use Rattle.fs_rename.proofs.Placed.{dir_from, dir_to, move_of, sources_to}
 use Rattle.fs_rename.proofs.Whole.{whole_copying}
-use Rattle.fs_rename.specs.Copies.{AreFree, IsOneOf, copied_all, moves_to, sources, targets}
+use Rattle.fs_rename.specs.inner.Copies.{AreFree, IsOneOf, copied_all, moves_to, sources, targets}
 use Rattle.fs_rename.specs.Keys.{new_key}
 use Rattle.fs_tree.proofs.Moving.{rest_after}
 use Rattle.fs_tree.specs.Copies.{CopiesTree, IsCopiedInPart, MayCopy}

@@ -6,8 +6,8 @@ use Rattle.text_and_lists.specs.Order.{text_cmp, text_total}
 use Rattle.bucket_ops.proofs.Below.{below_stands, stands_below}
 use Rattle.bucket_ops.proofs.Rising.{lower}
 use Rattle.bucket_ops.specs.Walking.{all_below}
-use Rattle.copy_tree.specs.Parts.{chosen, from_text, is_first, is_wanted, kept}
-use Rattle.fs_rename.specs.Copies.{IsOneOf, Move, sources, targets}
+use Rattle.copy_tree.specs.inner.Parts.{chosen, from_text, is_first, is_wanted, kept}
+use Rattle.fs_rename.specs.inner.Copies.{IsOneOf, Move, sources, targets}
 use Rattle.fs_tree.specs.Tree.{Stands}
 use Rattle.s3_types.specs.Pages.{begins, text_in}
 use Rattle.s3_types.specs.Store.{Objects}

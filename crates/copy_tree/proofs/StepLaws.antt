@@ -6,14 +6,18 @@ use Rattle.text_and_lists.specs.Order.{text_cmp, text_eq, text_total}
 use Rattle.bucket_ops.proofs.Walks.{walk_begins, walk_fits, walk_goes}
 use Rattle.bucket_ops.specs.Asks.{edited, is_look, reply_in}
 use Rattle.bucket_ops.specs.Looks.{look_of}
-use Rattle.bucket_ops.specs.Walking.{IsWalked, IsWalking, all_below, fits, keys_below, walk_asks}
+use Rattle.bucket_ops.specs.Walking.{IsWalking, all_below, fits, keys_below, walk_asks}
+use Rattle.bucket_ops.specs.inner.Walking.{IsWalked}
 use Rattle.copy_tree.proofs.MoveLaws.{absent_each, standing_each, standing_has, standing_rise, tree_copied}
 use Rattle.copy_tree.proofs.Moved.{moved_rest}
 use Rattle.copy_tree.proofs.PartLaws.{chosen_sources, chosen_targets}
-use Rattle.copy_tree.specs.code.Copy.{Answer, CopyPaths, asks, begun, climb, compared, copies, count_of, differ, here as here_at, listed}
-use Rattle.copy_tree.specs.code.Copy.{on, on_climb, on_compare, on_copied, on_read, on_show, on_shown, on_walk, on_walked, pairs, parts_of}
-use Rattle.copy_tree.specs.code.Copy.{read_of, same_header, with_places}
-use Rattle.copy_tree.specs.code.Meaning.{IsComparing, IsPlaced, StandsFirst, absent, all_parts, gives, holds, moves, sends, standing}
+use Rattle.copy_tree.specs.code.Copy.{Answer, CopyPaths, asks, climb}
+use Rattle.copy_tree.specs.inner.Copy.{begun, compared, copies, count_of, differ, here as here_at, listed}
+use Rattle.copy_tree.specs.inner.Copy.{on, on_climb, on_compare, on_copied, on_read, on_show, on_shown, on_walk, on_walked, pairs, parts_of}
+use Rattle.copy_tree.specs.code.Copy.{read_of}
+use Rattle.copy_tree.specs.inner.Copy.{same_header, with_places}
+use Rattle.copy_tree.specs.code.Meaning.{sends}
+use Rattle.copy_tree.specs.inner.Meaning.{IsComparing, IsPlaced, StandsFirst, absent, all_parts, gives, holds, moves, standing}
 use Rattle.copy_tree.specs.declared.stages.CopyStage.{CopyStage}
 use Rattle.copy_tree.specs.declared.stages.CopyStage.TheVariants.{Copy, Here, Source, Target, Up, Walk, WalkTarget}
 use Rattle.copy_tree.specs.declared.stages.Parts.{Parts}
@@ -24,8 +28,9 @@ use Rattle.fs_ops.specs.code.Climbs.{climbed, climbing}
 use Rattle.fs_ops.specs.declared.climb.Climbed.{Climbed}
 use Rattle.fs_rename.proofs.CopyLaws.{copy_of_one, copying_goes, in_sources, in_targets, one_in_drop, some_left}
 use Rattle.fs_rename.proofs.Placed.{all_found, dir_fit, dir_long, sources_to}
-use Rattle.fs_rename.specs.Copies.{IsCopied, IsCopying, IsOneOf, Move, copied_all, copied_next, copy_asks, copy_of, has_more, sources}
-use Rattle.fs_rename.specs.Copies.{targets}
+use Rattle.fs_rename.specs.Copies.{copied_next, copy_asks, copy_of, has_more}
+use Rattle.fs_rename.specs.inner.Copies.{IsCopied, IsCopying, IsOneOf, Move, copied_all, sources}
+use Rattle.fs_rename.specs.inner.Copies.{targets}
 use Rattle.fs_rename.specs.Keys.{new_keys}
 use Rattle.fs_rename.specs.declared.copying.CopyStep.{CopyStep}
 use Rattle.fs_rename.specs.declared.copying.Copying.{Copying}

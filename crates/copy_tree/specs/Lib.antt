@@ -1,3 +1,3 @@
-pub mod Parts
 pub mod Public
 pub mod code
+pub mod inner

@@ -31,7 +31,8 @@ pub(crate) struct CopyNames {
 impl Model for CopyNames {
     ghost use Rattle.std.specs.Prelude.{◌≡◌};
     ghost use Rattle.fs_rename.specs.Keys.{place_of};
-    ghost use Rattle.copy_tree.specs.code.Copy.{CopyPaths, overlaps, climb};
+    ghost use Rattle.copy_tree.specs.code.Copy.{CopyPaths, climb};
+    ghost use Rattle.copy_tree.specs.inner.Copy.{overlaps};
 
     ghost Value = { CopyPaths };
 

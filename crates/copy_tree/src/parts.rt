@@ -2,7 +2,7 @@ ghost use Rattle.std.specs.Prelude.{◌≡◌, ◌++◌, ◌∷◌, [], cond, If
 ghost use Rattle.std.specs.Ordering.{is_lt};
 ghost use Rattle.text_and_lists.specs.Order.{text_cmp};
 ghost use Rattle.s3_types.specs.Pages.{text_in};
-ghost use Rattle.copy_tree.specs.Parts.{from_text, is_first, is_wanted, chosen as chosen_of};
+ghost use Rattle.copy_tree.specs.inner.Parts.{from_text, is_first, is_wanted, chosen as chosen_of};
 
 use list_walk::text_of;
 use s3_types::{Key, KeyList, PageEntry, Text};

@@ -4,9 +4,12 @@ ghost use Rattle.fs_tree.specs.declared.copy.CopyRefusal.TheVariants.{NoSuchBuck
 ghost use Rattle.operations.specs.declared.plan.Step.TheVariants.{End};
 ghost use Rattle.bucket_ops.specs.Walking.{fits};
 ghost use Rattle.copy_tree.specs.code.Copy as copy;
+ghost use Rattle.copy_tree.specs.inner.Copy as copy_inner;
 ghost use Rattle.fs_rename.specs.Keys.{place_of};
-ghost use Rattle.copy_tree.specs.code.Copy.{read_of, same_header};
+ghost use Rattle.copy_tree.specs.code.Copy.{read_of};
+ghost use Rattle.copy_tree.specs.inner.Copy.{same_header};
 ghost use Rattle.copy_tree.specs.code.Meaning as meaning;
+ghost use Rattle.copy_tree.specs.inner.Meaning as meaning_inner;
 
 use crate::names::CopyNames;
 use crate::parts::chosen;
@@ -81,7 +84,7 @@ fn read_of(alloc: Global, bucket: &Bucket, keys: &[Key]) -> Result<Request, Allo
 }
 
 fn here(alloc: Global, overlap: bool, seen: Look) -> Step<CopyStage, Answer>
-    ensures { result ≡ copy.here overlap seen }
+    ensures { result ≡ copy_inner.here overlap seen }
 {
     if overlap {
         return Step::End(Err(CopyRefusal::Overlap));
@@ -93,7 +96,7 @@ fn here(alloc: Global, overlap: bool, seen: Look) -> Step<CopyStage, Answer>
 }
 
 fn count_of(parts: &Parts) -> CopyCount
-    ensures { result ≡ copy.count_of parts.now }
+    ensures { result ≡ copy_inner.count_of parts.now }
 {
     CopyCount {
         copied: parts.places.len() as u64,
@@ -102,7 +105,7 @@ fn count_of(parts: &Parts) -> CopyCount
 }
 
 fn copies(count: CopyCount, keys: KeyList, places: KeyList) -> Step<CopyStage, Answer>
-    ensures { result ≡ copy.copies count keys places }
+    ensures { result ≡ copy_inner.copies count keys places }
 {
     if keys.len() == 0 {
         return Step::End(Ok(count));
@@ -115,7 +118,7 @@ fn copies(count: CopyCount, keys: KeyList, places: KeyList) -> Step<CopyStage, A
 
 /// The step after all new keys that exist were found to agree.
 fn begun(parts: Parts) -> Step<CopyStage, Answer>
-    ensures { result ≡ copy.begun parts }
+    ensures { result ≡ copy_inner.begun parts }
 {
     let count = count_of(&parts);
     let Parts { keys, places, .. } = parts;
@@ -123,7 +126,7 @@ fn begun(parts: Parts) -> Step<CopyStage, Answer>
 }
 
 fn on_copied(count: CopyCount, step: CopyStep) -> Step<CopyStage, Answer>
-    ensures { result ≡ copy.on_copied count step }
+    ensures { result ≡ copy_inner.on_copied count step }
 {
     match step {
         CopyStep::Next(copying) => Step::Next(CopyStage::Copy { copying, count }),
@@ -137,7 +140,7 @@ fn parts_of(
     places: &[Key],
     entries: &[PageEntry],
 ) -> Result<Parts, AllocError>
-    ensures { IfOk result (λ parts. parts ≡ copy.parts_of keys.now places.now entries.now) }
+    ensures { IfOk result (λ parts. parts ≡ copy_inner.parts_of keys.now places.now entries.now) }
 {
     let standing = both(
         chosen(alloc, true, keys, places, entries),
@@ -157,7 +160,7 @@ fn parts_of(
 }
 
 fn parted(parts: Parts) -> Step<CopyStage, Answer>
-    ensures { result ≡ copy.parted parts }
+    ensures { result ≡ copy_inner.parted parts }
 {
     if parts.stood.len() == 0 {
         return begun(parts);
@@ -166,7 +169,7 @@ fn parted(parts: Parts) -> Step<CopyStage, Answer>
 }
 
 fn on_read(parts: Parts, done: usize, reply: &Reply) -> Result<Step<CopyStage, Answer>, AllocError>
-    ensures { IfOk result (λ step. step ≡ copy.on_read parts done reply.now) }
+    ensures { IfOk result (λ step. step ≡ copy_inner.on_read parts done reply.now) }
 {
     match reply {
         Reply::Object { bytes, header } => {
@@ -199,7 +202,7 @@ fn same_header(one: Option<LengthHeader>, other: Option<LengthHeader>) -> bool
 }
 
 fn differ(places: &[Key]) -> Result<Step<CopyStage, Answer>, AllocError>
-    ensures { IfOk result (λ step. step ≡ copy.differ places.now) }
+    ensures { IfOk result (λ step. step ≡ copy_inner.differ places.now) }
 {
     match places.first() {
         Some(key) => Ok(Step::End(Err(CopyRefusal::Differs(key.as_text().clone()?)))),
@@ -208,7 +211,7 @@ fn differ(places: &[Key]) -> Result<Step<CopyStage, Answer>, AllocError>
 }
 
 fn agreed(parts: Parts, done: usize) -> Step<CopyStage, Answer>
-    ensures { result ≡ copy.agreed parts done }
+    ensures { result ≡ copy_inner.agreed parts done }
 {
     if 1 < keys_behind(parts.stood.as_slice(), done).len() {
         Step::Next(CopyStage::Source {
@@ -221,7 +224,7 @@ fn agreed(parts: Parts, done: usize) -> Step<CopyStage, Answer>
 }
 
 fn compared(parts: Parts, done: usize, same: bool) -> Result<Step<CopyStage, Answer>, AllocError>
-    ensures { IfOk result (λ step. step ≡ copy.compared parts done same) }
+    ensures { IfOk result (λ step. step ≡ copy_inner.compared parts done same) }
 {
     if same {
         return Ok(agreed(parts, done));
@@ -238,7 +241,7 @@ fn on_compare(
     read_header: Option<LengthHeader>,
     reply: &Reply,
 ) -> Result<Step<CopyStage, Answer>, AllocError>
-    ensures { IfOk result (λ step. step ≡ copy.on_compare parts done read.now read_header reply.now) }
+    ensures { IfOk result (λ step. step ≡ copy_inner.on_compare parts done read.now read_header reply.now) }
 {
     match reply {
         Reply::Object { bytes, header } => {
@@ -261,7 +264,7 @@ fn too_long(key: &Key) -> Result<Step<CopyStage, Answer>, AllocError>
 impl CopyNames {
     /// The step after no file was found at the target or above it.
     fn placed(&self, keys: KeyList) -> Result<Step<CopyStage, Answer>, AllocError>
-        ensures { IfOk result (λ step. step ≡ copy.placed self.now (place_of self.now.source self.now.target) keys) }
+        ensures { IfOk result (λ step. step ≡ copy_inner.placed self.now (place_of self.now.source self.now.target) keys) }
     {
         let Some(base) = self.place() else {
             let_go(keys);
@@ -289,7 +292,7 @@ impl CopyNames {
         keys: KeyList,
         climbed: Climbed,
     ) -> Result<Step<CopyStage, Answer>, AllocError>
-        ensures { IfOk result (λ step. step ≡ copy.on_climb self.now keys climbed) }
+        ensures { IfOk result (λ step. step ≡ copy_inner.on_climb self.now keys climbed) }
     {
         match climbed {
             Climbed::File(key) => {
@@ -303,7 +306,7 @@ impl CopyNames {
 
     /// The step after all keys below the source were listed.
     fn listed(&self, keys: KeyList) -> Result<Step<CopyStage, Answer>, AllocError>
-        ensures { IfOk result (λ step. step ≡ copy.listed self.now keys) }
+        ensures { IfOk result (λ step. step ≡ copy_inner.listed self.now keys) }
     {
         if keys.len() == 0 {
             let_go(keys);
@@ -317,7 +320,7 @@ impl CopyNames {
     }
 
     fn on_walk(&self, walk: KeyWalk, reply: &Reply) -> Result<Step<CopyStage, Answer>, AllocError>
-        ensures { IfOk result (λ step. step ≡ copy.on_walk self.now walk reply.now (fits reply.now)) }
+        ensures { IfOk result (λ step. step ≡ copy_inner.on_walk self.now walk reply.now (fits reply.now)) }
     {
         let mut walk = walk;
         if !fits(reply) {
@@ -342,7 +345,7 @@ impl CopyNames {
         walk: KeyWalk,
         reply: &Reply,
     ) -> Result<Step<CopyStage, Answer>, AllocError>
-        ensures { IfOk result (λ step. step ≡ copy.on_show keys places walk reply.now (fits reply.now)) }
+        ensures { IfOk result (λ step. step ≡ copy_inner.on_show keys places walk reply.now (fits reply.now)) }
     {
         let mut walk = walk;
         if !fits(reply) {
@@ -371,17 +374,17 @@ impl Phases for CopyNames {
 
     ghost asks = { copy.asks };
 
-    ghost goes = { copy.goes };
+    ghost goes = { copy_inner.goes };
 
-    ghost holds = { meaning.holds };
+    ghost holds = { meaning_inner.holds };
 
-    ghost gives = { meaning.gives };
+    ghost gives = { meaning_inner.gives };
 
-    ghost always = { meaning.always };
+    ghost always = { meaning_inner.always };
 
     ghost sends = { meaning.sends };
 
-    ghost left = { meaning.left };
+    ghost left = { meaning_inner.left };
 
     ghost absent = { Err NoSuchBucket };
 

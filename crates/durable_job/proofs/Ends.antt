@@ -1,6 +1,7 @@
 -- What was played, from what the world of the jobs leaves.
-use Rattle.durable_job.specs.Jobs.{IsOfOne, KeepsOne, run_told, told_both, verdict_of_two}
-use Rattle.durable_job.specs.Moves.{Stays, TwinsStay, left_of, turns_left}
+use Rattle.durable_job.specs.Jobs.{IsOfOne, KeepsOne, run_told, verdict_of_two}
+use Rattle.durable_job.specs.inner.Jobs.{told_both}
+use Rattle.durable_job.specs.inner.Moves.{Stays, TwinsStay, left_of, turns_left}
 use Rattle.durable_job.specs.Pace.{LacksSince}
 use Rattle.durable_job.specs.Played.{HaveEventsLeft, IsHeld, IsPlayed, Survives}
 use Rattle.durable_job.specs.declared.jobs.Jobs.TheVariants.{One, Two}

@@ -1,5 +1,6 @@
 -- How a shelf keeps up with a run, step by step.
-use Rattle.durable_job.specs.Moves.{Adds, Stays, Stepped, left_of}
+use Rattle.durable_job.specs.Moves.{Adds, Stepped}
+use Rattle.durable_job.specs.inner.Moves.{Stays, left_of}
 use Rattle.durable_job.specs.Pace.{Behind, InPace, Lacks}
 use Rattle.durable_job.specs.Played.{Counts}
 use Rattle.job_model.specs.JobScript.{Script}
@@ -9,7 +10,8 @@ use Rattle.journal_log.proofs.Journals.{changes_append, changes_none}
 use Rattle.journal_log.proofs.Leaving.{on_and_on, started}
 use Rattle.journal_log.proofs.Standing.{begins_all, begins_more, holds_more, holds_none, short, some}
 use Rattle.journal_log.proofs.Steps.{answered_then, some_grown, stops_of}
-use Rattle.journal_log.specs.Appends.{Appended, AreAnswered, Stopped}
+use Rattle.journal_log.specs.Appends.{AreAnswered, Stopped}
+use Rattle.journal_log.specs.inner.Appends.{Appended}
 use Rattle.journal_log.specs.Changes.{Begins, changes}
 use Rattle.journal_log.specs.Crashes.{IsBetween, WhereTold}
 use Rattle.journal_log.specs.Kept.{Holds, HoldsPart, IsMoment}

@@ -1,5 +1,6 @@
 -- A step of a world of two jobs.
-use Rattle.durable_job.specs.Moves.{Stepped, TwinsStay, turns_left}
+use Rattle.durable_job.specs.Moves.{Stepped}
+use Rattle.durable_job.specs.inner.Moves.{TwinsStay, turns_left}
 use Rattle.std.proofs.Common.{Bool, None, Option, Some, ap, arith, false, inl, inr, is_some, length, length-append, refl, slice_get, subst}
 use Rattle.std.proofs.Common.{sym, ℕ, [], ◌+◌, ◌-◌, ◌<◌, ◌∙◌, ◌∷◌, ◌≡◌}
 use Rattle.std.proofs.lemmas.Option.{slice_get_cases, slice_get_within}

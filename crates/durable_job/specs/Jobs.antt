@@ -12,7 +12,6 @@ use Rattle.s3_types.specs.Store.{Content}
 use Rattle.s3_types.specs.declared.journal.Entry.{Entry}
 use Rattle.std.specs.Prelude.{List, false, if◌then◌else◌, length, ℕ, [], ◌==◌, ◌≡◌}
 use Rattle.twin_jobs.specs.Worlds.{Keeps, Run, played}
-use Rattle.twin_jobs.specs.declared.played.JobLeft.{JobLeft}
 use Rattle.twin_script.specs.TwinScripts.{Twins, sides_in}
 
 -- The destination of the job, or the one that both jobs share.
@@ -28,10 +27,6 @@ nothing_told = record { picks = []; ends = []; second_picks = []; second_ends = 
 pub record IsOfOne (told : Told) : Type 0 where
   pub picks : told.second_picks ≡ []
   pub ends : told.second_ends ≡ []
-
--- The report of two jobs, from what the run leaves of each.
-abbrev pub told_both : JobLeft → JobLeft → Told
-told_both first second = record { picks = first.picks; ends = first.ends; second_picks = second.picks; second_ends = second.ends }
 
 -- The run of two jobs over a store with this content, with these entries and this report.
 abbrev pub run_told : Twins → Content → List Entry → Told → Run

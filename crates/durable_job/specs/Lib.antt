@@ -2,3 +2,4 @@ pub mod Moves
 pub mod Pace
 pub mod Jobs
 pub mod Played
+pub mod inner

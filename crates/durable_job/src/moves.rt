@@ -4,7 +4,8 @@ ghost use Rattle.s3_types.specs.Moment.{moment};
 ghost use Rattle.s3_types.specs.Store.{Content};
 ghost use Rattle.s3_types.specs.declared.journal.Entry.{Entry};
 ghost use Rattle.job_states.specs.Turning.{KeepsLaws};
-ghost use Rattle.durable_job.specs.Moves.{Stepped, Stays, left_of, TwinsStay, turns_left};
+ghost use Rattle.durable_job.specs.Moves.{Stepped};
+ghost use Rattle.durable_job.specs.inner.Moves.{Stays, left_of, TwinsStay, turns_left};
 
 use job_actor::Works;
 use job_world::World;

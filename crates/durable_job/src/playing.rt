@@ -3,7 +3,8 @@ ghost use Rattle.journal_log.specs.Images.{NotReplaced};
 ghost use Rattle.job_spec.specs.States.{verdict};
 ghost use Rattle.job_world.specs.Worlds.{MayBegin};
 ghost use Rattle.twin_script.specs.TwinScripts.{AreTwins};
-ghost use Rattle.durable_job.specs.Jobs.{verdict_of_two, told_both};
+ghost use Rattle.durable_job.specs.Jobs.{verdict_of_two};
+ghost use Rattle.durable_job.specs.inner.Jobs.{told_both};
 ghost use Rattle.durable_job.specs.Played.{IsPlayed, Counts};
 
 use crate::jobs::{Jobs, Told};

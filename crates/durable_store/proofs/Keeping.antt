@@ -1,5 +1,6 @@
 -- The answer for the outcome of a save, and which statuses of a text are not the shelf's.
-use Rattle.durable_store.specs.Outcomes.{IsAnswer, status_of, text_at}
+use Rattle.durable_store.specs.Outcomes.{IsAnswer}
+use Rattle.durable_store.specs.inner.Outcomes.{status_of, text_at}
 use Rattle.durable_store.specs.Outcomes.IsAnswer.{failed, saved, wanting}
 use Rattle.durable_store.specs.Works.{IsSaid, Saves}
 use Rattle.exit_status.specs.Statuses.{code}

@@ -2,3 +2,4 @@ pub mod Works
 pub mod Doing
 pub mod Stores
 pub mod Outcomes
+pub mod inner

@@ -1,4 +1,6 @@
 -- The outcome of a load and of a command's work.
+use Rattle.devices.specs.Logged.{Holding, IsDurable, IsSmall, Sight, Stored}
+use Rattle.devices.specs.Logged.Holding.{Nothing as Absent}
 use Rattle.durable_store.specs.Stores.{found}
 use Rattle.durable_store.specs.Works.{Saves, Says, Work}
 use Rattle.durable_store.specs.declared.shelf_state.ShelfState.{ShelfState}
@@ -15,14 +17,10 @@ use Rattle.s3_types.specs.Store.{BucketContent, Content}
 use Rattle.s3_types.specs.declared.journal.Entry.{Entry}
 use Rattle.s3_types.specs.declared.object.Object.{Object}
 use Rattle.s3_types.specs.declared.request.Request.{Request}
-use Rattle.devices.specs.Logged.{Holding, IsDurable, IsSmall, Sight, Stored}
-use Rattle.devices.specs.Logged.Holding.{Nothing as Absent}
-use Rattle.devices.specs.declared.kept.ShelfStop.{ShelfStop}
-use Rattle.std.specs.Prelude.{Err, List, None, Ok, Option, Result, Some, length, true, ℕ, ◌<◌, ◌^◌, ◌≡◌, ◌≢◌, ◌≤◌, ◌⊎◌}
+use Rattle.std.specs.Prelude.{List, None, Option, Some, length, true, ℕ, ◌<◌, ◌^◌, ◌≡◌, ◌≢◌, ◌≤◌, ◌⊎◌}
 use Rattle.store_image.specs.Content.{IsContent}
 use Rattle.store_image.specs.Image.{image}
 use Rattle.std.specs.FinMap as fin
-use Rattle.devices.specs.declared.kept.ShelfStop.TheVariants as stops
 
 -- ---- a load
 
@@ -54,17 +52,6 @@ WhereSound (Store c) P = P
 WhereSound (Faulty number place) P = Unit {0}
 
 -- ---- a command
-
--- The status for the result of a save.
-abbrev pub status_of : {A : Type 0} → Result A ShelfStop → Status
-status_of (Ok x) = Done
-status_of (Err stops.Failed) = ShelfFault
-status_of (Err stops.NoMemory) = NoMemory
-
--- The text, if the work was done.
-abbrev pub text_at : Status → List ℕ → Option (List ℕ)
-text_at Done text = Some text
-text_at _ text = None
 
 -- The answer to work. Work that says something has its own status and text. Work that saves has Done and its text, or the status of a
 -- failed shelf or of memory that ran out, without a text. Each has what was sent.

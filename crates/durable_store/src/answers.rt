@@ -5,7 +5,8 @@ ghost use Rattle.devices.specs.Logged.{CrashesLeave};
 ghost use Rattle.journal_log.specs.Made.{KeepsImages};
 ghost use Rattle.durable_store.specs.Works as works;
 ghost use Rattle.durable_store.specs.Doing.{work_in};
-ghost use Rattle.durable_store.specs.Outcomes.{status_of, text_at, IsAnswer, IsHeld, HasImages, MightLeave, IsDurableNow, CallsBy, Tells};
+ghost use Rattle.durable_store.specs.inner.Outcomes.{status_of, text_at};
+ghost use Rattle.durable_store.specs.Outcomes.{IsAnswer, IsHeld, HasImages, MightLeave, IsDurableNow, CallsBy, Tells};
 
 use crate::saving::save;
 use crate::work::{CommandAnswer, Work};

@@ -1,7 +1,8 @@
 -- What the file of a log stands for during an append.
 use Rattle.folder_log.proofs.Moments.{goes_on, started}
 use Rattle.folder_log.specs.Disk.{Elapses, File, IsRead, Only, Settles, ShowsNow, file_length}
-use Rattle.folder_log.specs.Kept.{IsAtRest, IsClosed, IsLeftOf, IsPrepared, IsSettled, IsSure, Leaves, TakesAppends, as_holding, holding_of}
+use Rattle.folder_log.specs.Kept.{IsAtRest, IsSettled, TakesAppends, as_holding}
+use Rattle.folder_log.specs.inner.Kept.{IsClosed, IsLeftOf, IsPrepared, IsSure, Leaves, holding_of}
 use Rattle.folder_log.specs.Kept.{stored, stored_of}
 use Rattle.log_format.proofs.Files.{file_again}
 use Rattle.log_format.specs.Change.{IsChange}

@@ -1,7 +1,8 @@
 -- The file that a crash leaves by choice is one that it may leave.
 use Rattle.folder_log.specs.Calls.{IsImage, IsTornBy, Recorded, after, after_all, at_rest, filled, is_within, left_by, state_in, wrote}
 use Rattle.folder_log.specs.Disk.{File, IsTorn, file_after, overwritten}
-use Rattle.folder_log.specs.Images.{after_torn, shown, span, torn_last, torn_same}
+use Rattle.folder_log.specs.Images.{after_torn, shown, span, torn_last}
+use Rattle.folder_log.specs.inner.Images.{torn_same}
 use Rattle.folder_log.specs.declared.state.Choice.{Choice}
 use Rattle.folder_log.specs.declared.state.Choice.TheVariants.{Kept, Lost, Torn}
 use Rattle.folder_log.specs.declared.state.DiskCall.{DiskCall}

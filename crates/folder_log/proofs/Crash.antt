@@ -1,6 +1,6 @@
 -- What a crash leaves during the two steps of an append, as bytes.
 use Rattle.folder_log.specs.Disk.{File, IsTorn, Torn, overwritten}
-use Rattle.folder_log.specs.Kept.{IsLeftOf}
+use Rattle.folder_log.specs.inner.Kept.{IsLeftOf}
 use Rattle.std.proofs.Common.{List, None, Some, ap, append_assoc, arith, drop, get_or, inl, inr, length, length-append, length-drop, sym}
 use Rattle.std.proofs.Common.{take, take-append-drop, ℕ, [], ◌++◌, ◌+◌, ◌∙◌, ◌∷◌, ◌≡◌, ◌⊎◌}
 use Rattle.std.proofs.lemmas.List.{append-nil, drop_all, drop_at, drop_more, take_all, take_at}

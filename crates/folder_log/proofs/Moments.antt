@@ -1,5 +1,6 @@
 -- How a run of calls goes on.
-use Rattle.folder_log.specs.Disk.{Elapses, FewMore, File, more}
+use Rattle.folder_log.specs.Disk.{Elapses, File}
+use Rattle.folder_log.specs.inner.Disk.{FewMore, more}
 use Rattle.devices.specs.Logged.{LeavesOnly}
 use Rattle.std.proofs.Common.{ap, arith, inl, ℕ, ◌+◌, ◌∙◌, ◌≡◌, ◌≤◌}
 

@@ -1,7 +1,8 @@
 -- The file of a disk in memory after one call more.
-use Rattle.folder_log.specs.Calls.{IsImage, Recorded, after, at_rest, last_of, state_in, state_of, wrote}
+use Rattle.folder_log.specs.Calls.{IsImage, Recorded, after, at_rest, state_in, state_of, wrote}
+use Rattle.folder_log.specs.inner.Calls.{last_of}
 use Rattle.folder_log.specs.Disk.{File, Follows, IsTorn, IsWithin, file_after}
-use Rattle.folder_log.specs.Images.{after_last, within_true, write_follows}
+use Rattle.folder_log.specs.inner.Images.{after_last, within_true, write_follows}
 use Rattle.folder_log.specs.declared.state.DiskCall.{DiskCall}
 use Rattle.folder_log.specs.declared.state.DiskCall.TheVariants.{Write}
 use Rattle.folder_log.specs.declared.state.Span.{Span}

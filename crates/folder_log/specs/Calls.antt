@@ -1,14 +1,14 @@
 -- The effect of the calls of a disk in memory: what is on the disk, what a read gives, and the ranges that were written since the last
 -- sync.
-use Rattle.std.specs.Prelude.{◌≡◌, ℕ, ◌≤◌, nat_le, Bool, false, cond, List, [], ◌∷◌, ◌++◌, length, replicate, take, Option, Some, None}
-use Rattle.folder_log.specs.Disk.{File, file_after, IsTorn}
 use Rattle.devices.specs.declared.calls.Calls.{Calls}
+use Rattle.folder_log.specs.Disk.{File, IsTorn, file_after}
+use Rattle.folder_log.specs.declared.state.Choice.{Choice}
+use Rattle.folder_log.specs.declared.state.Choice.TheVariants.{Kept, Lost, Torn}
+use Rattle.folder_log.specs.declared.state.DiskCall.{DiskCall}
+use Rattle.folder_log.specs.declared.state.DiskCall.TheVariants.{Swap, Sync, Write}
 use Rattle.folder_log.specs.declared.state.Span.{Span}
 use Rattle.folder_log.specs.declared.state.State.{State}
-use Rattle.folder_log.specs.declared.state.DiskCall.{DiskCall}
-use Rattle.folder_log.specs.declared.state.DiskCall.TheVariants.{Swap, Write, Sync}
-use Rattle.folder_log.specs.declared.state.Choice.{Choice}
-use Rattle.folder_log.specs.declared.state.Choice.TheVariants.{Lost, Kept, Torn}
+use Rattle.std.specs.Prelude.{Bool, List, None, Some, cond, false, length, nat_le, replicate, take, ℕ, [], ◌++◌, ◌∷◌, ◌≡◌, ◌≤◌}
 
 -- The state in which all of this file is on the disk.
 abbrev pub at_rest : File → State
@@ -77,12 +77,3 @@ pub record Recorded : Type 0 where
 -- The state of a disk in memory, from its calls so far.
 abbrev pub state_in : Recorded → State
 state_in d = state_of d.first d.calls
-
--- A disk in memory after one call more.
-abbrev pub recorded : Recorded → DiskCall → Recorded
-recorded d call = record { first = d.first; calls = d.calls ++ call ∷ []; turns = d.turns }
-
--- The state that was set last, or the first file with all of it on the disk.
-abbrev pub last_of : Option State → File → State
-last_of None first = at_rest first
-last_of (Some s) first = s

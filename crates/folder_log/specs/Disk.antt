@@ -1,6 +1,6 @@
 -- What a disk of one file holds, how its calls change that, and what a crash between two syncs may do.
-use Rattle.std.specs.Prelude.{◌≡◌, ◌⊎◌, ℕ, ◌+◌, ◌-◌, ◌^◌, ◌<◌, ◌≤◌, min, max, List, ◌++◌, length, take, drop, Option, Some, None}
 use Rattle.devices.specs.Logged.{most_file}
+use Rattle.std.specs.Prelude.{List, None, Option, Some, drop, length, max, take, ℕ, ◌++◌, ◌+◌, ◌<◌, ◌≡◌, ◌≤◌, ◌⊎◌}
 
 -- The bytes of the file, or None if there is no file.
 abbrev pub File : Type 0
@@ -10,10 +10,6 @@ File = Option (List ℕ)
 abbrev pub file_length : File → ℕ
 file_length None = 0
 file_length (Some bytes) = length bytes
-
--- If the disk shows nothing, it does not show this file.
-pub untold : (c : File) → (let seen : Option File = None in seen ≡ Some c) → ⊥
-untold c e = cc
 
 -- What was read is the file, if the disk shows it, and is not too large.
 abbrev pub IsRead : Option File → File → Type 0
@@ -76,14 +72,6 @@ Only file leaves = (c : File) → leaves c → c ≡ file
 abbrev pub Settles : Option File → (File → Type 0) → Type 0
 Settles None leaves = Unit {0}
 Settles (Some file) leaves = Only file leaves
-
--- The count of calls after n more, but at most 2^64 - 1.
-abbrev pub more : ℕ → ℕ → ℕ
-more n count = min (count + n) (2 ^ 64 - 1)
-
--- At least one and at most `most` more calls were made.
-abbrev pub FewMore : (most before after : ℕ) → Type 0
-FewMore most before after = (n : ℕ) × (1 ≤ n) × (n ≤ most) × (after ≡ more n before)
 
 -- A folder's file as a disk: how many calls were made, and how many of them failed.
 pub record Counts : Type 0 where

@@ -1,32 +1,18 @@
 -- The laws of a disk in memory.
-use Rattle.std.specs.Prelude.{◌≡◌, ℕ, ◌+◌, ◌≤◌, Bool, true, false, cond, List, [], ◌∷◌, ◌++◌, length, take, drop, Option, Some, None, refl}
-use Rattle.std.proofs.Common.{sym, ap, subst, ◌∙◌, arith, length-append, length-take, length-drop}
-use Rattle.std.proofs.lemmas.Bool.{leb-true, le-leb}
-use Rattle.std.proofs.lemmas.List.{take_all, take_at, drop_at}
-use Rattle.folder_log.specs.Disk.{File, Torn, IsTorn, IsWithin, Follows, overwritten, file_after}
-use Rattle.folder_log.specs.declared.state.Span.{Span}
-use Rattle.folder_log.specs.declared.state.State.{State}
+use Rattle.folder_log.specs.Calls.{IsImage, IsTornBy, LeftSince, Recorded, after, after_all, at_rest, is_within, state_in, state_of, wrote}
+use Rattle.folder_log.specs.Disk.{File, IsTorn, Torn, file_after, overwritten}
 use Rattle.folder_log.specs.declared.state.DiskCall.{DiskCall}
 use Rattle.folder_log.specs.declared.state.DiskCall.TheVariants.{Write}
-use Rattle.folder_log.specs.Calls.{at_rest, is_within, wrote, after, after_all, state_of, IsTornBy, IsImage, LeftSince, Recorded, state_in}
-
-pub after_last : (s : State) (cs : List DiskCall) (c : DiskCall) → after_all s (cs ++ c ∷ []) ≡ after (after_all s cs) c
-after_last s [] c = refl
-after_last s (x ∷ cs) c = after_last (after s x) cs c
+use Rattle.folder_log.specs.declared.state.Span.{Span}
+use Rattle.folder_log.specs.declared.state.State.{State}
+use Rattle.std.proofs.Common.{ap, arith, length-append, length-drop, length-take, subst, sym, ◌∙◌}
+use Rattle.std.proofs.lemmas.Bool.{leb-true}
+use Rattle.std.proofs.lemmas.List.{drop_at, take_all, take_at}
+use Rattle.std.specs.Prelude.{Bool, List, None, Option, Some, cond, drop, false, length, refl, take, true, ℕ, [], ◌++◌, ◌+◌, ◌∷◌, ◌≡◌, ◌≤◌}
 
 pub torn_last : (rs : List Span) (r : Span) (a b c : File) → IsTornBy rs a b → IsTorn r.place r.length b c → IsTornBy (rs ++ r ∷ []) a c
 torn_last [] r a b c h t = (c, subst (λ (f : File). IsTorn r.place r.length f c) h t, refl)
 torn_last (x ∷ rs) r a b c h t = (h.0, h.1, torn_last rs r h.0 b c h.2 t)
-
-torn_split : (rs : List Span) (r : Span) (a c : File) → IsTornBy (rs ++ r ∷ []) a c → (b : File) × IsTornBy rs a b
-    × IsTorn r.place r.length b c
-torn_split [] r a c h = (a, refl, subst (λ (f : File). IsTorn r.place r.length a f) (sym h.2) h.1)
-torn_split (x ∷ rs) r a c h = let s = torn_split rs r h.0 c h.2 in (s.0, (h.0, h.1, s.1), s.2)
-
--- A torn write may leave the file as it is.
-pub torn_same : (at n : ℕ) (c : File) → IsTorn at n c c
-torn_same at n None = refl
-torn_same at n (Some bytes) = record { before = refl; after = refl; no_shorter = omega arith; no_longer = omega arith }
 
 -- The range of a write.
 abbrev pub span : ℕ → List ℕ → Span
@@ -72,12 +58,6 @@ image_now s (c ∷ cs) h = image_now (after s c) cs (image_after s c h)
 pub shown : (d : Recorded) → IsImage (state_in d) (state_in d).now
 shown d = image_now (at_rest d.first) d.calls refl
 
--- After a write a crash may leave only what a torn write leaves of what it could leave before.
-pub write_follows : (s : State) (place : ℕ) (bytes : List ℕ) → is_within place s.now ≡ true
-    → Follows (IsTorn place (length bytes)) (IsImage s) (IsImage (after s (Write place bytes)))
-write_follows s place bytes e c left =
-    torn_split s.ranges (span place bytes) s.synced c (subst (λ (b : Bool). IsImage (cond b (wrote s place bytes) s) c) e left)
-
 all_taken : (calls : List DiskCall) → take (length calls) calls ≡ calls
 all_taken calls = take_all (length calls) calls (omega arith)
 
@@ -102,7 +82,3 @@ some_is a b e = cc
 
 pub shows_image : (d : Recorded) (c : File) → (let x : Option File = Some (state_in d).now in x ≡ Some c) → IsImage (state_in d) c
 shows_image d c e = subst (IsImage (state_in d)) (some_is (state_in d).now c e) (shown d)
-
-pub within_true : (at : ℕ) (file : File) → IsWithin at (Some file) → is_within at file ≡ true
-within_true at None h = absurd h
-within_true at (Some bytes) h = le-leb at (length bytes) h

@@ -1,28 +1,23 @@
 -- What a log file holds, and its form between two changes.
+use Rattle.devices.specs.Logged.{Holding, Stored}
+use Rattle.devices.specs.Logged.Holding.{BadAt, Nothing, Stands}
 use Rattle.folder_log.specs.Disk.{File, Only}
 use Rattle.log_format.specs.Change.{IsChange}
-use Rattle.log_format.specs.Log.{headed, log, opened, record_of}
+use Rattle.log_format.specs.Log.{headed, log, opened}
 use Rattle.log_format.specs.Reading.{base_length, held_in}
 use Rattle.log_format.specs.declared.fault.LogFault.{LogFault}
 use Rattle.log_format.specs.declared.fault.LogFault.TheVariants.{Bad, NoMemory}
 use Rattle.log_format.specs.declared.logged_store.LoggedStore.{LoggedStore}
 use Rattle.s3_types.specs.declared.request.Request.{Request}
-use Rattle.devices.specs.Logged.{Holding, Stored}
-use Rattle.devices.specs.Logged.Holding.{BadAt, Nothing, Stands}
 use Rattle.std.specs.List.{AllByRecursion}
 use Rattle.std.specs.Option.{option_map}
-use Rattle.std.specs.Prelude.{Err, List, None, Ok, Option, Result, Some, length, ℕ, [], ◌++◌, ◌+◌, ◌<◌, ◌^◌, ◌∷◌, ◌≡◌, ◌≤◌, ◌⊎◌}
+use Rattle.std.specs.Prelude.{Err, List, None, Ok, Option, Result, Some, length, ℕ, ◌++◌, ◌+◌, ◌<◌, ◌^◌, ◌≡◌}
 
 -- What a file holds, from the result of reading it.
 abbrev pub as_holding : Result LoggedStore LogFault → Holding
 as_holding (Ok held) = Stands held
 as_holding (Err (Bad place)) = BadAt place
 as_holding (Err NoMemory) = Nothing
-
--- What a file holds.
-abbrev pub holding_of : File → Holding
-holding_of None = Nothing
-holding_of (Some bytes) = as_holding (held_in bytes)
 
 -- What a file holds, with its two lengths.
 abbrev pub stored_of : File → Stored
@@ -32,10 +27,6 @@ stored_of (Some bytes) = record { holding = as_holding (held_in bytes); base_len
 -- What a log file holds, with its two lengths, if the disk shows it.
 abbrev pub stored : Option File → Option Stored
 stored seen = option_map stored_of seen
-
--- A crash may leave a file that holds h.
-abbrev pub Leaves : (File → Type 0) → Holding → Type 0
-Leaves leaves h = (file : File) × leaves file × (h ≡ holding_of file)
 
 -- The file is a log whose closed gate after the changes is at this place.
 pub record IsAtRest (gate : ℕ) (bytes : List ℕ) : Type 0 where
@@ -56,25 +47,3 @@ IsSettled (Some (Some bytes)) leaves gate = IsAtRest gate bytes × Only (Some by
 abbrev pub TakesAppends : Option File → (File → Type 0) → Option ℕ → Type 0
 TakesAppends seen leaves None = ⊥
 TakesAppends seen leaves (Some gate) = IsSettled seen leaves gate
-
--- If the shelf keeps a gate, a crash leaves only the file that a read gives, if the disk shows it.
-abbrev pub IsSure : Option File → (File → Type 0) → Option ℕ → Type 0
-IsSure seen leaves gate = (place : ℕ) (file c : File) → gate ≡ Some place → seen ≡ Some file → leaves c → c ≡ file
-
--- The disk has only `front` and a closed gate after it, and a crash leaves only that.
-pub record IsClosed (front : List ℕ) (gate : ℕ) (seen : Option File) (leaves : File → Type 0) : Type 0 where
-  pub at : length front ≡ gate
-  pub file : seen ≡ Some (Some (front ++ 0 ∷ []))
-  pub durable : Only (Some (front ++ 0 ∷ [])) leaves
-
--- The file has `front`, and after it either a closed gate and at most as many bytes as the record, or any gate and the whole record.
-abbrev pub IsLeftOf : List ℕ → List ℕ → File → Type 0
-IsLeftOf front written c = ((rest : List ℕ) × (length rest ≤ length written) × (c ≡ Some (front ++ 0 ∷ rest)))
-    ⊎ ((g : ℕ) × (c ≡ Some (front ++ g ∷ written)))
-
--- A change, written for its place after a closed gate, and the place of the closed gate after it.
-pub record IsPrepared (gate : ℕ) (change : Request) (written : List ℕ) (end : ℕ) : Type 0 where
-  pub text : written ≡ record_of change ++ 0 ∷ []
-  pub legal : IsChange change
-  pub end_is : end ≡ gate + length written
-  pub within : end ≤ 2 ^ 63

@@ -4,3 +4,4 @@ pub mod Parts
 pub mod Calls
 pub mod Images
 pub mod Lengths
+pub mod inner

@@ -2,7 +2,8 @@ ghost use Rattle.std.specs.Prelude.{◌≡◌, ℕ, ◌≤◌, None, IfOk, OnOk,
 ghost use Rattle.devices.specs.Devices.{Rose};
 ghost use Rattle.devices.specs.Calls.{one_more};
 ghost use Rattle.devices.specs.Logged.{most_file};
-ghost use Rattle.folder_log.specs.Disk.{file_length, untold};
+ghost use Rattle.folder_log.specs.Disk.{file_length};
+ghost use Rattle.folder_log.specs.inner.Disk.{untold};
 
 use crate::disk::{DiskFault, LogDisk};
 use crate::folder::{Known, Lockable, Stamp, has_writer, is_missing, lock_folder, stamp_at};

@@ -3,8 +3,10 @@ ghost use Rattle.log_format.specs.Change.{is_changing};
 ghost use Rattle.devices.specs.Devices.{Rose};
 ghost use Rattle.devices.specs.Causes.{IfBadLog};
 ghost use Rattle.devices.specs.Logged.{LeavesOnly, most_file, IsLoaded, IsTooLarge, IsBad};
-ghost use Rattle.folder_log.specs.Disk.{File, IsWithin, Writes, IsTorn, Only, Settles, more, FewMore};
-ghost use Rattle.folder_log.specs.Kept.{IsClosed, IsLeftOf, IsPrepared, IsSure, stored_of, stored, Leaves, TakesAppends};
+ghost use Rattle.folder_log.specs.Disk.{File, IsWithin, Writes, IsTorn, Only, Settles};
+ghost use Rattle.folder_log.specs.inner.Disk.{more, FewMore};
+ghost use Rattle.folder_log.specs.inner.Kept.{IsClosed, IsLeftOf, IsPrepared, IsSure, Leaves};
+ghost use Rattle.folder_log.specs.Kept.{stored_of, stored, TakesAppends};
 
 use crate::disk::{DiskFault, LogDisk};
 use devices::Failed;
@@ -136,8 +138,9 @@ impl<D: LogDisk + Drop> LogShelf<D> {
 }
 
 impl<D: LogDisk + Drop> Shelf for LogShelf<D> {
-    ghost use Rattle.folder_log.specs.Parts.{Answers, Fails};
-    ghost use Rattle.folder_log.specs.Lengths.{has_base_length, is_within_log};
+    ghost use Rattle.folder_log.specs.inner.Parts.{Answers, Fails};
+    ghost use Rattle.folder_log.specs.Lengths.{has_base_length};
+    ghost use Rattle.folder_log.specs.inner.Lengths.{is_within_log};
 
     ghost sight = { record {
       held = λ s. stored (D.seen s.disk);

@@ -1,7 +1,8 @@
 ghost use Rattle.std.specs.Prelude.{◌≡◌, ℕ, List, [], ◌∷◌, ◌++◌, length, Some, IfOk, OnOk, OnErr};
 ghost use Rattle.devices.specs.Calls as told;
 ghost use Rattle.folder_log.specs.Disk.{IsWithin};
-ghost use Rattle.folder_log.specs.Calls.{IsImage, LeftSince, left_by, state_in, recorded};
+ghost use Rattle.folder_log.specs.Calls.{IsImage, LeftSince, left_by, state_in};
+ghost use Rattle.folder_log.specs.inner.Calls.{recorded};
 ghost use Rattle.folder_log.specs.declared.state.DiskCall.TheVariants as made;
 ghost use Rattle.folder_log.specs.Images.{counted, only_last, shows_image};
 
@@ -27,7 +28,8 @@ pub struct MemDisk {
 
 impl Model for MemDisk {
     ghost use Rattle.std.specs.Prelude.{◌≡◌};
-    ghost use Rattle.folder_log.specs.Calls.{Recorded, state_of, last_of};
+    ghost use Rattle.folder_log.specs.Calls.{Recorded, state_of};
+    ghost use Rattle.folder_log.specs.inner.Calls.{last_of};
 
     ghost Value = { Recorded };
 

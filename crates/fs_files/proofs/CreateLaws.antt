@@ -452,7 +452,8 @@ module _ (o : Creation) (z : Scene) (ok : IsCreation o) where
       → Goes (λ p s. holds n z p s false) (gives n z) (stepped o y) s
   goes_so y s h n g = grind arith
 
-answered_in : (o : Creation) (z : Objects) (a : CreateAnswer) (m : Objects) → Creates o.path o.bytes o.overwrite o.policy z a m → always_in o z m
+answered_in : (o : Creation) (z : Objects) (a : CreateAnswer) (m : Objects) → Creates o.path o.bytes o.overwrite o.policy z a m
+    → always_in o z m
 answered_in o z a m h = grind arith
 
 -- What is given at the end also holds as it does at every point.

@@ -1,5 +1,4 @@
 -- A file to make, as it is asked for.
-use Rattle.dir_markers.specs.Markers.{created, keys_above}
 use Rattle.dir_markers.specs.declared.marker.MarkerPolicy.{MarkerPolicy}
 use Rattle.dir_markers.specs.declared.marker.MarkerPolicy.TheVariants.{Delete, Keep}
 use Rattle.path_keys.specs.Paths.{Path, is_key}
@@ -64,9 +63,3 @@ pub record IsCreation (o : Creation) : Type 0 where
   pub key : is_key o.path.key ≡ true
   pub block : 1 ≤ o.block
   pub room : length o.bytes ≤ o.block * MOST_PARTS
-
--- The code's fields for a file to make: the keys of the directories above, and the markers that go.
-pub record IsAsked (o : Creation) (keys markers : List (List ℕ)) : Type 0 where
-  pub creation : IsCreation o
-  pub above : keys ≡ keys_above o.path.key
-  pub gone : markers ≡ created o.policy o.path

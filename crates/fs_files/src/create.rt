@@ -54,7 +54,8 @@ pub struct NewFile {
 }
 
 impl Model for NewFile {
-    ghost use Rattle.fs_files.specs.Creation.{Creation, coded_creation, created_of, IsAsked};
+    ghost use Rattle.fs_files.specs.Creation.{Creation, coded_creation, created_of};
+    ghost use Rattle.fs_files.specs.inner.Creation.{IsAsked};
 
     ghost Value = { Creation };
 

@@ -6,7 +6,8 @@ use Rattle.fs_ops.proofs.Looks.{below_key}
 use Rattle.fs_ops.proofs.StepLaws.{phases_of}
 use Rattle.fs_ops.specs.Places.{get_asks, look_asks}
 use Rattle.fs_ops.specs.code.AtPath.{asks, first, holds, left, on, on_below, on_here, told}
-use Rattle.fs_ops.specs.code.Steps.{IsStages, IsStill, OnlyLooks, goes_by}
+use Rattle.fs_ops.specs.code.Steps.{IsStill, OnlyLooks, goes_by}
+use Rattle.fs_ops.specs.inner.Steps.{IsStages}
 use Rattle.fs_ops.specs.declared.at_path.PathStage.{PathStage}
 use Rattle.fs_ops.specs.declared.at_path.PathStage.TheVariants.{Below, Here}
 use Rattle.fs_tree.specs.Tree.{IsAbsent, IsDirectory}

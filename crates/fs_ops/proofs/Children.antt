@@ -27,7 +27,7 @@ use Rattle.std.specs.Ordering.{is_lt}
 use Rattle.std.specs.Prelude.{Bool, List, None, Option, Some, cond, false, length, map, not, true, ℕ, [], ◌&&◌, ◌++◌, ◌==◌, ◌∷◌, ◌≡◌, ◌⊎◌}
 use Rattle.store_frame.proofs.Flat.{found_at, found_in}
 use Rattle.store_frame.proofs.Listed.{walked_listed}
-use Rattle.store_frame.specs.Walk.{text_of as walked_text, walked}
+use Rattle.store_frame.specs.inner.Walk.{text_of as walked_text, walked}
 use Rattle.std.specs.FinMap as fin
 
 abbrev pub NoSlash : List ℕ → Type 0

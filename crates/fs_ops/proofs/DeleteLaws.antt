@@ -10,7 +10,8 @@ use Rattle.bucket_ops.proofs.Sweeps.{sweep_falls, sweep_fits, sweep_goes}
 use Rattle.bucket_ops.specs.Asks.{Drop, edited, reply_in}
 use Rattle.bucket_ops.specs.Looks.{look_of}
 use Rattle.bucket_ops.specs.Phases.{IsPhases, MayAsk}
-use Rattle.bucket_ops.specs.Sweeping.{IsDeleting, IsSweeping, IsSwept, LessLeft, sweep_asks, sweep_left}
+use Rattle.bucket_ops.specs.Sweeping.{IsDeleting, IsSweeping, sweep_asks, sweep_left}
+use Rattle.bucket_ops.specs.inner.Sweeping.{IsSwept, LessLeft}
 use Rattle.bucket_ops.specs.Walking.{fits, keys_below}
 use Rattle.bucket_ops.specs.declared.look.Look.{Look}
 use Rattle.bucket_ops.specs.declared.look.Look.TheVariants.{Nothing, There}
@@ -20,10 +21,12 @@ use Rattle.fs_ops.proofs.Deleting.{deletes}
 use Rattle.fs_ops.proofs.Looks.{at_key, below_key, none_listed}
 use Rattle.fs_ops.proofs.StepLaws.{phases_of}
 use Rattle.fs_ops.specs.Places.{NoFileAt, drop_asks, drop_marker_asks, prefix_of}
-use Rattle.fs_ops.specs.code.Delete.{DeleteAnswer, Asks, Deletion, GoesWith, InPart, IsBatch, IsDue, IsKept, Removed, always, asks, ends, first}
+use Rattle.fs_ops.specs.code.Delete.{Asks, DeleteAnswer, Deletion, GoesWith, InPart, IsBatch, IsDue, IsKept, Removed, always, asks, first}
+use Rattle.fs_ops.specs.inner.Delete.{ends}
 use Rattle.fs_ops.specs.code.Delete.{gives, here as here_at, holds, inside, left, on, on_here, on_inside, on_parent, on_sweep, sends, swept}
 use Rattle.fs_ops.specs.code.Delete.{up, up_to}
-use Rattle.fs_ops.specs.code.Steps.{IsStages, goes_by}
+use Rattle.fs_ops.specs.code.Steps.{goes_by}
+use Rattle.fs_ops.specs.inner.Steps.{IsStages}
 use Rattle.fs_ops.specs.declared.delete.DeleteStage.{DeleteStage}
 use Rattle.fs_ops.specs.declared.delete.DeleteStage.TheVariants.{Below, DropFile, DropMarker, Here, Parent, PutMarker, Sweep}
 use Rattle.fs_ops.specs.declared.delete.Inside.{Inside}

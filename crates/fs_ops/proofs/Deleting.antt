@@ -2,7 +2,8 @@
 use Rattle.bucket_ops.specs.Asks.{objects_at}
 use Rattle.bucket_ops.specs.Phases.{GivesIn}
 use Rattle.fs_ops.proofs.StepLaws.{same_scene}
-use Rattle.fs_ops.specs.code.Delete.{DeleteAnswer, Deletion, Removed, ends, gives}
+use Rattle.fs_ops.specs.code.Delete.{DeleteAnswer, Deletion, Removed, gives}
+use Rattle.fs_ops.specs.inner.Delete.{ends}
 use Rattle.fs_tree.proofs.Above.{key_no_marker}
 use Rattle.fs_tree.proofs.Dropping.{drops_dir, drops_file}
 use Rattle.fs_tree.specs.Answers.{Deletes}
@@ -27,7 +28,8 @@ removed recursive x p z n m k (inr h) g =
     inr (record { directory = (h.0, h.1); empty = h.2; tree = drops_dir x p z n m h.3 g h.1; without = n; emptied = h.3; marked = g })
 
 -- What a deletion gives is the deletion on the tree.
-pub deletes : (recursive : Bool) (p : List ℕ) (z : Objects) (a : DeleteAnswer) (m : Objects) → is_key p ≡ true → ends (deletion recursive p) z a m
+pub deletes : (recursive : Bool) (p : List ℕ) (z : Objects) (a : DeleteAnswer) (m : Objects) → is_key p ≡ true
+    → ends (deletion recursive p) z a m
     → Deletes recursive p z a m
 deletes recursive [] z (Ok x) m k h = elim h.1 [ inl g ↦ absurd g.0.1 | inr g ↦ absurd g.0 ]
 deletes recursive [] z (Err IsRoot) m k h = (refl, h.1)

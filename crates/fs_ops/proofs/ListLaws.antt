@@ -10,9 +10,11 @@ use Rattle.fs_ops.proofs.Deleting.{no_cons}
 use Rattle.fs_ops.proofs.Showing.{shows_children}
 use Rattle.fs_ops.proofs.StepLaws.{phases_of}
 use Rattle.fs_ops.specs.Places.{prefix_of}
-use Rattle.fs_ops.specs.code.List.{ListAnswer, added, all_added, asks, children, first, holds, last_text, left, on, paged, shown, told, whole}
+use Rattle.fs_ops.specs.code.List.{ListAnswer, added, all_added, asks, children, first, holds, last_text, left, on, paged, shown, told}
+use Rattle.fs_ops.specs.code.List.{whole}
 use Rattle.fs_ops.specs.code.Stat.{length_in}
-use Rattle.fs_ops.specs.code.Steps.{IsStages, IsStill, OnlyLooks, goes_by}
+use Rattle.fs_ops.specs.code.Steps.{IsStill, OnlyLooks, goes_by}
+use Rattle.fs_ops.specs.inner.Steps.{IsStages}
 use Rattle.fs_ops.specs.declared.list.ListStage.{ListStage}
 use Rattle.fs_ops.specs.declared.list.ListStage.TheVariants.{Here, Pages}
 use Rattle.fs_tree.specs.Answers.{Lists}

@@ -11,7 +11,8 @@ use Rattle.fs_ops.proofs.Looks.{at_key, below_key, head_tells}
 use Rattle.fs_ops.proofs.StepLaws.{phases_of}
 use Rattle.fs_ops.specs.code.Climbs.{climbed, climbing}
 use Rattle.fs_ops.specs.code.Make.{MakeAnswer, always, asks, first, here as here_at, holds, left, on, on_below, on_climb, on_here, sends}
-use Rattle.fs_ops.specs.code.Steps.{IsStages, goes_by}
+use Rattle.fs_ops.specs.code.Steps.{goes_by}
+use Rattle.fs_ops.specs.inner.Steps.{IsStages}
 use Rattle.fs_ops.specs.declared.climb.Climbed.{Climbed}
 use Rattle.fs_ops.specs.declared.make_dirs.MakeStage.{MakeStage}
 use Rattle.fs_ops.specs.declared.make_dirs.MakeStage.TheVariants.{Below, Here, PutMarker, Up}

@@ -2,7 +2,8 @@
 use Rattle.bucket_ops.specs.Asks.{Ask, reply_in}
 use Rattle.bucket_ops.specs.Looks.{look_of}
 use Rattle.bucket_ops.specs.Phases.{InScene, IsPhases}
-use Rattle.fs_ops.specs.code.Steps.{IsStages, unless}
+use Rattle.fs_ops.specs.code.Steps.{unless}
+use Rattle.fs_ops.specs.inner.Steps.{IsStages}
 use Rattle.operations.specs.declared.plan.Step.{Step}
 use Rattle.operations.specs.declared.plan.Step.TheVariants.{End}
 use Rattle.s3_types.specs.Store.{Objects, Scene}

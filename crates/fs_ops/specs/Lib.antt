@@ -1,2 +1,3 @@
 pub mod Places
 pub mod code
+pub mod inner

@@ -3,8 +3,10 @@ use Rattle.text_and_lists.proofs.Members.{none_some, text_here, text_other}
 use Rattle.text_and_lists.specs.Members.{IsIn}
 use Rattle.bucket_ops.proofs.Below.{is_in}
 use Rattle.bucket_ops.specs.Asks.{Copy as CopyKey, edited}
-use Rattle.fs_rename.specs.Copies.{AreFree, IsCopied, IsCopying, IsOneOf, LessCopies, Move, copied_all, copied_next, copies_left, copy_asks}
-use Rattle.fs_rename.specs.Copies.{copy_of, has_more, sources, targets}
+use Rattle.fs_rename.specs.Copies.{copied_next, copy_asks}
+use Rattle.fs_rename.specs.inner.Copies.{AreFree, IsCopied, IsCopying, IsOneOf, LessCopies, Move, copied_all, copies_left}
+use Rattle.fs_rename.specs.Copies.{copy_of, has_more}
+use Rattle.fs_rename.specs.inner.Copies.{sources, targets}
 use Rattle.fs_rename.specs.declared.copying.Copying.{Copying}
 use Rattle.fs_tree.specs.Tree.{Stands}
 use Rattle.s3_types.specs.Answer.{copied}

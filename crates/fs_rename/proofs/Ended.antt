@@ -7,7 +7,8 @@ use Rattle.fs_ops.specs.Places.{prefix_of}
 use Rattle.fs_rename.proofs.Told.{renames_in, whole_in}
 use Rattle.fs_rename.specs.Between.{GivesBetween, Route, most_in}
 use Rattle.fs_rename.specs.Public.{RenameSends, RenamesIn, StandsWhole, most_moves}
-use Rattle.fs_rename.specs.code.Meaning.{Asks, always, gives, left, sends}
+use Rattle.fs_rename.specs.code.Meaning.{Asks}
+use Rattle.fs_rename.specs.inner.Meaning.{always, gives, left, sends}
 use Rattle.fs_rename.specs.code.Rename.{Answer, Renaming, asks, first as first_stage}
 use Rattle.fs_tree.specs.declared.rename.RenameRefusal.TheVariants.{NoSuchBucket, OtherBucket}
 use Rattle.machine.specs.declared.driving.DriveStop.{DriveStop}

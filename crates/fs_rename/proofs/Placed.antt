@@ -9,7 +9,7 @@ use Rattle.dir_markers.specs.Markers.{marker_of}
 use Rattle.fs_rename.proofs.CopyLaws.{is_source, is_target}
 use Rattle.fs_rename.proofs.NewKeys.{new_is}
 use Rattle.fs_rename.proofs.Whole.{new_at_end, old_at_end, others_at_end}
-use Rattle.fs_rename.specs.Copies.{AreFree, IsOneOf, Move, copied_all, moves_of, moves_to, sources, targets}
+use Rattle.fs_rename.specs.inner.Copies.{AreFree, IsOneOf, Move, copied_all, moves_of, moves_to, sources, targets}
 use Rattle.fs_rename.specs.Keys.{new_key, new_keys, with_front}
 use Rattle.fs_tree.proofs.Begins.{begins_more, one_begins}
 use Rattle.fs_tree.proofs.Dropping.{marker_key, marker_not_below}

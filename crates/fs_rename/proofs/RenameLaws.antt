@@ -10,8 +10,10 @@ use Rattle.bucket_ops.proofs.Walks.{walk_falls, walk_fits, walk_goes}
 use Rattle.bucket_ops.specs.Asks.{Ask, Put, edited, is_look, reply_in}
 use Rattle.bucket_ops.specs.Looks.{look_of}
 use Rattle.bucket_ops.specs.Phases.{IsPhases, MayAsk}
-use Rattle.bucket_ops.specs.Sweeping.{IsDeleted, IsDeleting, sweep_asks}
-use Rattle.bucket_ops.specs.Walking.{IsWalked, IsWalking, fits, keys_below, walk_asks}
+use Rattle.bucket_ops.specs.Sweeping.{IsDeleting, sweep_asks}
+use Rattle.bucket_ops.specs.inner.Sweeping.{IsDeleted}
+use Rattle.bucket_ops.specs.Walking.{IsWalking, fits, keys_below, walk_asks}
+use Rattle.bucket_ops.specs.inner.Walking.{IsWalked}
 use Rattle.bucket_ops.specs.declared.look.Look.{Look}
 use Rattle.dir_markers.specs.Markers.{marker_of}
 use Rattle.fs_ops.proofs.AtPathLaws.{look_still}
@@ -23,15 +25,20 @@ use Rattle.fs_rename.proofs.Placed.{all_found, dir_fit, dir_long, only_file, sou
 use Rattle.fs_rename.proofs.Seen.{Tells, TellsKind, inside_tells, place_tells}
 use Rattle.fs_rename.proofs.Steps.{fall_all, fall_looked, fall_parent, fall_swept, fall_walked}
 use Rattle.fs_rename.proofs.Told.{free_place, moves_from, no_root, stands, was_free_above}
-use Rattle.fs_rename.specs.Copies.{IsCopied, IsCopying, LessCopies, copied_all, copied_next, copies_left, copy_asks, has_more, moves_of}
-use Rattle.fs_rename.specs.Copies.{sources}
+use Rattle.fs_rename.specs.Copies.{copied_next, copy_asks, has_more}
+use Rattle.fs_rename.specs.inner.Copies.{IsCopied, IsCopying, LessCopies, copied_all, copies_left, moves_of}
+use Rattle.fs_rename.specs.inner.Copies.{sources}
 use Rattle.fs_rename.specs.Keys.{new_keys}
-use Rattle.fs_rename.specs.code.Meaning.{Asks, Before, Begun, IsBatch, IsMoved, IsReady, IsSource, MayGo, Moves, NoFileIf, always, gives}
-use Rattle.fs_rename.specs.code.Meaning.{holds, left, path_at, sends}
-use Rattle.fs_rename.specs.code.Rename.{Answer, Renaming, asks, begun as begun_at, file_to, first, found, go, goes, inside_asks_if, is_none}
-use Rattle.fs_rename.specs.code.Rename.{is_root_at, kind_of, listed_to, look_at_asks, looked, on, on_above, on_batch, on_copied, on_inside}
-use Rattle.fs_rename.specs.code.Rename.{on_parent, on_source, on_walk, on_walked, one_copy, seen_at, seen_inside, swept, up, up_to}
-use Rattle.fs_rename.specs.code.Rename.{with_places}
+use Rattle.fs_rename.specs.code.Meaning.{Asks, IsBatch, Moves}
+use Rattle.fs_rename.specs.inner.Meaning.{Before, Begun, IsMoved, IsReady, IsSource, MayGo, NoFileIf, always, gives}
+use Rattle.fs_rename.specs.inner.Meaning.{holds, left, path_at, sends}
+use Rattle.fs_rename.specs.code.Rename.{Answer, Renaming, asks, begun as begun_at, file_to, first, found, go, inside_asks_if}
+use Rattle.fs_rename.specs.inner.Rename.{goes, is_none}
+use Rattle.fs_rename.specs.code.Rename.{look_at_asks, on_above, on_inside}
+use Rattle.fs_rename.specs.inner.Rename.{is_root_at, kind_of, listed_to, looked, on, on_batch, on_copied}
+use Rattle.fs_rename.specs.code.Rename.{on_source, one_copy}
+use Rattle.fs_rename.specs.inner.Rename.{on_parent, on_walk, on_walked, seen_at, seen_inside, swept, up, up_to}
+use Rattle.fs_rename.specs.inner.Rename.{with_places}
 use Rattle.fs_rename.specs.declared.copying.CopyStep.{CopyStep}
 use Rattle.fs_rename.specs.declared.copying.CopyStep.TheVariants.{All, Next as NextCopy}
 use Rattle.fs_rename.specs.declared.copying.Copying.{Copying}

@@ -11,8 +11,9 @@ use Rattle.dir_markers.specs.Markers.{marker_of}
 use Rattle.fs_ops.proofs.Looks.{IsSeen, at_key, below_key, told}
 use Rattle.fs_ops.proofs.Showing.{cmp_behind}
 use Rattle.fs_ops.specs.Places.{NoFileAt}
-use Rattle.fs_rename.specs.code.Meaning.{NoFileIf}
-use Rattle.fs_rename.specs.code.Rename.{asks_at, first_is, inside_asks, is_root, kind_of, seen_inside}
+use Rattle.fs_rename.specs.inner.Meaning.{NoFileIf}
+use Rattle.fs_rename.specs.code.Rename.{asks_at, inside_asks, is_root}
+use Rattle.fs_rename.specs.inner.Rename.{first_is, kind_of, seen_inside}
 use Rattle.fs_rename.specs.declared.stages.Kind.{Kind}
 use Rattle.fs_rename.specs.declared.stages.Kind.TheVariants.{Directory, File, Nothing}
 use Rattle.fs_tree.proofs.Begins.{begins_all}

@@ -1,12 +1,15 @@
 -- A rename ends.
 use Rattle.bucket_ops.proofs.Sweeps.{length_keys}
-use Rattle.bucket_ops.specs.Sweeping.{LessLeft, sweep_left}
-use Rattle.bucket_ops.specs.Walking.{LessWalked}
+use Rattle.bucket_ops.specs.Sweeping.{sweep_left}
+use Rattle.bucket_ops.specs.inner.Sweeping.{LessLeft}
+use Rattle.bucket_ops.specs.inner.Walking.{LessWalked}
 use Rattle.bucket_ops.specs.declared.look.Look.{Look}
 use Rattle.fs_ops.specs.Places.{prefix_of}
-use Rattle.fs_rename.specs.code.Meaning.{left, looks_left}
-use Rattle.fs_rename.specs.code.Rename.{Renaming, begun, found, listed_to, looked, on_above, on_copied, on_inside, on_parent, on_source}
-use Rattle.fs_rename.specs.code.Rename.{on_target, on_walked, one_copy, place_at, swept, up_to, with_places}
+use Rattle.fs_rename.specs.inner.Meaning.{left, looks_left}
+use Rattle.fs_rename.specs.code.Rename.{Renaming, begun, found, on_above, on_inside, on_source}
+use Rattle.fs_rename.specs.inner.Rename.{listed_to, looked, on_copied, on_parent}
+use Rattle.fs_rename.specs.code.Rename.{on_target, one_copy, place_at}
+use Rattle.fs_rename.specs.inner.Rename.{on_walked, swept, up_to, with_places}
 use Rattle.fs_rename.specs.declared.copying.CopyStep.TheVariants.{All}
 use Rattle.fs_rename.specs.declared.stages.Kind.{Kind}
 use Rattle.fs_rename.specs.declared.stages.Spot.{Spot}

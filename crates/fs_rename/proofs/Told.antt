@@ -9,8 +9,8 @@ use Rattle.fs_ops.proofs.StepLaws.{same_scene}
 use Rattle.fs_rename.proofs.Inside.{inside_elements, no_marker}
 use Rattle.fs_rename.proofs.Placed.{dir_apart, dir_free, dir_from, dir_moved, dir_to, file_apart, file_free, file_from, file_moved, file_to}
 use Rattle.fs_rename.proofs.Whole.{AreWhole, is_whole, was_free, whole_copying, whole_emptying, whole_marked}
-use Rattle.fs_rename.specs.Copies.{AreFree, IsOneOf, Move, copied_all, moves_of, sources}
-use Rattle.fs_rename.specs.code.Meaning.{IsOnWay, IsSource, MayGo, always, gives, moved}
+use Rattle.fs_rename.specs.inner.Copies.{AreFree, IsOneOf, Move, copied_all, moves_of, sources}
+use Rattle.fs_rename.specs.inner.Meaning.{IsOnWay, IsSource, MayGo, always, gives, moved}
 use Rattle.fs_rename.specs.code.Rename.{Answer, Renaming}
 use Rattle.fs_tree.proofs.Above.{key_no_marker}
 use Rattle.fs_tree.proofs.Begins.{begins_trans}

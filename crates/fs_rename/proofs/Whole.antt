@@ -6,7 +6,7 @@ use Rattle.text_and_lists.specs.Order.{text_cmp, text_total}
 use Rattle.bucket_ops.proofs.Below.{gone_in, is_in, kept_out}
 use Rattle.fs_rename.proofs.CopyLaws.{all_stand, copied_stand, copies_keep, in_sources, in_targets, is_source, is_target, not_target}
 use Rattle.fs_rename.proofs.CopyLaws.{one_in_take}
-use Rattle.fs_rename.specs.Copies.{AreFree, IsOneOf, Move, copied_all, sources, targets}
+use Rattle.fs_rename.specs.inner.Copies.{AreFree, IsOneOf, Move, copied_all, sources, targets}
 use Rattle.fs_tree.proofs.Begins.{begins_all}
 use Rattle.fs_tree.proofs.Dropping.{marker_key}
 use Rattle.fs_tree.specs.Changes.{IsMarked, marker_if, parent}

@@ -3,3 +3,4 @@ pub mod Keys
 pub mod Copies
 pub mod Public
 pub mod code
+pub mod inner

@@ -4,7 +4,8 @@ ghost use Rattle.bucket_ops.specs.Asks.{request_of};
 ghost use Rattle.path_keys.specs.Paths.{is_key};
 ghost use Rattle.fs_tree.specs.Changes.{parent};
 ghost use Rattle.fs_tree.specs.Moves.{inside};
-ghost use Rattle.fs_rename.specs.code.Rename.{inside_of, place_at, asks_at, inside_asks, look_at_asks, is_root_at};
+ghost use Rattle.fs_rename.specs.code.Rename.{inside_of, place_at, asks_at, inside_asks, look_at_asks};
+ghost use Rattle.fs_rename.specs.inner.Rename.{is_root_at};
 
 use crate::Base;
 use crate::stages::Spot;

@@ -9,8 +9,9 @@ ghost use Rattle.fs_ops.specs.code.Delete.{entries_in};
 ghost use Rattle.fs_ops.specs.Places.{key_if};
 ghost use Rattle.bucket_ops.specs.Walking.{fits};
 ghost use Rattle.fs_rename.specs.Keys.{fitting};
-ghost use Rattle.fs_rename.specs.code.Rename.{first_is, seen_inside, seen_at, kind_of, one_copy, file_to, place_at, go, begun, on_kind, on_source, on_target, on_inside, on_above, found, looked, with_places, listed_to, on_walked, on_walk, up, swept, on_copied, on_batch, on_parent, first, asks, on, goes, is_root, is_root_at};
-ghost use Rattle.fs_rename.specs.code.Meaning.{holds, gives, always, sends, left};
+ghost use Rattle.fs_rename.specs.inner.Rename.{first_is, seen_inside, seen_at, kind_of, looked, with_places, listed_to, on_walked, on_walk, up, swept, on_copied, on_batch, on_parent, on, goes, is_root_at};
+ghost use Rattle.fs_rename.specs.code.Rename.{one_copy, file_to, place_at, go, begun, on_kind, on_source, on_target, on_inside, on_above, found, first, asks, is_root};
+ghost use Rattle.fs_rename.specs.inner.Meaning.{holds, gives, always, sends, left};
 
 use crate::names::RenameNames;
 use crate::{Base, CopyStep, Copying};

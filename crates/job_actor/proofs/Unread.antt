@@ -29,7 +29,8 @@ use Rattle.protocol_runs.proofs.Entries.{late_now}
 use Rattle.protocol_runs.proofs.EveryRun.{checked_idle, cleans_is, just_set}
 use Rattle.protocol_runs.proofs.Running.{At, InCommit}
 use Rattle.protocol_runs.proofs.Steps.{commit_picks}
-use Rattle.protocol_runs.specs.Runs.{BeginClean, BeginCommit, BeginSetup, Beginning, IsOpening, IsTimely, MayBegin, Runs, Stand, actor_begins}
+use Rattle.protocol_runs.specs.Runs.{BeginClean, BeginCommit, BeginSetup, Beginning, IsOpening, IsTimely, MayBegin, Runs, Stand}
+use Rattle.protocol_runs.specs.Runs.{actor_begins}
 use Rattle.protocol_runs.specs.Runs.{attempt_sends, begin, driver_sends, is_set, nothing_learnt, run_begins, strays}
 use Rattle.list_walk.specs.Walks.{Sweep, sweep_hears}
 use Rattle.pending_json.specs.declared.records.PendingSet.{PendingSet}

@@ -4,3 +4,4 @@ pub mod Plans
 pub mod Picks
 pub mod Reports
 pub mod Works
+pub mod inner

@@ -8,8 +8,6 @@ use Rattle.job_model.specs.declared.ends.OpEnd.{OpEnd}
 use Rattle.job_model.specs.declared.ends.Pick.{Pick}
 use Rattle.job_model.specs.declared.events.Op.{Op}
 use Rattle.job_protocol.specs.Operations.{Reports, Running, Setting, advance, over, start_of}
-use Rattle.job_spec.specs.States.{actors}
-use Rattle.script_steps.specs.Transitions.{MaySend, Play, Reachable, Sends, happen, knows_now, scene_of}
 use Rattle.protocol_runs.specs.Runs.{IsOpening}
 use Rattle.s3_types.specs.Answer.{answer, apply}
 use Rattle.s3_types.specs.Moment.{IsHonestOutcome}
@@ -19,12 +17,9 @@ use Rattle.s3_types.specs.declared.journal.Outcome.{Outcome}
 use Rattle.s3_types.specs.declared.request.Actor.{Actor}
 use Rattle.s3_types.specs.declared.request.Actor.TheVariants.{Driver}
 use Rattle.s3_types.specs.declared.request.Request.{Request}
-use Rattle.std.specs.Prelude.{List, None, Option, Some, is_some, slice_get, ℕ, [], ◌+◌, ◌^◌, ◌≡◌, ◌≤◌}
+use Rattle.script_steps.specs.Transitions.{MaySend, Play, Reachable, Sends, happen, knows_now, scene_of}
+use Rattle.std.specs.Prelude.{List, None, Option, Some, is_some, ℕ, [], ◌+◌, ◌^◌, ◌≡◌, ◌≤◌}
 use Rattle.job_protocol.specs.Operations as operations
-
--- The actor at a place: the driver at 0, then the attempts in script order.
-abbrev pub IsPlace : Script → ℕ → Actor → Type 0
-IsPlace w place a = slice_get (actors w) place ≡ Some a
 
 -- The operation is the one that the script begins for this actor, which knows k, and with these reports for the driver.
 pub record Starts {W : Type 0} (is_of : Setting → Actor → W → Type 0) (running : Known → W → Running) (picks_of : W → Option (List Pick))

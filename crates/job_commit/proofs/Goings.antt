@@ -3,13 +3,15 @@ use Rattle.text_and_lists.proofs.Naturals.{below_so, not_below}
 use Rattle.commit_lanes.proofs.CommitEnds.{read_more}
 use Rattle.commit_lanes.specs.Fitting.{SpellsSet, missed_of}
 use Rattle.commit_lanes.specs.ReadSets.{AreRead, IsSetOf}
-use Rattle.commit_lanes.specs.Tables.{LaneTable, first_missed}
+use Rattle.commit_lanes.specs.Tables.{LaneTable}
+use Rattle.commit_lanes.specs.inner.Tables.{first_missed}
 use Rattle.commit_lanes.specs.Undos.{undo_request}
 use Rattle.commit_lanes.specs.declared.places.Place.{Place}
 use Rattle.conflict.specs.Deletions.{Deletion}
 use Rattle.job_commit.proofs.Steps.{holds_fetching, holds_over, holds_replacing, holds_reverting, some_so}
-use Rattle.job_commit.specs.Holds.{IsNext, PicksHold, Reads, StepHolds, asks, attempts_of, picks_from}
-use Rattle.job_commit.specs.Stages.{counted, missed_in, operation_of, replacing_at, reverting_from}
+use Rattle.job_commit.specs.Holds.{picks_from}
+use Rattle.job_commit.specs.inner.Holds.{IsNext, PicksHold, Reads, StepHolds, asks, attempts_of}
+use Rattle.job_commit.specs.inner.Stages.{counted, missed_in, operation_of, replacing_at, reverting_from}
 use Rattle.job_commit.specs.declared.basis.Basis.{Basis}
 use Rattle.job_commit.specs.declared.step.Next.{Next}
 use Rattle.job_commit.specs.declared.step.Step.{Step}

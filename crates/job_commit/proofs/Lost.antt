@@ -1,7 +1,7 @@
 -- Whether a send of the current completion was lost, by the data that the machine keeps.
 use Rattle.commit_lanes.specs.Undos.{undo_request}
-use Rattle.job_commit.specs.Holds.{attempts_of}
-use Rattle.job_commit.specs.Stages.{first_lost, lost_in, operation_of, replacing_at, reverting_from}
+use Rattle.job_commit.specs.inner.Holds.{attempts_of}
+use Rattle.job_commit.specs.inner.Stages.{first_lost, lost_in, operation_of, replacing_at, reverting_from}
 use Rattle.job_commit.specs.Turns.{lost_of}
 use Rattle.job_commit.specs.declared.step.Step.{Step}
 use Rattle.job_model.specs.Jobs.{Job}

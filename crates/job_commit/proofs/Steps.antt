@@ -17,8 +17,8 @@ use Rattle.conflict.proofs.Tells.{deletions_tell}
 use Rattle.conflict.specs.Deletions.{Deletion, FitsDeletion, asks_below, deleted, deletion_asks, deletion_hears, hears_below, spared}
 use Rattle.conflict.specs.Deletions.{swept_on}
 use Rattle.conflict.specs.ChecksEnd.{commit_deleting, deleting_below, deletion_of}
-use Rattle.job_commit.specs.Holds.{Deletes, Heard, IsNext, LanesWithin, Reads, StepHolds, UndoWithin, asks, attempts_of}
-use Rattle.job_commit.specs.Stages.{answered, operation_of, replacing_at, reverting_from, worn_out}
+use Rattle.job_commit.specs.inner.Holds.{Deletes, Heard, IsNext, LanesWithin, Reads, StepHolds, UndoWithin, asks, attempts_of}
+use Rattle.job_commit.specs.inner.Stages.{answered, operation_of, replacing_at, reverting_from, worn_out}
 use Rattle.job_commit.specs.declared.step.Next.{Next}
 use Rattle.job_commit.specs.declared.step.Step.{Step}
 use Rattle.job_model.specs.JobScript.{Script}

@@ -6,8 +6,8 @@ use Rattle.commit_lanes.specs.Undos.{IsRevert, NumbersWithin, undo_request}
 use Rattle.commit_lanes.specs.declared.places.Place.{Place}
 use Rattle.commit_lanes.specs.declared.undo.Undo.{Undo}
 use Rattle.job_commit.proofs.Steps.{again_within, answered_lanes, answered_within, first_within, next_same, worn_next}
-use Rattle.job_commit.specs.Holds.{IsNext, LanesWithin, UndoWithin}
-use Rattle.job_commit.specs.Stages.{answered, reverting_from, worn_out}
+use Rattle.job_commit.specs.inner.Holds.{IsNext, LanesWithin, UndoWithin}
+use Rattle.job_commit.specs.inner.Stages.{answered, reverting_from, worn_out}
 use Rattle.job_commit.specs.declared.step.Next.{Next}
 use Rattle.job_model.specs.Jobs.{Job}
 use Rattle.job_protocol.specs.JobCommits.{Sets, all_commits, completing}

@@ -4,8 +4,8 @@ use Rattle.commit_lanes.specs.Undos.{undo_request}
 use Rattle.commit_lanes.specs.declared.places.Place.{Place}
 use Rattle.job_commit.proofs.Goings.{missed_same}
 use Rattle.job_commit.proofs.Steps.{some_so}
-use Rattle.job_commit.specs.Holds.{Holds, StepHolds, attempts_of}
-use Rattle.job_commit.specs.Stages.{missed_in, operation_of, replacing_at, reverting_from}
+use Rattle.job_commit.specs.inner.Holds.{Holds, StepHolds, attempts_of}
+use Rattle.job_commit.specs.inner.Stages.{missed_in, operation_of, replacing_at, reverting_from}
 use Rattle.job_commit.specs.declared.step.Next.{Next}
 use Rattle.job_commit.specs.declared.step.Step.{Step}
 use Rattle.job_model.specs.Jobs.{Job}

@@ -1,4 +1,3 @@
-pub mod Stages
 pub mod Turns
 pub mod Holds
-pub mod Missing
+pub mod inner

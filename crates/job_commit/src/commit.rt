@@ -4,8 +4,9 @@ ghost use Rattle.job_protocol.specs.JobCommits.{commit_start, commit_over};
 ghost use Rattle.job_protocol.specs.AtWork.{read_script, commit_wants, commit_told};
 ghost use Rattle.commit_lanes.specs.Fitting.{FitsCommit, FitsReply, missed_of, without_memory, least_missing};
 ghost use Rattle.job_commit.specs.Turns.{turn_of, turn_unanswered, lost_of};
-ghost use Rattle.job_commit.specs.Holds.{picks_from, GoesTo};
-ghost use Rattle.job_commit.specs.Missing.{missed};
+ghost use Rattle.job_commit.specs.Holds.{picks_from};
+ghost use Rattle.job_commit.specs.inner.Holds.{GoesTo};
+ghost use Rattle.job_commit.specs.inner.Missing.{missed};
 
 use crate::basis::Basis;
 use crate::step::{Next, Step};
@@ -38,8 +39,8 @@ impl Model for CommitJob {
 
     ghost Value = { Committing };
 
-    ghost use Rattle.job_commit.specs.Stages.{operation_of};
-    ghost use Rattle.job_commit.specs.Holds.{attempts_of, Holds};
+    ghost use Rattle.job_commit.specs.inner.Stages.{operation_of};
+    ghost use Rattle.job_commit.specs.inner.Holds.{attempts_of, Holds};
 
     ghost view = { λ c. record {
       plan = c.basis.plan;

@@ -5,10 +5,10 @@ ghost use Rattle.job_protocol.specs.JobCommits.{set_read, all_commits, Fetching}
 ghost use Rattle.commit_lanes.specs.Undos.{undo_request};
 ghost use Rattle.conflict.specs.Deletions.{FitsDeletion, deletion_hears, spared};
 ghost use Rattle.conflict.specs.ChecksEnd.{commit_deleting};
-ghost use Rattle.commit_lanes.specs.Tables.{first_missed};
-ghost use Rattle.job_commit.specs.Stages.{operation_of, reverting_from, answered, unanswered, worn_out, wanting};
+ghost use Rattle.commit_lanes.specs.inner.Tables.{first_missed};
+ghost use Rattle.job_commit.specs.inner.Stages.{operation_of, reverting_from, answered, unanswered, worn_out, wanting};
 ghost use Rattle.commit_lanes.specs.Fitting.{SpellsSet, FitsReply, missed_of};
-ghost use Rattle.job_commit.specs.Holds.{script_of, HasRead, IsPlaced, IsAt, GoesTo, Hears, Misses, asks, PicksHold, bytes_in, Reads, LanesWithin, UndoWithin};
+ghost use Rattle.job_commit.specs.inner.Holds.{script_of, HasRead, IsPlaced, IsAt, GoesTo, Hears, Misses, asks, PicksHold, bytes_in, Reads, LanesWithin, UndoWithin};
 
 use crate::basis::Basis;
 use crate::step::{Next, Step};

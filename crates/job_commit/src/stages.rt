@@ -7,9 +7,9 @@ ghost use Rattle.list_walk.specs.Walks.{sweep_start};
 ghost use Rattle.conflict.specs.Deletions.{deleted, deletion_asks, spared};
 ghost use Rattle.conflict.specs.ChecksEnd.{commit_deleting};
 ghost use Rattle.commit_lanes.specs.Undos.{undo_request, number_in};
-ghost use Rattle.job_commit.specs.Stages.{reverting_from};
+ghost use Rattle.job_commit.specs.inner.Stages.{reverting_from};
 ghost use Rattle.commit_lanes.specs.ReadSets.{AreRead};
-ghost use Rattle.job_commit.specs.Holds.{script_of, HasRead, IsPlaced, GoesTo, LanesWithin, UndoWithin};
+ghost use Rattle.job_commit.specs.inner.Holds.{script_of, HasRead, IsPlaced, GoesTo, LanesWithin, UndoWithin};
 
 use crate::basis::Basis;
 use crate::step::{Next, Step};

@@ -1,5 +1,5 @@
 ghost use Rattle.std.specs.Prelude.{◌≡◌, ◌+◌, ◌<◌, ◌^◌, Some, None};
-ghost use Rattle.job_commit.specs.Stages.{missed_in, lost_in, counted, wanting};
+ghost use Rattle.job_commit.specs.inner.Stages.{missed_in, lost_in, counted, wanting};
 
 use commit_lanes::{Lanes, UndoList};
 use conflict::DeleteKept;

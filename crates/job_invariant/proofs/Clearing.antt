@@ -10,7 +10,8 @@ use Rattle.job_invariant.proofs.Shapes.{abort_turns, id_before}
 use Rattle.job_invariant.proofs.Staged.{removed_stood}
 use Rattle.job_invariant.proofs.Undone.{deletes_drop}
 use Rattle.job_invariant.specs.Clearing.{Clears, FilesIn, LiveIn, LiveOrBehind, ref_at}
-use Rattle.job_invariant.specs.Stores.{at_id, end_left}
+use Rattle.job_invariant.specs.Stores.{at_id}
+use Rattle.job_invariant.specs.inner.Stores.{end_left}
 use Rattle.job_model.specs.JobScript.{Script}
 use Rattle.job_protocol.specs.Cleanups.{Aborting, Clean, CleanOver, Naming, Removing, Sweeping, Walking, aborting, clean_after, clean_asks}
 use Rattle.job_protocol.specs.Cleanups.{clean_hears, naming, removing, sweeping, walking}

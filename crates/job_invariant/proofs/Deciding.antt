@@ -1,5 +1,6 @@
 -- When the driver's commit goes on with its sets, all are read and no two share a path; and a revert names only their uploads.
-use Rattle.job_invariant.proofs.Held.{Course, completing_so, fetched_so, fetching_so, missed, of_sets, revert_each, swept_so, tells_so, worn}
+use Rattle.job_invariant.proofs.Held.{Course, completing_so, fetched_so, fetching_so, missed, of_sets, revert_each, swept_so, tells_so}
+use Rattle.job_invariant.proofs.Held.{worn}
 use Rattle.job_invariant.specs.Driver.{FitsJobCommit}
 use Rattle.job_invariant.specs.Facts.{Facts}
 use Rattle.job_invariant.specs.Filed.{AreDecided, AreReverts, Decides}

@@ -6,7 +6,8 @@ use Rattle.job_invariant.proofs.Shapes.{abort_turns, id_after, id_before, key_af
 use Rattle.job_invariant.proofs.Undone.{deletes_drop}
 use Rattle.job_invariant.specs.Facts.{Facts}
 use Rattle.job_invariant.specs.Filed.{Gone, IsCommit, whole_of}
-use Rattle.job_invariant.specs.Stores.{at_id, at_key, end_left}
+use Rattle.job_invariant.specs.Stores.{at_id, at_key}
+use Rattle.job_invariant.specs.inner.Stores.{end_left}
 use Rattle.job_invariant.specs.Told.{Told}
 use Rattle.job_model.specs.JobScript.{Script}
 use Rattle.job_model.specs.Legal.{IsLegal}

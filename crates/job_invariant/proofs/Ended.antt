@@ -2,7 +2,8 @@
 use Rattle.text_and_lists.proofs.Members.{nat_gone, nat_left, none_or_some, none_some, same_or_not, same_or_other, some_is, text_here}
 use Rattle.text_and_lists.specs.Order.{text_eq}
 use Rattle.job_invariant.proofs.Shapes.{abort_turns, id_after, id_before, key_after, key_before, part_turns, store_is}
-use Rattle.job_invariant.specs.Stores.{at_id, at_key, end_left, part_left}
+use Rattle.job_invariant.specs.Stores.{at_id, at_key}
+use Rattle.job_invariant.specs.inner.Stores.{end_left, part_left}
 use Rattle.job_model.specs.JobScript.{Script}
 use Rattle.s3_types.specs.Answer.{apply, apply_store, bucket_of, completed}
 use Rattle.s3_types.specs.Multipart.{is_part_number, joined, live, with_key, with_part}

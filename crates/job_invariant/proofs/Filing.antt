@@ -1,8 +1,10 @@
 -- What is at the paths of the files of the sets, while the driver's commit completes their uploads and while it reverts.
-use Rattle.text_and_lists.proofs.Members.{false_true, in_append, nat_false, nat_true, none_some, same_or_not, same_or_other, some_is, true_or_false}
+use Rattle.text_and_lists.proofs.Members.{false_true, in_append, nat_false, nat_true, none_some, same_or_not, same_or_other, some_is}
+use Rattle.text_and_lists.proofs.Members.{true_or_false}
 use Rattle.text_and_lists.proofs.Naturals.{above_zero, below_is}
 use Rattle.text_and_lists.specs.Members.{IsIn}
-use Rattle.job_invariant.proofs.Effects.{abort_keys, completes_file, completes_nothing, deletion_is, deletion_key, deletion_other, other_key}
+use Rattle.job_invariant.proofs.Effects.{abort_keys, completes_file, completes_nothing, deletion_is, deletion_key, deletion_other}
+use Rattle.job_invariant.proofs.Effects.{other_key}
 use Rattle.job_invariant.proofs.Going.{effect_so}
 use Rattle.job_invariant.proofs.Held.{Course, completing_so, deletes_done, deletes_tried, destinations_uniq, either, fetched_so, from_in}
 use Rattle.job_invariant.proofs.Held.{nth_of, number_of, of_sets, set_has, swept_so, task_low, tells_so, to_in, uploads_uniq}

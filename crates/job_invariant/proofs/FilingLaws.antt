@@ -5,7 +5,8 @@ use Rattle.job_invariant.proofs.Beside.{job_commit_begins, still_known, still_se
 use Rattle.job_invariant.proofs.Effects.{deleted_or_not}
 use Rattle.job_invariant.proofs.Emptying.{reads_same}
 use Rattle.job_invariant.proofs.FilePaths.{file_path}
-use Rattle.job_invariant.proofs.Filing.{before_stays, completing_stands, fetching_stands, marking_stands, replacing_stands, reverting_stands}
+use Rattle.job_invariant.proofs.Filing.{before_stays, completing_stands, fetching_stands, marking_stands, replacing_stands}
+use Rattle.job_invariant.proofs.Filing.{reverting_stands}
 use Rattle.job_invariant.proofs.Filing.{stands_course}
 use Rattle.job_invariant.proofs.Foreign.{reads_name, set_reads}
 use Rattle.job_invariant.proofs.Going.{effect_so}

@@ -4,9 +4,10 @@ use Rattle.text_and_lists.specs.Members.{IsIn}
 use Rattle.job_invariant.proofs.Keep.{leaves_keep}
 use Rattle.job_invariant.specs.Facts.{Facts, Hold}
 use Rattle.job_invariant.specs.Foreign.{IsForeign}
-use Rattle.job_invariant.specs.Stores.{IsKnown, Leaves, at_id}
+use Rattle.job_invariant.specs.Stores.{IsKnown, at_id}
+use Rattle.job_invariant.specs.inner.Stores.{Leaves}
 use Rattle.job_invariant.specs.Told.{Told, ends, strange_entry, tell, undoes}
-use Rattle.job_invariant.specs.Within.{IsWithin}
+use Rattle.job_invariant.specs.inner.Within.{IsWithin}
 use Rattle.job_model.specs.Attempts.{Who}
 use Rattle.job_model.specs.JobScript.{Script}
 use Rattle.job_model.specs.Known.{Drawn, Known}

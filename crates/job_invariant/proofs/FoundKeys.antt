@@ -8,7 +8,8 @@ use Rattle.job_invariant.proofs.Going.{Each, each_so, effect_so, step_by}
 use Rattle.job_invariant.proofs.Live.{listed_live, refs_is, refs_rest}
 use Rattle.job_invariant.proofs.Shapes.{abort_turns, id_before}
 use Rattle.job_invariant.specs.Filed.{AllHaveKeys, FoundWithKeys, Gone, HasItsKey}
-use Rattle.job_invariant.specs.Stores.{at_id, end_left}
+use Rattle.job_invariant.specs.Stores.{at_id}
+use Rattle.job_invariant.specs.inner.Stores.{end_left}
 use Rattle.job_invariant.specs.Told.{Told, ends, tell_driver}
 use Rattle.job_model.specs.JobScript.{Script}
 use Rattle.job_protocol.specs.Cleanups.{Aborting, Clean, CleanOver, Naming, Removing, Sweeping, Walking, aborting, clean_after, clean_asks}

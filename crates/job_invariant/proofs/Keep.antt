@@ -4,12 +4,15 @@ use Rattle.text_and_lists.proofs.Members.{false_true, in_map, map_in, nat_false,
 use Rattle.text_and_lists.proofs.Members.{same_or_other, some_is, text_true}
 use Rattle.text_and_lists.specs.Members.{IsIn}
 use Rattle.job_invariant.proofs.Legal.{small_task}
-use Rattle.job_invariant.proofs.Placed.{key_file, magic_set, not_both, one_place, own_place, path_below, record_magic, record_place, set_magic}
+use Rattle.job_invariant.proofs.Placed.{key_file, magic_set, not_both, one_place, own_place, path_below, record_magic, record_place}
+use Rattle.job_invariant.proofs.Placed.{set_magic}
 use Rattle.job_invariant.proofs.Placed.{set_object, set_same, set_stood}
 use Rattle.job_invariant.proofs.Whose.{same_or_another, who_here, who_other}
-use Rattle.job_invariant.specs.Facts.{AreCommits, Facts, Hold, Ids, IsHeld, IsOwnPlace, IsOwned, IsRecord, IsSet, IsTemporary, IsWritten, Kept}
+use Rattle.job_invariant.specs.Facts.{AreCommits, Facts, Hold, Ids, IsHeld, IsOwnPlace, IsOwned, IsRecord, IsSet, IsTemporary, IsWritten}
+use Rattle.job_invariant.specs.Facts.{Kept}
 use Rattle.job_invariant.specs.Facts.{Owned, Records, Sets, Standing, Temporaries, knowing}
-use Rattle.job_invariant.specs.Stores.{IsKnown, Leaves, Puts, Turns, at_id, at_key, at_path, at_place, end_left, part_left, sets_at}
+use Rattle.job_invariant.specs.Stores.{IsKnown, at_id, at_key, at_path, at_place, sets_at}
+use Rattle.job_invariant.specs.inner.Stores.{Leaves, Puts, Turns, end_left, part_left}
 use Rattle.job_invariant.specs.Told.{Told, entry, put_who, tell, tell_attempt, with_known}
 use Rattle.job_model.specs.Attempts.{Who}
 use Rattle.job_model.specs.Files.{File}

@@ -1,6 +1,7 @@
 -- A walk over live uploads finds each of them.
 use Rattle.text_and_lists.proofs.EntriesFrom.{find_head, find_other}
-use Rattle.text_and_lists.proofs.Members.{filter_in, in_filter, in_map, map_in, nat_true, none_some, some_is, text_true, ties, true_or_false}
+use Rattle.text_and_lists.proofs.Members.{filter_in, in_filter, in_map, map_in, nat_true, none_some, some_is, text_true, ties}
+use Rattle.text_and_lists.proofs.Members.{true_or_false}
 use Rattle.text_and_lists.proofs.Tree.{map_sorted, tied}
 use Rattle.text_and_lists.specs.Members.{IsIn}
 use Rattle.text_and_lists.specs.Order.{text_cmp, text_ties, text_total}

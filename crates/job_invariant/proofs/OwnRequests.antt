@@ -23,9 +23,10 @@ use Rattle.job_invariant.specs.Facts.{Facts, Hold, IsAttempt}
 use Rattle.job_invariant.specs.Filed.{IsCommit}
 use Rattle.job_invariant.specs.FiledLaws.{Commits}
 use Rattle.job_invariant.specs.Fits.{Fits}
-use Rattle.job_invariant.specs.Stores.{at_id, end_left, part_left}
+use Rattle.job_invariant.specs.Stores.{at_id}
+use Rattle.job_invariant.specs.inner.Stores.{end_left, part_left}
 use Rattle.job_invariant.specs.Told.{Told, driver_entry, entry, known}
-use Rattle.job_invariant.specs.Within.{IsWithin}
+use Rattle.job_invariant.specs.inner.Within.{IsWithin}
 use Rattle.job_model.specs.Attempts.{Who}
 use Rattle.job_model.specs.JobScript.{Script}
 use Rattle.job_model.specs.Legal.{IsLegal}

@@ -4,7 +4,8 @@ use Rattle.text_and_lists.specs.Members.{IsIn}
 use Rattle.text_and_lists.specs.Order.{text_eq}
 use Rattle.job_invariant.proofs.Foreign.{foreign_effect, reads_effect, reads_name, stood}
 use Rattle.job_invariant.proofs.Going.{unlearnt}
-use Rattle.job_invariant.proofs.Keep.{abort_keep, attempt_by, attempt_plain, drops_keep, last_if, learn_part_keep, learn_upload_keep, part_keep}
+use Rattle.job_invariant.proofs.Keep.{abort_keep, attempt_by, attempt_plain, drops_keep, last_if, learn_part_keep, learn_upload_keep}
+use Rattle.job_invariant.proofs.Keep.{part_keep}
 use Rattle.job_invariant.proofs.Keep.{put_keep, sends_publish, sends_put, sends_undo, told_is}
 use Rattle.job_invariant.proofs.Legal.{same_file, small_task}
 use Rattle.job_invariant.proofs.Placed.{not_staged, one_place, own_place, set_same}
@@ -14,7 +15,8 @@ use Rattle.job_invariant.proofs.Undone.{deletes_drop, set_apart}
 use Rattle.job_invariant.proofs.Whose.{who_here, who_of, who_same}
 use Rattle.job_invariant.specs.Facts.{AreCommits, Facts, Hold, IsAttempt, IsOwnPlace, IsRecord, IsSet, IsWritten}
 use Rattle.job_invariant.specs.Fits.{IsOpen}
-use Rattle.job_invariant.specs.Stores.{IsKnown, Turns, at_id, part_left}
+use Rattle.job_invariant.specs.Stores.{IsKnown, at_id}
+use Rattle.job_invariant.specs.inner.Stores.{Turns, part_left}
 use Rattle.job_invariant.specs.Told.{Told, entry, known, put_who, tell, tell_attempt, undoes}
 use Rattle.job_model.specs.Attempts.{Who}
 use Rattle.job_model.specs.Files.{File}

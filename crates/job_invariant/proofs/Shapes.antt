@@ -2,7 +2,8 @@
 use Rattle.text_and_lists.proofs.Members.{in_append, in_back, in_front, nat_gone, nat_here, nat_left, nat_other, text_here, text_other}
 use Rattle.text_and_lists.specs.Members.{IsIn, last_from}
 use Rattle.text_and_lists.specs.Order.{text_cmp, text_eq}
-use Rattle.job_invariant.specs.Stores.{Draws, Puts, Turns, at_id, at_key, end_left, part_left}
+use Rattle.job_invariant.specs.Stores.{at_id, at_key}
+use Rattle.job_invariant.specs.inner.Stores.{Draws, Puts, Turns, end_left, part_left}
 use Rattle.job_model.specs.JobScript.{Script}
 use Rattle.job_protocol.specs.Scope.{upload_in}
 use Rattle.job_protocol.specs.View.{object_in}

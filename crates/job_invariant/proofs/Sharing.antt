@@ -9,7 +9,8 @@ use Rattle.job_invariant.proofs.Shows.{HidesAll}
 use Rattle.job_invariant.proofs.Spares.{aborts_below, sparing_asked}
 use Rattle.job_invariant.specs.Facts.{Hold, IsAttempt}
 use Rattle.job_invariant.specs.Fits.{Fits}
-use Rattle.job_invariant.specs.Spares.{AllKnown, FitsSparing, IsOwnPath}
+use Rattle.job_invariant.specs.Spares.{AllKnown, FitsSparing}
+use Rattle.job_invariant.specs.inner.Spares.{IsOwnPath}
 use Rattle.job_invariant.specs.Told.{Told, driver_entry, ends, known, tell_attempt}
 use Rattle.job_model.specs.Attempts.{Who}
 use Rattle.job_model.specs.JobScript.{Script}

@@ -13,7 +13,8 @@ use Rattle.job_invariant.proofs.Shapes.{answer_is, key_before, more_keys, page_e
 use Rattle.job_invariant.proofs.Suffix.{marker_no_record, set_no_record}
 use Rattle.job_invariant.specs.Driver.{AllCluster, AllMagic}
 use Rattle.job_invariant.specs.Facts.{AreCommits, Facts, Hold, IsAttempt, IsOwnPlace, IsWritten, knowing}
-use Rattle.job_invariant.specs.Spares.{AllKnown, AllOwn, Filed, FitsSparing, IsOwnPath}
+use Rattle.job_invariant.specs.Spares.{AllKnown, AllOwn, FitsSparing}
+use Rattle.job_invariant.specs.inner.Spares.{Filed, IsOwnPath}
 use Rattle.job_invariant.specs.Stores.{at_key}
 use Rattle.job_invariant.specs.Told.{Told, at_event, tell_driver}
 use Rattle.job_model.specs.Attempts.{Who}

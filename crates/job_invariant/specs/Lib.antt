@@ -15,3 +15,4 @@ pub mod FiledLaws
 pub mod Within
 pub mod StandingLaws
 pub mod Spares
+pub mod inner

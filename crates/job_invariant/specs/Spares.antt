@@ -1,20 +1,14 @@
 -- The states of an abort or clean at a shared destination, and the files in the job's directory in the cluster.
-use Rattle.text_and_lists.specs.Members.{IsIn}
 use Rattle.job_invariant.specs.Driver.{AllCluster, AllMagic}
-use Rattle.job_invariant.specs.Facts.{IsAttempt}
 use Rattle.job_model.specs.Attempts.{Who}
 use Rattle.job_model.specs.JobScript.{Script}
 use Rattle.job_model.specs.Known.{Drawn}
 use Rattle.job_protocol.specs.Seen.{is_magic, is_staging}
 use Rattle.job_protocol.specs.Sparing.{Aborting, Deleting, Naming, Reading, Removing, Sparing, SparingOver, Walking}
-use Rattle.job_protocol.specs.TaskCommits.{temporary_path}
-use Rattle.magic_paths.specs.Layout.{cluster_prefix, staged_set_path}
 use Rattle.magic_paths.specs.Places.{is_record}
-use Rattle.s3_types.specs.Pages.{begins}
-use Rattle.s3_types.specs.Store.{Scene}
 use Rattle.s3_types.specs.declared.request.UploadRef.{UploadRef}
-use Rattle.std.specs.Prelude.{List, Some, true, ℕ, ◌<◌, ◌∷◌, ◌≡◌, ◌⊎◌}
-use Rattle.std.specs.FinMap as fin
+use Rattle.std.specs.Prelude.{List, true, ℕ, ◌∷◌, ◌≡◌}
+use Rattle.text_and_lists.specs.Members.{IsIn}
 
 -- Each is an upload that an attempt of the job knows, with its key.
 abbrev pub AllKnown : (Who → List Drawn) → List UploadRef → Type 0
@@ -35,12 +29,3 @@ FitsSparing w drawn (Aborting u us all) = AllKnown drawn (u ∷ us) × AllOwn w 
 FitsSparing w drawn (Deleting k ks) = AllMagic w (k ∷ ks)
 FitsSparing w drawn (Removing p ps) = AllCluster w (p ∷ ps)
 FitsSparing w drawn (SparingOver end) = Unit {0}
-
--- The path is that of an attempt's temporary file or of a task's set.
-abbrev pub IsOwnPath : Script → List ℕ → Type 0
-IsOwnPath w p = ((a : Who) × IsAttempt w a × (p ≡ temporary_path w a)) ⊎ ((t : ℕ) × (t < w.tasks) × (p ≡ staged_set_path w.job t))
-
--- With a staging committer each file below the job's directory in the cluster has such a path.
-abbrev pub Filed : Script → Scene → Type 0
-Filed w s = is_staging w.committer ≡ true → (p bytes : List ℕ) → begins (cluster_prefix w.job) p ≡ true → fin.get s.files p ≡ Some bytes
-    → IsOwnPath w p

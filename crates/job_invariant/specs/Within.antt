@@ -1,5 +1,4 @@
 -- Requests that change nothing outside the destination; no operation of the job sends any other.
-use Rattle.text_and_lists.specs.Members.{IsIn}
 use Rattle.job_invariant.specs.Driver.{FitsClean}
 use Rattle.job_invariant.specs.Emptying.{SetsUp}
 use Rattle.job_invariant.specs.Facts.{Hold, IsAttempt}
@@ -14,32 +13,12 @@ use Rattle.job_protocol.specs.JobCommits.{Commit, commit_asks}
 use Rattle.job_protocol.specs.Operations.{Operation, Setting, asks}
 use Rattle.job_protocol.specs.Scope.{IsZeroRename}
 use Rattle.job_protocol.specs.Seen.{Seen}
-use Rattle.job_protocol.specs.Setup.{Setup, dest_prefix, setup_asks}
+use Rattle.job_protocol.specs.Setup.{Setup, setup_asks}
 use Rattle.s3_types.specs.Moment.{effect}
-use Rattle.s3_types.specs.Pages.{begins}
 use Rattle.s3_types.specs.Store.{Scene}
 use Rattle.s3_types.specs.declared.journal.Outcome.{Outcome}
 use Rattle.s3_types.specs.declared.request.Request.{Request}
-use Rattle.s3_types.specs.declared.request.Request.TheVariants.{AbortUpload, CompleteUpload, CopyObject, CreateUpload, DeleteObject}
-use Rattle.s3_types.specs.declared.request.Request.TheVariants.{DeleteObjects, MakeBucket, PutObject, UploadPart}
-use Rattle.std.specs.Prelude.{List, Some, true, ℕ, ◌≡◌}
-
--- The key is below the destination, in its bucket.
-abbrev pub IsBelow : Script → List ℕ → List ℕ → Type 0
-IsBelow w bucket key = (bucket ≡ w.dest.bucket) × (begins (dest_prefix w) key ≡ true)
-
--- Each key that the request may change is below the destination; it copies nothing and makes no bucket.
-abbrev pub IsWithin : Script → Request → Type 0
-IsWithin w (MakeBucket n) = ⊥
-IsWithin w (CopyObject n source target) = ⊥
-IsWithin w (PutObject n k bytes header) = IsBelow w n k
-IsWithin w (DeleteObject n k) = IsBelow w n k
-IsWithin w (DeleteObjects n ks) = (n ≡ w.dest.bucket) × ((k : List ℕ) → IsIn k ks → begins (dest_prefix w) k ≡ true)
-IsWithin w (CreateUpload n k) = IsBelow w n k
-IsWithin w (UploadPart n k id number bytes) = IsBelow w n k
-IsWithin w (CompleteUpload n k id parts) = IsBelow w n k
-IsWithin w (AbortUpload n k id) = IsBelow w n k
-IsWithin w _ = Unit {0}
+use Rattle.std.specs.Prelude.{Some, ℕ, ◌≡◌}
 
 -- No request of the job's actors copies anything or changes what is outside the destination, and the driver sends no data. A request
 -- changes what readers see only if it is a completion or a deletion of the driver's commit that takes effect.

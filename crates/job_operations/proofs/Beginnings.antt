@@ -1,9 +1,9 @@
 -- Operations as they begin.
 use Rattle.job_operations.proofs.Going.{not_self}
 use Rattle.job_operations.specs.Acts.{until_clear}
-use Rattle.job_operations.specs.Begins.{BeginsClean, BeginsCommit, BeginsJob, BeginsSetup, BeginsTask, Begun, StartsSo, abort_task_of}
-use Rattle.job_operations.specs.Begins.{check_of, clean_by, commit_by, commit_task_of, driver_commit, is_missing, setup_of, unsent}
-use Rattle.job_operations.specs.Begins.{write_of}
+use Rattle.job_operations.specs.inner.Begins.{BeginsClean, BeginsCommit, BeginsJob, BeginsSetup, BeginsTask, Begun, StartsSo, abort_task_of}
+use Rattle.job_operations.specs.inner.Begins.{check_of, clean_by, commit_by, commit_task_of, driver_commit, is_missing, setup_of, unsent}
+use Rattle.job_operations.specs.inner.Begins.{write_of}
 use Rattle.job_operations.specs.Plans.{IsOf, OfAttempt, counted, known_now, picks_of, running_of}
 use Rattle.job_operations.specs.declared.act.Act.{Act}
 use Rattle.job_operations.specs.declared.act.Act.TheVariants.{Checked, Commit}

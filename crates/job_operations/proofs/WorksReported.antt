@@ -19,7 +19,8 @@ use Rattle.script_steps.proofs.Actors.{put_here, put_other, same_or_not}
 use Rattle.script_steps.proofs.Reported.{AllReported, Unclean, all_published, later, reported, unclean_before}
 use Rattle.script_steps.proofs.Running.{closed_ahead, finished_ahead, not_refused, opened_ahead, refused_ahead, sent_ahead, strayed_ahead}
 use Rattle.script_steps.specs.Running.{Ahead, operation_of}
-use Rattle.script_steps.specs.Transitions.{Closes, Finishes, MaySend, Opens, Play, Reachable, Refuses, Sends, Strays, begun, happen, happens}
+use Rattle.script_steps.specs.Transitions.{Closes, Finishes, MaySend, Opens, Play, Reachable, Refuses, Sends, Strays, begun, happen}
+use Rattle.script_steps.specs.Transitions.{happens}
 use Rattle.script_steps.specs.Transitions.{hear, knows_now, nothing_happened, open_running}
 use Rattle.protocol_runs.specs.Runs.{IsOpening}
 use Rattle.retries.specs.Retries.{fresh}

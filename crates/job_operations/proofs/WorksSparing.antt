@@ -6,7 +6,8 @@ use Rattle.cleanup.specs.SparingFits.{FitsSparing as FitsAnswer, FitsSparingDriv
 use Rattle.job_invariant.proofs.Legible.{set_read}
 use Rattle.job_invariant.proofs.Placed.{staged_set}
 use Rattle.job_invariant.specs.Facts.{AreCommits, Facts, IsAttempt, knowing}
-use Rattle.job_invariant.specs.Spares.{AllOwn, Filed, FitsSparing}
+use Rattle.job_invariant.specs.Spares.{AllOwn, FitsSparing}
+use Rattle.job_invariant.specs.inner.Spares.{Filed}
 use Rattle.job_invariant.specs.Told.{Told}
 use Rattle.job_model.specs.Attempts.{Who}
 use Rattle.job_model.specs.Files.{File}

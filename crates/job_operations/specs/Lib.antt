@@ -5,3 +5,4 @@ pub mod Plans
 pub mod Begins
 pub mod Beside
 pub mod Rising
+pub mod inner

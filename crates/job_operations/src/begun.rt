@@ -5,7 +5,7 @@ ghost use Rattle.job_model.specs.Jobs.{Job};
 ghost use Rattle.s3_types.specs.declared.request.Mode.TheVariants.{Fail};
 ghost use Rattle.commit_lanes.specs.Fitting.{least_missing};
 ghost use Rattle.commit_lanes.specs.CommitEnds.{start};
-ghost use Rattle.job_operations.specs.Begins.{unsent, setup_of, write_of, commit_task_of, abort_task_of, commit_of, check_of, is_missing, commit_by, driver_commit, clean_of, sparing_of, clean_by, BeginsSetup, BeginsTask, BeginsCommit, BeginsClean};
+ghost use Rattle.job_operations.specs.inner.Begins.{unsent, setup_of, write_of, commit_task_of, abort_task_of, commit_of, check_of, is_missing, commit_by, driver_commit, clean_of, sparing_of, clean_by, BeginsSetup, BeginsTask, BeginsCommit, BeginsClean};
 
 use crate::act::{AbortTask, Act, CommitTask, WriteFiles};
 use crate::checked::Checked;

@@ -16,7 +16,8 @@ use Rattle.job_spec.specs.States.{same_actor}
 use Rattle.job_spec.specs.Turns.{AllBy, AllUpTo, by_actor, is_own, own, until_last}
 use Rattle.protocol_runs.proofs.Folds.{each_run}
 use Rattle.protocol_runs.proofs.Published.{longer_published}
-use Rattle.protocol_runs.specs.Runs.{BeginAbort, BeginClean, BeginCommit, BeginPublish, BeginSetup, BeginWrite, Beginning, IsTimely, MayBegin}
+use Rattle.protocol_runs.specs.Runs.{BeginAbort, BeginClean, BeginCommit, BeginPublish, BeginSetup, BeginWrite, Beginning, IsTimely}
+use Rattle.protocol_runs.specs.Runs.{MayBegin}
 use Rattle.protocol_runs.specs.Runs.{Runs, Stand, attempt_sends, begin, commit_with, is_done, is_set, nothing_learnt}
 use Rattle.s3_types.specs.Store.{Content}
 use Rattle.s3_types.specs.declared.journal.Entry.{Entry}

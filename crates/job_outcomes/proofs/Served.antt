@@ -36,7 +36,8 @@ use Rattle.protocol_runs.proofs.Folds.{DriverKeeps, commit_is, each_run}
 use Rattle.protocol_runs.proofs.Leads.{Enters, Leads, completes, completes_again, deals, deals_then, fetches, leads}
 use Rattle.protocol_runs.proofs.Plain.{clean_plain, commit_unread, setup_plain}
 use Rattle.protocol_runs.proofs.Steps.{commit_picks}
-use Rattle.protocol_runs.specs.Runs.{BeginClean, BeginCommit, BeginSetup, Beginning, IsOpening, IsTimely, Runs, Stand, begin, nothing_learnt}
+use Rattle.protocol_runs.specs.Runs.{BeginClean, BeginCommit, BeginSetup, Beginning, IsOpening, IsTimely, Runs, Stand, begin}
+use Rattle.protocol_runs.specs.Runs.{nothing_learnt}
 use Rattle.list_walk.specs.Walks.{Listing}
 use Rattle.pending_json.specs.Pending.{Pending}
 use Rattle.retries.proofs.SameRequest.{same_self}

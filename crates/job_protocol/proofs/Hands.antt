@@ -25,7 +25,8 @@ pub record Counted (retries : ℕ) (es : List Entry) (hs : List HeldRequest) : T
 
 -- ---- sends of the first request in progress
 
-pub hand_heard : {r : ℕ} {es : List Entry} {rest : List HeldRequest} (new : List HeldRequest) (h : HeldRequest) (e : Entry) → Counted r es (h ∷ rest)
+pub hand_heard : {r : ℕ} {es : List Entry} {rest : List HeldRequest} (new : List HeldRequest) (h : HeldRequest) (e : Entry)
+    → Counted r es (h ∷ rest)
     → e.request ≡ h.request → same_request h.request h.request ≡ true → was_answered e.outcome ≡ true
     → ((k : HeldRequest) → In k rest → same_request k.request h.request ≡ false)
     → ((k : HeldRequest) → In k new → (k.missed ≡ 0) × ((l : HeldRequest) → In l rest → l.request ≡ k.request → ⊥))
@@ -56,12 +57,14 @@ hand_heard {r = r} {es = es} {rest = rest} new h e c is self told apart fresh =
     }
 
 -- One more send without an answer.
-missed_now : {r : ℕ} {es : List Entry} {rest : List HeldRequest} (h : HeldRequest) (e : Entry) → Counted r es (h ∷ rest) → e.request ≡ h.request
+missed_now : {r : ℕ} {es : List Entry} {rest : List HeldRequest} (h : HeldRequest) (e : Entry) → Counted r es (h ∷ rest)
+    → e.request ≡ h.request
     → same_request h.request h.request ≡ true → was_answered e.outcome ≡ false → streak h.request (es ++ e ∷ []) ≡ h.missed + 1
 missed_now {es = es} h e c is self missed =
     streak_same h.request es e (rw is self) ∙ ap (λ b. cond b 0 (streak h.request es + 1)) missed ∙ ap (λ n. n + 1) (c.counts h (inl refl))
 
-pub hand_missed : {r : ℕ} {es : List Entry} {rest : List HeldRequest} (h : HeldRequest) (e : Entry) → Counted r es (h ∷ rest) → e.request ≡ h.request
+pub hand_missed : {r : ℕ} {es : List Entry} {rest : List HeldRequest} (h : HeldRequest) (e : Entry) → Counted r es (h ∷ rest)
+    → e.request ≡ h.request
     → same_request h.request h.request ≡ true → was_answered e.outcome ≡ false → h.missed < r
     → ((k : HeldRequest) → In k rest → same_request k.request h.request ≡ false)
     → Counted r (es ++ e ∷ []) (rest ++ record { request = h.request; missed = h.missed + 1 } ∷ [])
@@ -91,7 +94,8 @@ hand_missed {r = r} {es = es} {rest = rest} h e c is self missed low apart =
       ];
     }
 
-pub hand_worn : {r : ℕ} {es : List Entry} {rest : List HeldRequest} (h : HeldRequest) (e : Entry) → Counted r es (h ∷ rest) → e.request ≡ h.request
+pub hand_worn : {r : ℕ} {es : List Entry} {rest : List HeldRequest} (h : HeldRequest) (e : Entry) → Counted r es (h ∷ rest)
+    → e.request ≡ h.request
     → same_request h.request h.request ≡ true → was_answered e.outcome ≡ false → r ≤ h.missed
     → IsFirstWorn r (es ++ e ∷ []) h.request
 hand_worn {r = r} {es = es} h e c is self missed high =
@@ -122,7 +126,8 @@ quiet_heard {r = r} {es = es} h e c is self told =
     let d : Counted r (es ++ e ∷ []) [] = hand_heard {rest = []} [] h e c is self told (λ k i. absurd i) (λ k i. absurd i) in
     record { zeros = λ q. d.others q (λ k i eq. i); none = d.none }
 
-pub quiet_counted : {r : ℕ} {es : List Entry} (hs : List HeldRequest) → Quiet r es → ((k : HeldRequest) → In k hs → k.missed ≡ 0) → Counted r es hs
+pub quiet_counted : {r : ℕ} {es : List Entry} (hs : List HeldRequest) → Quiet r es → ((k : HeldRequest) → In k hs → k.missed ≡ 0)
+    → Counted r es hs
 quiet_counted hs h g = grind arith
 
 -- ---- the first request that ran out of retries stays the first

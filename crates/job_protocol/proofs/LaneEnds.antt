@@ -3,7 +3,8 @@ use Rattle.text_and_lists.proofs.Members.{none_some, some_is, true_or_false}
 use Rattle.job_model.specs.JobScript.{Script}
 use Rattle.job_model.specs.declared.ends.CommitEnd.{CommitEnd}
 use Rattle.job_model.specs.declared.ends.FaultStage.{FaultStage}
-use Rattle.job_protocol.proofs.Hands.{Counted, HeldRequest, Quiet, hand_heard, hand_missed, hand_worn, quiet_at_first, quiet_counted, quiet_heard}
+use Rattle.job_protocol.proofs.Hands.{Counted, HeldRequest, Quiet, hand_heard, hand_missed, hand_worn, quiet_at_first, quiet_counted}
+use Rattle.job_protocol.proofs.Hands.{quiet_heard}
 use Rattle.job_protocol.proofs.Hands.{worn_first_still}
 use Rattle.job_protocol.proofs.LaneTables.{Begins, either_so, fetched_so, fetching_so, swept_so, tabled_start, tabled_tells}
 use Rattle.job_protocol.proofs.Members.{in_map}

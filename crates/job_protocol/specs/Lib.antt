@@ -23,3 +23,4 @@ pub mod AtWork
 pub mod Measures
 pub mod PlanLaws
 pub mod OperationLaws
+pub mod inner

@@ -1,10 +1,7 @@
 -- Measures of how many requests an operation still has to send, while others send too.
 use Rattle.retries.specs.Retries.{Got, Item, WornOut}
 use Rattle.s3_types.specs.Answer.{answer, apply}
-use Rattle.s3_types.specs.Moment.{effect}
 use Rattle.s3_types.specs.Store.{Scene}
-use Rattle.s3_types.specs.declared.journal.Outcome.{Outcome}
-use Rattle.s3_types.specs.declared.journal.Outcome.TheVariants.{Answered}
 use Rattle.s3_types.specs.declared.reply.Reply.{Reply}
 use Rattle.s3_types.specs.declared.request.Request.{Request}
 use Rattle.std.specs.Prelude.{Bool, Option, Some, ℕ, ◌+◌, ◌<◌, ◌≡◌, ◌≤◌}
@@ -19,11 +16,4 @@ pub record FallsAmong {M : Type 0} (wants : M → Option Request) (after : M →
   -- It does not rise by an effect of the operation's own request whose reply is lost.
   pub no_rise : (m : M) (s : Scene) (r : Request) → wants m ≡ Some r → left m (apply s r) ≤ left m s
   -- One request of another actor raises it by at most `rise`.
-  pub others : (m : M) (s : Scene) (r : Request) → left m (apply s r) ≤ left m s + rise
-
--- Holds if `left` falls with each send of an operation that counts its own sends.
-pub record FallsByOutcomes {M : Type 0} (wants : M → Option Request) (tells : M → Outcome → M) (fits : M → Outcome → Type 0)
-    (left : M → Scene → ℕ) (rise : ℕ) : Type 0 where
-  pub falls : (m : M) (s : Scene) (r : Request) (o : Outcome) → wants m ≡ Some r → fits m o
-      → ((a : Reply) → o ≡ Answered a → a ≡ answer s r) → left (tells m o) (effect s r o) < left m s
   pub others : (m : M) (s : Scene) (r : Request) → left m (apply s r) ≤ left m s + rise

@@ -1,5 +1,6 @@
 -- For a commit with these sets, the script that they give leads to the same requests as the job's.
-use Rattle.text_and_lists.proofs.Members.{false_true, in_append, in_back, in_front, in_map, map_in, none_some, text_is, text_true, true_or_false}
+use Rattle.text_and_lists.proofs.Members.{false_true, in_append, in_back, in_front, in_map, map_in, none_some, text_is, text_true}
+use Rattle.text_and_lists.proofs.Members.{true_or_false}
 use Rattle.text_and_lists.specs.Members.{IsIn}
 use Rattle.text_and_lists.specs.Order.{text_eq}
 use Rattle.commit_lanes.proofs.ReadFiles.{file_of, files_at}

@@ -2,7 +2,7 @@
 use Rattle.job_model.specs.declared.ends.EventEnd.{EventEnd}
 use Rattle.job_model.specs.declared.events.Event.{Event}
 use Rattle.job_report.proofs.Fronts.{drop_same, length_zip, numbered_on, take_same, zip_drop, zip_take}
-use Rattle.job_report.specs.Left.{left_lines, next_lines}
+use Rattle.job_report.specs.inner.Left.{left_lines, next_lines}
 use Rattle.job_report.specs.TwinText.{in_turn, letter, played_line}
 use Rattle.job_spec.specs.ReportText.{event_line, event_lines}
 use Rattle.std.proofs.Common.{List, ap, append_assoc, arith, drop, length, length-drop, length-take, map, min, refl, replicate, suc, sym}

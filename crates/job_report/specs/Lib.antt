@@ -1,2 +1,2 @@
 pub mod TwinText
-pub mod Left
+pub mod inner

@@ -1,7 +1,7 @@
 ghost use Rattle.std.specs.Prelude.{◌≡◌, ◌+◌, ◌-◌, ◌≤◌, ◌^◌, ◌++◌, ◌∷◌, min, length, List, string_bytes, IfOk, OnOk};
 ghost use Rattle.twin_script.specs.declared.turns.TwinTurn.{TwinTurn};
 ghost use Rattle.job_report.specs.TwinText.{letter, played_lines};
-ghost use Rattle.job_report.specs.Left.{ended_in, most_in, IsWithin, next_lines, left_lines};
+ghost use Rattle.job_report.specs.inner.Left.{ended_in, most_in, IsWithin, next_lines, left_lines};
 
 use crate::lines::write_events;
 use job_model::{Event, EventEnd};

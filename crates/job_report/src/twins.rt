@@ -1,6 +1,6 @@
 ghost use Rattle.std.specs.Prelude.{◌≡◌, ◌≤◌, ◌++◌, length, string_bytes, IfOk, OnOk};
 ghost use Rattle.job_report.specs.TwinText.{told_of, ended_of, played_lines, pick_lines, side_lines, twins_report};
-ghost use Rattle.job_report.specs.Left.{ended_in};
+ghost use Rattle.job_report.specs.inner.Left.{ended_in};
 
 use crate::lines::{write_actors, write_closing, write_picks};
 use crate::played::{Ended, letter, write_played};

@@ -24,7 +24,8 @@ use Rattle.job_run.proofs.Moments.{event_of, few_attempts, hand_at, knows_as, li
 use Rattle.job_run.proofs.Opening.{begun_busy, busy_before, leaves, not_left, opened_hands, opened_holds, spares_others}
 use Rattle.job_run.proofs.Picked.{begun_running, picked_then, put_by_driver}
 use Rattle.job_run.proofs.Standings.{another, busy_at, placed}
-use Rattle.job_run.specs.Events.{BeginsBy, Begun, Emptied, GivesPlan, HasRoom, IsFine, IsOpened, IsWork, Next, knows_of, picks_in}
+use Rattle.job_run.specs.Events.{Next, knows_of, picks_in}
+use Rattle.job_run.specs.inner.Events.{BeginsBy, Begun, Emptied, GivesPlan, HasRoom, IsFine, IsOpened, IsWork}
 use Rattle.job_run.specs.Holds.{HandIs, Holds, IsTurn, PutBy, Quiet, all_but, all_sound, setting_of}
 use Rattle.job_run.specs.declared.body.Body.{Body}
 use Rattle.job_run.specs.declared.hands.Hand.{Hand}

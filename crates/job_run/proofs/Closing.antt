@@ -16,7 +16,8 @@ use Rattle.job_run.proofs.Kept.{Leaves, close_leaves, hand_kept, put_by_kept, re
 use Rattle.job_run.proofs.Moments.{busy_of, hand_at, is_idle, live_of, lives_of, may_open, never, past_of}
 use Rattle.job_run.proofs.Seen.{next_number}
 use Rattle.job_run.proofs.Standings.{place_known, same_actors}
-use Rattle.job_run.specs.Events.{ByTurns, Next, end_of}
+use Rattle.job_run.specs.Events.{Next}
+use Rattle.job_run.specs.inner.Events.{ByTurns, end_of}
 use Rattle.job_run.specs.Holds.{Going, HandIs, HandsAre, Holds, IsTurn, NoneOver, Quiet, all_sound, is_busy_at, is_mine, seen_by}
 use Rattle.job_run.specs.Holds.{setting_of}
 use Rattle.job_run.specs.Sending.{Asks}
@@ -35,7 +36,7 @@ use Rattle.s3_types.specs.declared.request.Request.{Request}
 use Rattle.std.proofs.Common.{Global, List, None, Option, Some, Vec, ap, length, length-append, not, refl, subst, sym, true, [], ◌++◌, ◌+◌}
 use Rattle.std.proofs.Common.{◌∙◌, ◌∷◌, ◌≡◌}
 use Rattle.std.specs.Prelude.{is_some}
-use Rattle.job_run.specs.Events as events
+use Rattle.job_run.specs.inner.Events as events
 
 -- The body with one more event counted.
 abbrev pub counted : {W : Type 0} → Body W → Vec EventEnd Global → Vec ActorEnd Global → Kept → Option Event → Body W

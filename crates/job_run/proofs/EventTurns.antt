@@ -5,7 +5,7 @@ use Rattle.job_model.specs.declared.ends.EventEnd.{EventEnd}
 use Rattle.job_model.specs.declared.events.Event.{Event}
 use Rattle.job_model.specs.declared.events.Event.TheVariants.{Do, Kill, Mix, Recover, Restart, Run, Start, Step}
 use Rattle.job_model.specs.declared.events.Op.{Op}
-use Rattle.job_run.specs.Events.{AllOf, ByTurns, IsFine, IsStill, TakenUp, event_entries}
+use Rattle.job_run.specs.inner.Events.{AllOf, ByTurns, IsFine, IsStill, TakenUp, event_entries}
 use Rattle.job_run.specs.Holds.{Same, actor_or, table_of}
 use Rattle.job_run.specs.declared.body.Body.{Body}
 use Rattle.job_spec.specs.States.{actors, past}

@@ -1,6 +1,7 @@
 -- What an event leaves as it was, step by step.
 use Rattle.job_model.specs.declared.events.Event.{Event}
-use Rattle.job_run.specs.Events.{ByTurns, Emptied, Entered, Grown, HasRoom, IsOpened, event_entries}
+use Rattle.job_run.specs.Events.{Grown}
+use Rattle.job_run.specs.inner.Events.{ByTurns, Emptied, Entered, HasRoom, IsOpened, event_entries}
 use Rattle.job_run.specs.Holds.{AreOf, Same, both_of, is_mine, seen_by, stays_on}
 use Rattle.job_run.specs.declared.body.Body.{Body}
 use Rattle.job_spec.specs.Eyes.{in_eyes}

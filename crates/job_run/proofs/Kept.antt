@@ -12,7 +12,7 @@ use Rattle.job_model.specs.declared.states.ActorState.{ActorState}
 use Rattle.job_model.specs.declared.states.Life.TheVariants.{Dead}
 use Rattle.job_protocol.specs.Knowledge.{knows}
 use Rattle.job_protocol.specs.Operations.{Running, Setting, who}
-use Rattle.job_run.specs.Events.{BeginsBy}
+use Rattle.job_run.specs.inner.Events.{BeginsBy}
 use Rattle.job_run.specs.Holds.{HandIs, PutBy}
 use Rattle.job_run.specs.declared.hands.Hand.{Hand}
 use Rattle.job_run.specs.declared.hands.Hand.TheVariants.{At, Empty, Plan}

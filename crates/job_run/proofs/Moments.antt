@@ -10,7 +10,8 @@ use Rattle.job_protocol.specs.Operations.{Running, Setting, who}
 use Rattle.job_run.proofs.Lives.{Lives, lives}
 use Rattle.job_run.proofs.Places.{there}
 use Rattle.job_run.proofs.Standings.{busy_at}
-use Rattle.job_run.specs.Events.{Next, event_entries, knows_of}
+use Rattle.job_run.specs.Events.{Next, knows_of}
+use Rattle.job_run.specs.inner.Events.{event_entries}
 use Rattle.job_run.specs.Holds.{Holds, is_busy_at, seen_by, setting_of}
 use Rattle.job_run.specs.declared.body.Body.{Body}
 use Rattle.job_run.specs.declared.hands.Hand.{Hand}

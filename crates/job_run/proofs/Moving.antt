@@ -13,7 +13,7 @@ use Rattle.job_model.specs.declared.states.Life.TheVariants.{Busy}
 use Rattle.job_protocol.specs.Operations.{Running, Setting}
 use Rattle.job_run.proofs.Busy.{busy_apart, busy_few, busy_going}
 use Rattle.job_run.proofs.Standings.{busy_at, placed}
-use Rattle.job_run.specs.Events.{AreBusy, BeginsNone, HasEntered, IsStill}
+use Rattle.job_run.specs.inner.Events.{AreBusy, BeginsNone, HasEntered, IsStill}
 use Rattle.job_run.specs.Holds.{is_busy_at}
 use Rattle.job_run.specs.declared.body.Body.{Body}
 use Rattle.job_spec.specs.States.{Past, actors, open_event, past, refusal, refuse_move}

@@ -10,7 +10,8 @@ use Rattle.job_protocol.specs.Operations.{Running, Setting}
 use Rattle.job_run.proofs.Kept.{Leaves, Spares, begins_by, hand_kept, open_leaves, put_by_kept}
 use Rattle.job_run.proofs.Moments.{busy_of, is_idle, live_of, may_open, no_entries, past_of}
 use Rattle.job_run.proofs.Standings.{busy_actor}
-use Rattle.job_run.specs.Events.{BeginsBy, BeginsNone, HasEntered, HasRoom, IsFine, IsOpened, Next}
+use Rattle.job_run.specs.Events.{Next}
+use Rattle.job_run.specs.inner.Events.{BeginsBy, BeginsNone, HasEntered, HasRoom, IsFine, IsOpened}
 use Rattle.job_run.specs.Holds.{HandsAre, Holds, IsTurn, PutBy, Quiet, all_but, all_sound, is_busy_at, setting_of}
 use Rattle.job_run.specs.declared.body.Body.{Body}
 use Rattle.job_spec.specs.States.{Past, actors, open_event}

@@ -12,7 +12,8 @@ use Rattle.job_protocol.proofs.Begun.{clean_of_so, commit_of_so}
 use Rattle.job_protocol.specs.Operations.{Reports, Running, Setting, start_of}
 use Rattle.job_safety.proofs.Ending.{ahead_none}
 use Rattle.job_run.proofs.Kept.{begins_by, picks_of_kept}
-use Rattle.job_run.specs.Events.{BeginsBy, picks_in}
+use Rattle.job_run.specs.Events.{picks_in}
+use Rattle.job_run.specs.inner.Events.{BeginsBy}
 use Rattle.job_run.specs.Holds.{HandIs, PutBy}
 use Rattle.job_run.specs.declared.hands.Hand.{Hand}
 use Rattle.job_run.specs.declared.hands.Hand.TheVariants.{At, Empty, Plan}

@@ -13,8 +13,9 @@ use Rattle.job_protocol.specs.Operations.{Running, Setting}
 use Rattle.job_run.proofs.Seen.{foretold_as}
 use Rattle.job_run.proofs.Sends.{eyes_own, is_at, sent_holds, sent_raises}
 use Rattle.job_run.specs.Holds.{HandsAre, Holds, all_but, all_sound, hand_left, is_busy_at, is_mine, setting_of}
-use Rattle.job_run.specs.Posts.{Around, FellAt, PostedAt, Wrote, raised}
-use Rattle.job_run.specs.Sending.{Asks, HandDue, HandPosted}
+use Rattle.job_run.specs.inner.Posts.{Around, FellAt, PostedAt, Wrote, raised}
+use Rattle.job_run.specs.Sending.{Asks}
+use Rattle.job_run.specs.inner.Sending.{HandDue, HandPosted}
 use Rattle.job_run.specs.declared.body.Body.{Body}
 use Rattle.job_run.specs.declared.hands.Hand.{Hand}
 use Rattle.job_run.specs.declared.hands.Hand.TheVariants.{At}

@@ -14,9 +14,10 @@ use Rattle.job_protocol.specs.JobCommits.{commit_start}
 use Rattle.job_protocol.specs.Operations.{Reports, Setting, TheCommit, commit_of, start_of}
 use Rattle.job_run.proofs.Firsts.{take_more}
 use Rattle.job_run.proofs.Places.{get_map, there}
-use Rattle.job_run.specs.Events.{of_tasks}
+use Rattle.job_run.specs.inner.Events.{of_tasks}
 use Rattle.job_run.specs.Holds.{setting_of}
-use Rattle.job_run.specs.Reporting.{AreFlags, ArePartitions, IsTold, IsUntold, flags_to}
+use Rattle.job_run.specs.Reporting.{IsTold, IsUntold}
+use Rattle.job_run.specs.inner.Reporting.{AreFlags, ArePartitions, flags_to}
 use Rattle.job_run.specs.declared.body.Body.{Body}
 use Rattle.job_spec.specs.States.{Past, actors, missing, reports}
 use Rattle.job_states.specs.Stands.{Kept, Stands}

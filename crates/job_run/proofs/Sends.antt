@@ -16,7 +16,7 @@ use Rattle.job_run.proofs.Places.{apart, attempt_at, driver_first, there}
 use Rattle.job_run.proofs.Seen.{eyes_more, foretold_as, foretold_last}
 use Rattle.job_run.proofs.Standings.{busy_at}
 use Rattle.job_run.specs.Holds.{HandIs, HandsAre, Holds, IsTurn, all_sound, hand_left, is_busy_at, is_mine, seen_by, setting_of}
-use Rattle.job_run.specs.Posts.{RaisedBy, raised}
+use Rattle.job_run.specs.inner.Posts.{RaisedBy, raised}
 use Rattle.job_run.specs.declared.body.Body.{Body}
 use Rattle.job_run.specs.declared.hands.Hand.{Hand}
 use Rattle.job_run.specs.declared.hands.Hand.TheVariants.{At, Empty, Plan}

@@ -7,7 +7,7 @@ use Rattle.job_protocol.specs.Operations.{Running, Setting}
 use Rattle.job_run.proofs.Finishes.{hands_by}
 use Rattle.job_run.proofs.Standings.{placed}
 use Rattle.job_run.proofs.Writes.{set_other, set_so}
-use Rattle.job_run.specs.Events.{Begun, Handed, InHand, TakenUp}
+use Rattle.job_run.specs.inner.Events.{Begun, Handed, InHand, TakenUp}
 use Rattle.job_run.specs.Holds.{HandsAre, all_sound, is_busy_at, setting_of}
 use Rattle.job_run.specs.Sending.{Asks}
 use Rattle.job_run.specs.declared.body.Body.{Body}

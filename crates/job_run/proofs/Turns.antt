@@ -12,7 +12,7 @@ use Rattle.job_run.proofs.Finishes.{has_hand}
 use Rattle.job_run.proofs.Places.{own_at}
 use Rattle.job_run.proofs.Weights.{Lighter, lighter}
 use Rattle.job_run.specs.Holds.{AreOf, Going, Holds, IsOver, Same, actor_or, all_sound, is_busy_at, is_mine, same_laws, seen_by, table_of}
-use Rattle.job_run.specs.Posts.{Around, FellAt, IsWorking, RaisedBy, Wrote}
+use Rattle.job_run.specs.inner.Posts.{Around, FellAt, IsWorking, RaisedBy, Wrote}
 use Rattle.job_run.specs.Sending.{Asks, hand_end}
 use Rattle.job_run.specs.declared.body.Body.{Body}
 use Rattle.job_run.specs.declared.hands.Hand.{Hand}

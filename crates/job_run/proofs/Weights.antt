@@ -1,7 +1,7 @@
 -- The sum of the weights of the busy actors falls with each turn.
 use Rattle.text_and_lists.proofs.Members.{some_is}
 use Rattle.job_run.specs.Holds.{hand_left, is_busy_at, weight, weights}
-use Rattle.job_run.specs.Posts.{raised}
+use Rattle.job_run.specs.inner.Posts.{raised}
 use Rattle.job_run.specs.declared.hands.Hand.{Hand}
 use Rattle.job_states.specs.declared.standing.Standing.{Standing}
 use Rattle.s3_types.specs.Store.{Scene}

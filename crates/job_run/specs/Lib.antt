@@ -1,7 +1,7 @@
 pub mod Sending
 pub mod Reporting
 pub mod Holds
-pub mod Posts
 pub mod Events
 pub mod Firsts
 pub mod Beside
+pub mod inner

@@ -14,7 +14,8 @@ ghost use Rattle.job_run.specs.declared.hands.Hand.TheVariants.{Empty};
 ghost use Rattle.job_run.specs.Sending.{Asks, hand_end};
 ghost use Rattle.job_run.specs.Holds.{Holds, Going, Quiet, IsTurn, Same, seen_by, all_sound, setting_of, is_busy_at};
 ghost use Rattle.job_run.specs.Beside.{RestsBeside};
-ghost use Rattle.job_run.specs.Events.{Next, Refuses, IsFine, HasRoom, end_of, ByTurns, Grown, IsAsBefore, IsOpened, Emptied, picks_in, knows_of, GivesPlan, of_tasks, IsWork, Begun, InHand, TakenUp, EndsAtOnce, AllOf, BeginsBy, BeginsNone, HasBegun, HasEntered, AreBusy, IsStill, MayPlay, IsPast, event_entries};
+ghost use Rattle.job_run.specs.Events.{Next, Grown, IsAsBefore, picks_in, knows_of};
+ghost use Rattle.job_run.specs.inner.Events.{Refuses, IsFine, HasRoom, end_of, ByTurns, IsOpened, Emptied, GivesPlan, of_tasks, IsWork, Begun, InHand, TakenUp, EndsAtOnce, AllOf, BeginsBy, BeginsNone, HasBegun, HasEntered, AreBusy, IsStill, MayPlay, IsPast, event_entries};
 
 use crate::body::Body;
 use crate::hands::Hand;

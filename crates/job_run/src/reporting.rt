@@ -1,6 +1,7 @@
 ghost use Rattle.std.specs.Prelude.{length, IfOk};
 ghost use Rattle.s3_types.specs.declared.request.Actor.TheVariants.{Driver};
-ghost use Rattle.job_run.specs.Reporting.{AreFlags, ArePartitions, IsTold, IsUntold};
+ghost use Rattle.job_run.specs.inner.Reporting.{AreFlags, ArePartitions};
+ghost use Rattle.job_run.specs.Reporting.{IsTold, IsUntold};
 
 use crate::body::Body;
 use crate::sending::actor_at;

@@ -1,7 +1,8 @@
 ghost use Rattle.std.specs.Prelude.{◌≡◌, ℕ, ◌<◌, ◌≤◌, length, slice_get, Some};
 ghost use Rattle.job_spec.specs.States.{actors};
 ghost use Rattle.job_actor.specs.Posting.{sight};
-ghost use Rattle.job_run.specs.Sending.{Asks, HandDue, HandPosted};
+ghost use Rattle.job_run.specs.Sending.{Asks};
+ghost use Rattle.job_run.specs.inner.Sending.{HandDue, HandPosted};
 
 use crate::hands::Hand;
 use job_actor::{Acts, Posted, post};

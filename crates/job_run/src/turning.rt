@@ -4,7 +4,7 @@ ghost use Rattle.job_spec.specs.States.{actors};
 ghost use Rattle.job_model.specs.declared.ends.OpEnd.TheVariants.{NoMemory};
 ghost use Rattle.job_run.specs.Sending.{hand_end};
 ghost use Rattle.job_run.specs.Holds.{Holds, all_sound, all_but, Going, Same, IsOver, is_busy_at, table_of, same_laws};
-ghost use Rattle.job_run.specs.Posts.{Around, PostedAt};
+ghost use Rattle.job_run.specs.inner.Posts.{Around, PostedAt};
 
 use crate::body::Body;
 use crate::hands::Hand;

@@ -1,6 +1,7 @@
 -- The lines of sends that have a fate. Reading a printed line gives its fate, and what is read keeps the bounds.
 use Rattle.text_and_lists.proofs.Bools.{contrary}
-use Rattle.text_and_lists.proofs.EntriesFrom.{AreAbove, all_entries_from, entries_from, entry_from, find_head, find_other, no_entry_from, not_found}
+use Rattle.text_and_lists.proofs.EntriesFrom.{AreAbove, all_entries_from, entries_from, entry_from, find_head, find_other, no_entry_from}
+use Rattle.text_and_lists.proofs.EntriesFrom.{not_found}
 use Rattle.text_and_lists.proofs.EntriesFrom.{other_key}
 use Rattle.text_and_lists.proofs.Naturals.{less_is}
 use Rattle.text_and_lists.proofs.Options.{none_is}

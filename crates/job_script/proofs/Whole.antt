@@ -2,7 +2,8 @@
 use Rattle.text_and_lists.proofs.Lists.{one_longer}
 use Rattle.text_and_lists.proofs.Reading.{needed, parted, same_ok}
 use Rattle.text_and_lists.proofs.Split.{none_left}
-use Rattle.text_and_lists.specs.Lines.{is_inside, lines_from, lines_of}
+use Rattle.text_and_lists.specs.Lines.{lines_from, lines_of}
+use Rattle.text_and_lists.specs.inner.Lines.{is_inside}
 use Rattle.text_and_lists.specs.Reading.{need}
 use Rattle.text_and_lists.specs.Words.{text_of, words_of}
 use Rattle.job_model.specs.Attempts.{Declared}

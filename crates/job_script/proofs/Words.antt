@@ -2,10 +2,12 @@
 use Rattle.text_and_lists.proofs.Lists.{weaker}
 use Rattle.text_and_lists.proofs.Round.{digit_inside, word_bare}
 use Rattle.text_and_lists.proofs.Utf8.{utf8_cut}
-use Rattle.text_and_lists.specs.Lines.{is_inside, lines_from, lines_of, unless_empty, without_return}
+use Rattle.text_and_lists.specs.Lines.{lines_from, lines_of, unless_empty, without_return}
+use Rattle.text_and_lists.specs.inner.Lines.{is_inside}
 use Rattle.text_and_lists.specs.Numbers.{is_digit, number_in}
 use Rattle.text_and_lists.specs.Parts.{parts_from}
-use Rattle.text_and_lists.specs.Words.{IsBare, IsWord, is_bare, is_plain, words_of}
+use Rattle.text_and_lists.specs.Words.{IsBare, is_bare, words_of}
+use Rattle.text_and_lists.specs.inner.Words.{IsWord, is_plain}
 use Rattle.job_model.specs.Legal.{IsScriptWord}
 use Rattle.job_script.specs.Kinds.{Names, named}
 use Rattle.s3_types.specs.Names.{is_id_byte, is_job_id}

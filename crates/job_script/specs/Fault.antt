@@ -2,7 +2,7 @@
 use Rattle.job_script.specs.declared.fault.ScriptFault.{ScriptFault}
 use Rattle.job_script.specs.declared.fault.ScriptFault.TheVariants.{BadLine, BadNumber, BadPath, DestIsRoot, HiddenPath, MissingHead}
 use Rattle.job_script.specs.declared.fault.ScriptFault.TheVariants.{NoMemory, NotUtf8, RepeatedName, TooLarge, UnknownActor, UnknownWord}
-use Rattle.std.specs.Prelude.{Bool, Result, false, true, ℕ, ⊤}
+use Rattle.std.specs.Prelude.{Bool, Result, false, true, ℕ}
 use Rattle.text_and_lists.specs.Reading as reading
 
 -- The number of a fault.
@@ -39,7 +39,3 @@ wanting fault = false
 -- Holds if a call returned the result of reading, unless memory ran out.
 abbrev pub Gives : {A : Type 0} → Result A ScriptFault → Result A ScriptFault → Type 0
 Gives result read = reading.Gives wanting result read
-
--- Holds if a call changed its argument to the result of reading, unless memory ran out.
-abbrev pub Makes : {A : Type 0} → Result ⊤ ScriptFault → A → Result A ScriptFault → Type 0
-Makes result new read = reading.Makes wanting result new read

@@ -6,3 +6,4 @@ pub mod AttemptLines
 pub mod EventLines
 pub mod Script
 pub mod Print
+pub mod inner

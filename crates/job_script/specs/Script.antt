@@ -1,7 +1,4 @@
 -- The script that bytes mean.
-use Rattle.text_and_lists.specs.Lines.{lines_of}
-use Rattle.text_and_lists.specs.Reading.{check, need, ◌>>=◌}
-use Rattle.text_and_lists.specs.Words.{words_of}
 use Rattle.job_model.specs.JobScript.{Script}
 use Rattle.job_script.specs.AttemptLines.{attempt_at, file_at}
 use Rattle.job_script.specs.EventLines.{event_line_at}
@@ -11,15 +8,17 @@ use Rattle.job_script.specs.declared.draft.Draft.{Draft}
 use Rattle.job_script.specs.declared.draft.Group.{Group}
 use Rattle.job_script.specs.declared.fault.ScriptFault.{ScriptFault}
 use Rattle.job_script.specs.declared.fault.ScriptFault.TheVariants.{BadLine, MissingHead, NotUtf8, TooLarge, UnknownActor, UnknownWord}
-use Rattle.job_script.specs.declared.head.Chosen.{Chosen}
 use Rattle.job_script.specs.declared.kinds.Kind.{Kind}
 use Rattle.s3_types.specs.declared.limits.TheConstants.{MOST_SCRIPT_BYTES}
 use Rattle.s3_types.specs.declared.request.Committer.{Committer}
 use Rattle.s3_types.specs.declared.request.Mode.{Mode}
 use Rattle.std.specs.Option.{option_or, unwrap_or}
-use Rattle.std.specs.Prelude.{Bool, Err, IsSome, List, None, Ok, Option, Result, Some, codes, false, if◌then◌else◌, length, nat_le}
-use Rattle.std.specs.Prelude.{option_map, true, ℕ, [], ⊤, ◌+◌, ◌==◌, ◌∷◌, ◌≡◌}
+use Rattle.std.specs.Prelude.{Bool, Err, List, None, Ok, Option, Result, Some, codes, false, if◌then◌else◌, length, nat_le, option_map}
+use Rattle.std.specs.Prelude.{true, ℕ, [], ⊤, ◌+◌, ◌==◌, ◌∷◌}
 use Rattle.std.specs.Str.{is_utf8}
+use Rattle.text_and_lists.specs.Lines.{lines_of}
+use Rattle.text_and_lists.specs.Reading.{check, need, ◌>>=◌}
+use Rattle.text_and_lists.specs.Words.{words_of}
 use Rattle.s3_types.specs.declared.request.Committer.TheVariants as committer
 use Rattle.s3_types.specs.declared.request.Mode.TheVariants as mode
 use Rattle.job_script.specs.declared.draft.Group.TheVariants as group
@@ -97,16 +96,6 @@ unique_in c (Some (n, unique)) = Ok unique
 abbrev pub all_inside : Option ℕ → Result ⊤ ScriptFault
 all_inside None = Ok tt
 all_inside (Some n) = Err (UnknownActor n)
-
--- Holds if these are the values that the head lines choose: no head line is missing, and no check finds a fault.
-pub record IsChosen (d : Draft) (chosen : Chosen) : Type 0 where
-  pub job : IsSome d.head.job
-  pub dest : IsSome d.head.dest
-  pub committer : need d.head.committer MissingHead ≡ Ok chosen.committer
-  pub tasks : need d.head.tasks MissingHead ≡ Ok chosen.tasks
-  pub mode : mode_in chosen.committer d.head.mode ≡ Ok chosen.mode
-  pub unique : unique_in chosen.committer d.head.unique ≡ Ok chosen.unique
-  pub inside : all_inside d.outside ≡ Ok tt
 
 -- The script after the checks that follow the last line, or their first fault.
 unfoldable pub complete : Draft → Result Script ScriptFault

@@ -1,6 +1,7 @@
 ghost use Rattle.std.specs.Prelude.{◌≡◌, option_map};
 ghost use Rattle.text_and_lists.specs.Words.{words_after};
-ghost use Rattle.job_script.specs.Fault.{Gives, Makes};
+ghost use Rattle.job_script.specs.Fault.{Gives};
+ghost use Rattle.job_script.specs.inner.Fault.{Makes};
 ghost use Rattle.job_script.specs.AttemptLines as lines;
 ghost use Rattle.std.specs.Option.{option_or};
 

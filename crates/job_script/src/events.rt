@@ -1,7 +1,8 @@
 ghost use Rattle.std.specs.Prelude.{◌≡◌, option_map};
 ghost use Rattle.text_and_lists.specs.Words.{words_after};
 ghost use Rattle.job_model.specs.Attempts.{is_known};
-ghost use Rattle.job_script.specs.Fault.{Gives, Makes};
+ghost use Rattle.job_script.specs.Fault.{Gives};
+ghost use Rattle.job_script.specs.inner.Fault.{Makes};
 ghost use Rattle.job_script.specs.EventLines as lines;
 
 use crate::attempts::name_of;

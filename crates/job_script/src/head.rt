@@ -8,11 +8,12 @@ ghost use Rattle.path_keys.specs.Paths.{path_in};
 ghost use Rattle.s3_types.specs.Names.{is_id_byte, is_job_id};
 ghost use Rattle.job_model.specs.JobScript.{Script};
 ghost use Rattle.job_model.specs.Legal.{IsLegal};
-ghost use Rattle.job_script.specs.Fault.{Gives, Makes, wanting};
+ghost use Rattle.job_script.specs.Fault.{Gives, wanting};
+ghost use Rattle.job_script.specs.inner.Fault.{Makes};
 ghost use Rattle.job_script.specs.Kinds.{named};
 ghost use Rattle.job_script.specs.HeadLines as lines;
 ghost use Rattle.job_script.specs.Script as script;
-ghost use Rattle.job_script.specs.Script.{IsChosen};
+ghost use Rattle.job_script.specs.inner.Script.{IsChosen};
 ghost use Rattle.job_script.specs.declared.fault.ScriptFault.TheVariants.{BadLine, MissingHead};
 
 use crate::draft::Draft;

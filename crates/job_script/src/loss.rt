@@ -1,7 +1,8 @@
 ghost use Rattle.std.specs.Prelude.{◌≡◌, ◌+◌, ◌≤◌, false, option_map, IfOk, IfSome};
 ghost use Rattle.text_and_lists.specs.Words.{words_after};
 ghost use Rattle.s3_types.specs.Fates.{is_answer, with_fates};
-ghost use Rattle.job_script.specs.Fault.{Gives, Makes};
+ghost use Rattle.job_script.specs.Fault.{Gives};
+ghost use Rattle.job_script.specs.inner.Fault.{Makes};
 ghost use Rattle.job_script.specs.HeadLines as lines;
 
 use crate::draft::Loss;

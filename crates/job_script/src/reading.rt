@@ -3,7 +3,8 @@ ghost use Rattle.std.specs.Str.{is_utf8};
 ghost use Rattle.text_and_lists.specs.Lines.{lines_of};
 ghost use Rattle.text_and_lists.specs.Words.{words_after};
 ghost use Rattle.job_model.specs.JobScript.{Script};
-ghost use Rattle.job_script.specs.Fault.{Gives, Makes};
+ghost use Rattle.job_script.specs.Fault.{Gives};
+ghost use Rattle.job_script.specs.inner.Fault.{Makes};
 ghost use Rattle.job_script.specs.Script as script;
 
 use crate::attempts::{attempt_line, file_line};

@@ -8,7 +8,7 @@ use Rattle.job_model.specs.Paths.{is_reserved}
 use Rattle.job_model.specs.Plans.{IsJob}
 use Rattle.job_protocol.specs.Setup.{first_shown, or_next, shown_path}
 use Rattle.job_protocol.specs.View.{is_folder}
-use Rattle.job_setup.specs.Files.{first_of, path_behind}
+use Rattle.job_setup.specs.inner.Files.{first_of, path_behind}
 use Rattle.path_keys.specs.Paths.{relative_in}
 use Rattle.std.proofs.Common.{Bool, Bor, List, None, Option, Some, ap, arith, drop, false, length, nat_eq, nat_le, not, option_map, refl}
 use Rattle.std.proofs.Common.{suc, sym, true, zero, ℕ, [], ◌++◌, ◌+◌, ◌-◌, ◌==◌, ◌∙◌, ◌∷◌, ◌≡◌, ◌≢◌, ◌≤◌}

@@ -1,12 +1,10 @@
 -- A set-up in progress, as data.
-use Rattle.job_model.specs.JobScript.{Script}
 use Rattle.job_model.specs.declared.ends.SetupEnd.{SetupEnd}
-use Rattle.job_protocol.specs.Conflicts.{checks_all}
 use Rattle.job_protocol.specs.Setup.{Checking, Clearing, Heading, Setup, SetupOver, Sweeping}
-use Rattle.job_setup.specs.declared.setup_state.SetupState.{SetupState}
 use Rattle.job_setup.specs.declared.setup_state.SetupStage.{SetupStage}
+use Rattle.job_setup.specs.declared.setup_state.SetupState.{SetupState}
 use Rattle.list_walk.specs.Walks.{Sweep, keys_on}
-use Rattle.std.specs.Prelude.{List, cond, ℕ, []}
+use Rattle.std.specs.Prelude.{List, ℕ}
 use Rattle.job_setup.specs.declared.setup_state.SetupStage.TheVariants as stages
 
 -- The set-up at a stage, with the keys of the walk, the sweep, and the end.
@@ -20,7 +18,3 @@ setup_at stages.Over keys sweep end = SetupOver end
 -- The set-up that the kept values represent.
 abbrev pub setup_of : SetupState → Setup
 setup_of h = setup_at h.stage (keys_on h.walk) h.sweep h.end
-
--- The set-up after a reply that there is no object at the destination's own key.
-abbrev pub found_nothing : Script → Setup
-found_nothing w = cond (checks_all w.committer w.mode) (Checking []) Clearing

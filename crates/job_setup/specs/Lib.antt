@@ -1,6 +1,6 @@
-pub mod Files
 pub mod Held
 pub mod Fits
 pub mod Left
 pub mod SetupsEnd
 pub mod AskingLaws
+pub mod inner

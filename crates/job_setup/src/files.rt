@@ -5,7 +5,7 @@ ghost use Rattle.job_protocol.specs.View.{is_folder, is_file_path};
 ghost use Rattle.job_protocol.specs.AtWork.{job_script};
 ghost use Rattle.job_protocol.specs.Setup.{first_shown};
 ghost use Rattle.list_walk.specs.Walks.{keys_on};
-ghost use Rattle.job_setup.specs.Files.{first_of, seen_at};
+ghost use Rattle.job_setup.specs.inner.Files.{first_of, seen_at};
 
 use job_model::JobPlan;
 use magic_paths::dest_prefix;

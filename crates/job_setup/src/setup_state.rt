@@ -3,7 +3,8 @@ ghost use Rattle.job_protocol.specs.AtWork.{job_script};
 ghost use Rattle.job_protocol.specs.Conflicts.{checks_all};
 ghost use Rattle.list_walk.specs.Walks.{keys_on, sweep_hears, all_go};
 ghost use Rattle.job_protocol.specs.Setup.{SetupOver, setup_start, setup_asks, setup_hears, lacks_bucket, headed, checked, cleared, sweeping};
-ghost use Rattle.job_setup.specs.Held.{setup_of, found_nothing};
+ghost use Rattle.job_setup.specs.Held.{setup_of};
+ghost use Rattle.job_setup.specs.inner.Held.{found_nothing};
 ghost use Rattle.list_walk.specs.Fitting.{FitsPage, FitsSweep};
 ghost use Rattle.job_setup.specs.Fits.{FitsSetup};
 

@@ -1,5 +1,6 @@
 -- What the claim of a script says of its files is what the job's picks want and what the conflict mode keeps.
-use Rattle.text_and_lists.proofs.Members.{false_true, in_append, in_back, in_front, in_map, map_in, none_or_some, none_some, same_or_not, some_is}
+use Rattle.text_and_lists.proofs.Members.{false_true, in_append, in_back, in_front, in_map, map_in, none_or_some, none_some, same_or_not}
+use Rattle.text_and_lists.proofs.Members.{some_is}
 use Rattle.text_and_lists.proofs.Members.{text_is, true_or_false}
 use Rattle.text_and_lists.specs.Members.{IsIn}
 use Rattle.text_and_lists.specs.Order.{text_eq}

@@ -5,7 +5,8 @@ use Rattle.job_model.specs.declared.ends.OpEnd.{OpEnd}
 use Rattle.job_spec.specs.Turns.{Mixing, draw, mix_begins, mix_dies, mix_ends, mix_sends, place}
 use Rattle.job_states.proofs.Choices.{next_drawn, place_is}
 use Rattle.job_states.proofs.MixPlaces.{get_map, get_remove, remove_apart, remove_get, remove_map}
-use Rattle.job_states.specs.Mixes.{AreApart, AreGoing, Mixed, Mixes}
+use Rattle.job_states.specs.Mixes.{AreApart, AreGoing, Mixed}
+use Rattle.job_states.specs.inner.Mixes.{Mixes}
 use Rattle.job_states.specs.Turning.{Beside, Ending, Table, Turned}
 use Rattle.job_states.specs.declared.actors.Turn.TheVariants.{Died, Ended, GoesOn}
 use Rattle.s3_types.specs.declared.journal.Entry.{Entry}

@@ -3,7 +3,8 @@ use Rattle.text_and_lists.proofs.Naturals.{suc_not, suc_same, zero_not}
 use Rattle.job_model.specs.Attempts.{Declared, Who, actor_of, is_known, same_name}
 use Rattle.job_model.specs.JobScript.{Script}
 use Rattle.job_spec.specs.States.{actors, same_actor}
-use Rattle.job_states.specs.Stands.{ChangesAt, IsPlace, is_at}
+use Rattle.job_states.specs.Stands.{IsPlace, is_at}
+use Rattle.job_states.specs.inner.Stands.{ChangesAt}
 use Rattle.job_states.specs.declared.standing.Standing.{Standing}
 use Rattle.s3_types.specs.declared.request.Actor.{Actor}
 use Rattle.s3_types.specs.declared.request.Actor.TheVariants.{Driver, Shell}

@@ -3,7 +3,8 @@ use Rattle.job_model.specs.Jobs.{has_task}
 use Rattle.job_protocol.specs.Outputs.{first_where}
 use Rattle.job_spec.specs.States.{first_not}
 use Rattle.job_spec.specs.Turns.{is_busy}
-use Rattle.job_states.specs.Stands.{busy_from, first_false, tested}
+use Rattle.job_states.specs.Stands.{tested}
+use Rattle.job_states.specs.inner.Stands.{busy_from, first_false}
 use Rattle.job_states.specs.declared.standing.Standing.{Standing}
 use Rattle.std.proofs.Common.{Bool, List, Some, ap, append_assoc, arith, cond, false, get_or, inl, inr, length, length-append, map, nat_eq}
 use Rattle.std.proofs.Common.{nat_lt, not, refl, replicate, set, slice_get, subst, suc, sym, take, true, unwrap_or, zero, ℕ, [], ◌&&◌, ◌++◌}

@@ -11,8 +11,10 @@ use Rattle.job_spec.specs.States.{Decided, Doing, Past, begin, decide, end_op, e
 use Rattle.job_spec.specs.States.{is_setup, kill, put, report, restarted}
 use Rattle.job_states.proofs.ReportLemmas.{same_tests}
 use Rattle.job_states.proofs.ToldLemmas.{told_more}
-use Rattle.job_states.specs.Standing.{began, begun_in, decision, ended_in, fresh, killed_in, renewed_in, standing}
-use Rattle.job_states.specs.Stands.{ChangesAt, tested, told_by}
+use Rattle.job_states.specs.Standing.{began, decision, standing}
+use Rattle.job_states.specs.inner.Standing.{begun_in, ended_in, fresh, killed_in, renewed_in}
+use Rattle.job_states.specs.Stands.{tested}
+use Rattle.job_states.specs.inner.Stands.{ChangesAt, told_by}
 use Rattle.job_states.specs.declared.standing.Standing.{Standing}
 use Rattle.s3_types.specs.declared.request.Actor.{Actor}
 use Rattle.s3_types.specs.declared.request.Actor.TheVariants.{Driver}

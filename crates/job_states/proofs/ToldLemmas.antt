@@ -3,7 +3,8 @@ use Rattle.job_model.specs.Attempts.{Declared, Who, actor_of, is_known, same_nam
 use Rattle.job_model.specs.JobScript.{Script}
 use Rattle.job_spec.specs.States.{is_reported, put}
 use Rattle.job_states.proofs.ReportLemmas.{same_tests}
-use Rattle.job_states.specs.Stands.{tested, told_by}
+use Rattle.job_states.specs.Stands.{tested}
+use Rattle.job_states.specs.inner.Stands.{told_by}
 use Rattle.s3_types.specs.declared.request.Actor.{Actor}
 use Rattle.s3_types.specs.declared.request.Actor.TheVariants.{Attempt, Driver, Shell}
 use Rattle.std.proofs.Common.{Bool, List, ap, arith, drop, false, get_or, length, map, nat_eq, refl, set, suc, take, zero, ℕ, [], ◌&&◌}

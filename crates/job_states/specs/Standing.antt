@@ -1,54 +1,16 @@
 -- The standing of an actor, and what is known of the driver's operations, as `States` keeps them.
-use Rattle.job_model.specs.declared.ends.OpEnd.{OpEnd}
 use Rattle.job_model.specs.declared.events.Op.{Op}
-use Rattle.job_spec.specs.States.{Decided, EndedSo, NotBegun, Past, Unended, dead, end_verdict, ended, idle, is_committing, is_done}
-use Rattle.job_spec.specs.States.{restarted, stage_begun}
+use Rattle.job_spec.specs.States.{Decided, EndedSo, NotBegun, Past, Unended, end_verdict}
 use Rattle.job_states.specs.declared.standing.Decision.{Decision}
 use Rattle.job_states.specs.declared.standing.Standing.{Standing}
 use Rattle.s3_types.specs.declared.request.Actor.{Actor}
-use Rattle.std.specs.Prelude.{Bool, None, Option, Some, false, option_map, true, ◌&&◌, ◌||◌}
+use Rattle.std.specs.Prelude.{Bool, None, Option, Some, false, option_map, true}
 use Rattle.job_model.specs.declared.events.Op.TheVariants as ops
-use Rattle.job_model.specs.declared.states.Life.TheVariants as lives
-use Rattle.job_model.specs.declared.states.ActorStage.TheVariants as stages
 use Rattle.job_states.specs.declared.standing.Decision.TheVariants as kept
 
 -- The standing of an actor: its state, the operation that it began last, and whether it has reported.
 abbrev pub standing : Past → Actor → Standing
 standing p a = record { state = p.state a; begun = option_map (λ d. d.op) (p.doing a); reported = p.reported a }
-
--- The standing of an actor that has begun nothing.
-abbrev pub fresh : Standing
-fresh = record { state = idle stages.New; begun = None; reported = false }
-
--- The standing of an actor that begins an operation.
-abbrev pub begun_in : Actor → Op → Standing → Standing
-begun_in a op s = record {
-  state = record { life = lives.Busy; stage = stage_begun a op s.state.stage };
-  begun = Some op;
-  reported =
-      s.reported;
-}
-
--- The standing of an actor after the end of its operation.
-abbrev pub ended_in : OpEnd → Standing → Standing
-ended_in end s = record {
-  state = ended end s.state.stage;
-  begun = s.begun;
-  reported = s.reported ||
-      (is_committing s.state.stage && is_done end);
-}
-
--- The standing of an actor that was killed.
-abbrev pub killed_in : Standing → Standing
-killed_in s = record s { state = dead s.state.stage }
-
--- The standing of a new driver in place of the old one.
-abbrev pub renewed_in : Standing → Standing
-renewed_in s = record s { state = idle (restarted s.state.stage) }
-
--- The standing of an actor whose reports are forgotten.
-abbrev pub unreported_in : Standing → Standing
-unreported_in s = record s { reported = false }
 
 -- True if both operations are the same.
 abbrev pub same_op : Op → Op → Bool

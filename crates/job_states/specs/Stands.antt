@@ -2,15 +2,12 @@
 use Rattle.job_model.specs.Attempts.{is_known}
 use Rattle.job_model.specs.JobScript.{Script}
 use Rattle.job_spec.specs.States.{Past, actors, is_committing, is_reported, same_actor}
-use Rattle.job_spec.specs.Turns.{is_busy}
 use Rattle.job_states.specs.Standing.{decision, standing}
 use Rattle.job_states.specs.declared.standing.Decision.{Decision}
 use Rattle.job_states.specs.declared.standing.Standing.{Standing}
 use Rattle.s3_types.specs.declared.request.Actor.{Actor}
-use Rattle.s3_types.specs.declared.request.Actor.TheVariants.{Attempt}
 use Rattle.std.specs.List.{range_with_len}
-use Rattle.std.specs.Prelude.{Bool, IfSome, List, None, Option, Some, cond, false, is_some, length, map, nat_eq, slice_get, true, ℕ, []}
-use Rattle.std.specs.Prelude.{◌&&◌, ◌+◌, ◌<◌, ◌||◌, ◌∷◌, ◌≡◌}
+use Rattle.std.specs.Prelude.{Bool, IfSome, List, None, Option, Some, false, is_some, length, map, nat_eq, slice_get, ℕ, ◌<◌, ◌≡◌}
 
 -- What is kept: the number of events, the standing of each actor, the number of the job attempt, whether each task is reported, and what is
 -- known of the last set-up and of the commit.
@@ -25,11 +22,6 @@ pub record Kept : Type 0 where
 -- The results of a test for the tasks, as a list.
 abbrev pub tested : ℕ → (ℕ → Bool) → List Bool
 tested tasks f = map f (range_with_len 0 tasks)
-
--- The reported tasks, where the task of an attempt is one of them if it is `done`.
-abbrev pub told_by : Actor → Bool → (ℕ → Bool) → ℕ → Bool
-told_by (Attempt task attempt) done f t = f t || (nat_eq t task && done)
-told_by _ done f t = f t
 
 -- Holds if what is kept is the state `p` of a run of the script.
 pub record Stands (w : Script) (k : Kept) (p : Past) : Type 0 where
@@ -56,19 +48,4 @@ pub record IsPlace (w : Script) (a : Actor) (place : Option ℕ) : Type 0 where
   pub within : IfSome place (λ i. i < length (actors w))
   pub only : (j : ℕ) (b : Actor) → slice_get (actors w) j ≡ Some b → same_actor b a ≡ is_at place j
 
--- Holds if g is f except at the actor, where it is x if the actor belongs to the job.
-pub record ChangesAt (w : Script) (a : Actor) (x : Standing) (f g : Actor → Standing) : Type 0 where
-  pub here : is_known w.attempts a ≡ true → g a ≡ x
-  pub elsewhere : (b : Actor) → same_actor b a ≡ false → g b ≡ f b
-
 -- ---- searches
-
--- The places of the busy actors; the first standing has place n.
-abbrev pub busy_from : ℕ → List Standing → List ℕ
-busy_from n [] = []
-busy_from n (s ∷ ss) = cond (is_busy s.state.life) (n ∷ busy_from (n + 1) ss) (busy_from (n + 1) ss)
-
--- The first task that is not reported, or none; the first entry is that of task n.
-abbrev pub first_false : ℕ → List Bool → Option ℕ
-first_false n [] = None
-first_false n (b ∷ bs) = cond b (first_false (n + 1) bs) (Some n)

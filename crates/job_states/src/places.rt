@@ -3,8 +3,9 @@ ghost use Rattle.s3_types.specs.declared.request.Actor.{Actor};
 ghost use Rattle.job_model.specs.Attempts.{is_known};
 ghost use Rattle.job_spec.specs.States.{actors};
 ghost use Rattle.job_states.specs.declared.standing.Standing.{Standing};
-ghost use Rattle.job_states.specs.Standing.{fresh};
-ghost use Rattle.job_states.specs.Stands.{IsPlace, ChangesAt};
+ghost use Rattle.job_states.specs.inner.Standing.{fresh};
+ghost use Rattle.job_states.specs.Stands.{IsPlace};
+ghost use Rattle.job_states.specs.inner.Stands.{ChangesAt};
 
 use crate::standing::{FRESH, Standing};
 use job_model::{AttemptName, Script};

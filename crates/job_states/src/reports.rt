@@ -1,6 +1,7 @@
 ghost use Rattle.std.specs.Prelude.{◌≡◌, ℕ, ◌&&◌, ◌||◌, ◌<◌, ◌^◌, Bool, false, nat_eq, length, replicate, slice_get, slice_index_or, unwrap_or, IfOk, OnOk};
 ghost use Rattle.job_model.specs.Jobs.{has_task};
-ghost use Rattle.job_states.specs.Stands.{tested, first_false};
+ghost use Rattle.job_states.specs.Stands.{tested};
+ghost use Rattle.job_states.specs.inner.Stands.{first_false};
 
 use job_model::TaskSet;
 use std::alloc::{AllocError, Global};

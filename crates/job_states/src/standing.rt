@@ -1,6 +1,7 @@
 ghost use Rattle.std.specs.Prelude.{◌≡◌, ◌&&◌};
 ghost use Rattle.job_spec.specs.States.{Decided, stage_begun, stage_done, restarted, task_ended, ended, is_committing, is_done, setup_begun, commit_begun, decide, end_verdict, verdict_or};
-ghost use Rattle.job_states.specs.Standing.{decision, begun_in, ended_in, killed_in, renewed_in, unreported_in, began};
+ghost use Rattle.job_states.specs.Standing.{decision, began};
+ghost use Rattle.job_states.specs.inner.Standing.{begun_in, ended_in, killed_in, renewed_in, unreported_in};
 
 use job_model::{
     ActorStage, ActorState, CheckEnd, CleanEnd, CommitEnd, Life, Op, OpEnd, SetupEnd, TaskEnd,

@@ -7,8 +7,9 @@ ghost use Rattle.job_model.specs.Legal.{IsEvent};
 ghost use Rattle.commit_lanes.specs.Fitting.{least_missing};
 ghost use Rattle.job_spec.specs.States.{Past, actors, begin, kill, restart, open_event, actor_named, end_op, end_ops, is_committing, is_done, is_reported, told, count, after_event, nothing_past, past, refuse_op, refuse_begin, refusal, missing, verdict_or};
 ghost use Rattle.job_spec.specs.Turns.{is_busy, busy_actors};
-ghost use Rattle.job_states.specs.Standing.{fresh, unreported_in};
-ghost use Rattle.job_states.specs.Stands.{Stands, tested, told_by, busy_from};
+ghost use Rattle.job_states.specs.inner.Standing.{fresh, unreported_in};
+ghost use Rattle.job_states.specs.Stands.{Stands, tested};
+ghost use Rattle.job_states.specs.inner.Stands.{told_by, busy_from};
 
 use crate::places::{put_standing, standing_of};
 use crate::refusals::{refuse_begin, refuse_kill, refuse_move, refuse_restart};

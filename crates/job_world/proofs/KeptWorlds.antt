@@ -27,7 +27,7 @@ use Rattle.job_states.specs.Stands.{Stands}
 use Rattle.script_steps.proofs.Played.{happenings_play}
 use Rattle.script_steps.specs.StepsPlay.{IsPlayed}
 use Rattle.script_steps.specs.Transitions.{Play}
-use Rattle.job_world.specs.Alone.{IsAlone, Rests}
+use Rattle.job_world.specs.inner.Alone.{IsAlone, Rests}
 use Rattle.job_world.specs.Worlds.{Keeps, Run, WentOn, begun, run_of}
 use Rattle.s3_types.specs.Fates.{fate_at}
 use Rattle.s3_types.specs.Moment.{IsHonest, moment}

@@ -1,2 +1,2 @@
-pub mod Alone
 pub mod Worlds
+pub mod inner

@@ -28,7 +28,7 @@ impl<W: Works> Model for World<W> {
     ghost use Rattle.std.specs.Coded.{codes};
     ghost use Rattle.s3_types.specs.Coded.{coded_content};
     ghost use Rattle.job_model.specs.Codes.{coded_script};
-    ghost use Rattle.job_world.specs.Alone.{Rests};
+    ghost use Rattle.job_world.specs.inner.Alone.{Rests};
     ghost use Rattle.job_world.specs.Worlds.{Run, run_of};
 
     ghost Value = { Run };

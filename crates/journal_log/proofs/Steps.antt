@@ -2,7 +2,8 @@
 use Rattle.journal_log.proofs.Journals.{changes_append, changes_none}
 use Rattle.journal_log.proofs.Leaving.{at_first, goes_on, so_far, started, widened}
 use Rattle.journal_log.proofs.Standing.{holds_none, holds_one, holds_then}
-use Rattle.journal_log.specs.Appends.{Appended, AreAnswered, LeftOut, Stopped, Stops}
+use Rattle.journal_log.specs.Appends.{AreAnswered, LeftOut, Stopped, Stops}
+use Rattle.journal_log.specs.inner.Appends.{Appended}
 use Rattle.journal_log.specs.Changes.{changes}
 use Rattle.journal_log.specs.Crashes.{IsBetween}
 use Rattle.journal_log.specs.Kept.{HoldsGrownBy, HoldsSome}

@@ -1,23 +1,17 @@
 -- A run of appends, of which each call but the last was answered.
-use Rattle.journal_log.specs.Changes.{Begins}
-use Rattle.journal_log.specs.Kept.{HoldsGrownBy}
-use Rattle.s3_types.specs.declared.request.Request.{Request}
-use Rattle.devices.specs.Logged.{HoldsOneOf, IsDurable, Sight}
+use Rattle.devices.specs.Logged.{HoldsOneOf, Sight}
 use Rattle.devices.specs.Logged.Call.{Append, AppendOutOfMemory, Replace}
 use Rattle.devices.specs.declared.kept.ShelfStop.{ShelfStop}
 use Rattle.devices.specs.declared.kept.ShelfStop.TheVariants.{Failed, NoMemory}
+use Rattle.journal_log.specs.Changes.{Begins}
+use Rattle.journal_log.specs.Kept.{HoldsGrownBy}
+use Rattle.s3_types.specs.declared.request.Request.{Request}
 use Rattle.std.specs.Prelude.{List, [], ◌++◌, ◌∷◌, ◌≡◌, ◌⊎◌}
 
 -- Holds if one append was answered for each of these changes.
 abbrev pub AreAnswered : {S : Type 0} → Sight S → List Request → S → S → Type 0
 AreAnswered F [] old new = old ≡ new
 AreAnswered {S} F (r ∷ rs) old new = (mid : S) × F.answers Append old mid × AreAnswered F rs mid new
-
--- All these changes were appended.
-pub record Appended {S : Type 0} (F : Sight S) (rs : List Request) (old new : S) : Type 0 where
-  pub grown : HoldsGrownBy (F.held old) (F.held new) rs
-  pub durable : IsDurable (F.held new) (F.may_leave new)
-  pub answered : AreAnswered F rs old new
 
 -- What the failed append of a change leaves, according to the fault: after Failed the change may be there, after NoMemory it is not.
 abbrev pub LeftOut : {S : Type 0} → Sight S → ShelfStop → Request → S → S → Type 0

@@ -5,3 +5,4 @@ pub mod Crashes
 pub mod Recovery
 pub mod Appends
 pub mod Images
+pub mod inner

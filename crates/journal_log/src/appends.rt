@@ -4,7 +4,8 @@ ghost use Rattle.devices.specs.Logged.{IsDurable, CrashesLeave};
 ghost use Rattle.journal_log.specs.Changes.{changes};
 ghost use Rattle.journal_log.specs.Kept.{HoldsGrownBy, HoldsSome};
 ghost use Rattle.journal_log.specs.Crashes.{IsBetween};
-ghost use Rattle.journal_log.specs.Appends.{Appended, AreAnswered, Stopped};
+ghost use Rattle.journal_log.specs.inner.Appends.{Appended};
+ghost use Rattle.journal_log.specs.Appends.{AreAnswered, Stopped};
 
 use crate::changing::change_of;
 use devices::kept::{Shelf, ShelfStop};

@@ -1,7 +1,7 @@
 -- What a call gives of the unread bytes.
 use Rattle.text_and_lists.proofs.Bools.{not_so}
 use Rattle.text_and_lists.specs.Parts.{is_other}
-use Rattle.line_input.specs.Buffers.{IsEnd, IsLineEnd, line_at, rest_at}
+use Rattle.line_input.specs.inner.Buffers.{IsEnd, IsLineEnd, line_at, rest_at}
 use Rattle.line_input.specs.LinesOf.{behind_line, first_line}
 use Rattle.line_input.specs.Reading.{Gives, IsCut, IsWhole, unread}
 use Rattle.std.proofs.Common.{Bool, List, None, Option, Some, ap, append_assoc, arith, drop, false, inl, inr, length, nat_lt, refl, subst}

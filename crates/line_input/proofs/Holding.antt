@@ -1,8 +1,9 @@
 -- The held bytes after more was read, and the first line feed among them.
 use Rattle.text_and_lists.proofs.Pieces.{others_from_bytes}
 use Rattle.text_and_lists.specs.Parts.{is_other}
-use Rattle.line_input.specs.Buffers.{IsLineEnd}
-use Rattle.line_input.specs.Reading.{IsOver, unread}
+use Rattle.line_input.specs.inner.Buffers.{IsLineEnd}
+use Rattle.line_input.specs.Reading.{unread}
+use Rattle.line_input.specs.inner.Reading.{IsOver}
 use Rattle.memchr.specs.Find.{IsFirstByte, Nowhere, Passes, is_byte}
 use Rattle.devices.specs.Devices.{Takes}
 use Rattle.std.proofs.Common.{List, None, Option, Some, ap, append_assoc, arith, drop, get_or, inl, inr, length, length-drop, nat_lt, refl}

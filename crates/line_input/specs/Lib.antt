@@ -1,3 +1,4 @@
 pub mod LinesOf
 pub mod Reading
 pub mod Buffers
+pub mod inner

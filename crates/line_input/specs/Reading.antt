@@ -1,6 +1,6 @@
 -- What is read of an input whose lines are given one by one.
-use Rattle.std.specs.Prelude.{◌≡◌, ℕ, ◌<◌, ◌⊎◌, List, [], ◌++◌, Option, Some, None, Bool, true, false, length, take}
-use Rattle.line_input.specs.LinesOf.{first_line, behind_line}
+use Rattle.line_input.specs.LinesOf.{behind_line, first_line}
+use Rattle.std.specs.Prelude.{Bool, List, None, Option, Some, false, length, take, true, ℕ, [], ◌++◌, ◌<◌, ◌≡◌, ◌⊎◌}
 
 -- The line that was given last, the bytes that were read and not given yet, and the size of the buffer in bytes.
 pub record ReadAhead : Type 0 where
@@ -12,11 +12,6 @@ pub record ReadAhead : Type 0 where
 abbrev pub unread : List ℕ → Option (List ℕ) → Option (List ℕ)
 unread held None = None
 unread held (Some left) = Some (held ++ left)
-
--- Nothing is left of the source, if it shows what is left.
-abbrev pub IsOver : Option (List ℕ) → Type 0
-IsOver None = Unit {0}
-IsOver (Some left) = left ≡ []
 
 -- The line is the first of the text, and the bytes after it are unread.
 pub record IsWhole (text line : List ℕ) (after : Option (List ℕ)) : Type 0 where

@@ -2,8 +2,10 @@ ghost use Rattle.std.specs.Prelude.{◌≡◌, Some, None, ◌<◌, ◌≤◌, �
 ghost use Rattle.std.specs.List.{list_all};
 ghost use Rattle.text_and_lists.specs.Parts.{is_other};
 ghost use Rattle.devices.specs.Devices.{Rose, Takes};
-ghost use Rattle.line_input.specs.Reading.{unread, IsOver};
-ghost use Rattle.line_input.specs.Buffers.{held_in, IsSound, IsLineEnd, IsEnd, line_at, rest_at};
+ghost use Rattle.line_input.specs.Reading.{unread};
+ghost use Rattle.line_input.specs.inner.Reading.{IsOver};
+ghost use Rattle.line_input.specs.Buffers.{held_in};
+ghost use Rattle.line_input.specs.inner.Buffers.{IsSound, IsLineEnd, IsEnd, line_at, rest_at};
 
 use devices::{Failed, Source};
 use memchr::memchr;

@@ -18,7 +18,8 @@ pub struct LineInput {
 impl Model for LineInput {
     ghost use Rattle.std.specs.Prelude.{◌≤◌, length, slice_range};
     ghost use Rattle.line_input.specs.Reading.{ReadAhead};
-    ghost use Rattle.line_input.specs.Buffers.{held_in, IsSound};
+    ghost use Rattle.line_input.specs.Buffers.{held_in};
+    ghost use Rattle.line_input.specs.inner.Buffers.{IsSound};
 
     ghost Value = { ReadAhead };
 

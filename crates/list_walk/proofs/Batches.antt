@@ -1,5 +1,6 @@
 -- One batch after another.
-use Rattle.list_walk.specs.Kept.{deleting_from, from_if, next_from, sweep_at}
+use Rattle.list_walk.specs.Kept.{deleting_from, sweep_at}
+use Rattle.list_walk.specs.inner.Kept.{from_if, next_from}
 use Rattle.list_walk.specs.Walks.{deleting, sweep_hears}
 use Rattle.s3_types.specs.declared.reply.Reply.{Reply}
 use Rattle.std.proofs.Common.{Bool, List, None, Some, ap, arith, drop, false, length, length-drop, nat_lt, refl, sym, true, ℕ, ◌&&◌, ◌+◌}

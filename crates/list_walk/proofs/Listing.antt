@@ -27,7 +27,7 @@ use Rattle.std.specs.Ordering.{is_eq, is_lt, nat_cmp, ordering_then}
 use Rattle.std.specs.declared.cmp.Ordering.{Ordering}
 use Rattle.std.specs.declared.cmp.Ordering.TheVariants.{Equal, Less}
 use Rattle.store_frame.proofs.Listed.{listed_behind, walked_listed}
-use Rattle.store_frame.specs.Walk.{walked}
+use Rattle.store_frame.specs.inner.Walk.{walked}
 use Rattle.std.specs.FinMap as fin
 use Rattle.s3_types.specs.Multipart as uploads
 

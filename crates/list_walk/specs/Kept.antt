@@ -1,6 +1,6 @@
 -- How the code keeps a sweep.
-use Rattle.std.specs.Prelude.{ℕ, ◌+◌, ◌-◌, ◌&&◌, nat_lt, Bool, true, false, List, [], ◌∷◌, drop, Option, Some, None}
-use Rattle.list_walk.specs.Walks.{Sweep, Listing, Deleting}
+use Rattle.list_walk.specs.Walks.{Deleting, Listing, Sweep}
+use Rattle.std.specs.Prelude.{Bool, List, None, Option, Some, drop, false, true, ℕ, [], ◌∷◌}
 
 -- A sweep, as the code keeps it.
 abbrev pub Swept : Type 0
@@ -20,12 +20,3 @@ sweep_at false found keys from = deleting_from (drop from keys)
 abbrev pub kept : Bool → Sweep → Option Sweep
 kept true s = Some s
 kept false s = None
-
--- The place of a sweep that goes on, or None.
-abbrev pub from_if : Bool → ℕ → Option ℕ
-from_if true n = Some n
-from_if false n = None
-
--- The place of the next batch among `len` keys, if there is one.
-abbrev pub next_from : ℕ → ℕ → Option ℕ
-next_from from len = from_if (nat_lt from len && nat_lt 1000 (len - from)) (from + 1000)

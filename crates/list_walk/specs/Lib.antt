@@ -3,3 +3,4 @@ pub mod Fitting
 pub mod Kept
 pub mod Left
 pub mod WalksEnd
+pub mod inner

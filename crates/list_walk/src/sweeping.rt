@@ -3,7 +3,8 @@ ghost use Rattle.std.specs.List.{filter};
 ghost use Rattle.s3_types.specs.declared.request.Request.TheVariants.{DeleteObjects};
 ghost use Rattle.list_walk.specs.Walks.{sweep_start, sweep_asks, sweep_hears, deleting, keys_on};
 ghost use Rattle.list_walk.specs.Fitting.{AreKeys, FitsSweep};
-ghost use Rattle.list_walk.specs.Kept.{kept, next_from};
+ghost use Rattle.list_walk.specs.Kept.{kept};
+ghost use Rattle.list_walk.specs.inner.Kept.{next_from};
 
 use crate::key_test::KeyTest;
 use crate::key_walk::{KeyWalk, key_of};

@@ -1,7 +1,8 @@
 -- A row whose last field is read after its others.
 use Rattle.text_and_lists.specs.Reading.{Fails, ◌>>=◌}
 use Rattle.log_format.specs.Fault.{wanting}
-use Rattle.log_format.specs.Reading.{Read, alone, pair_at, paired, row_of}
+use Rattle.log_format.specs.Reading.{Read, alone, pair_at, row_of}
+use Rattle.log_format.specs.inner.Reading.{paired}
 use Rattle.log_format.specs.declared.fault.LogFault.{LogFault}
 use Rattle.s3_types.specs.declared.request.Request.{Request}
 use Rattle.std.proofs.Common.{List, Ok, Result, ap, subst, sym, ℕ, ◌∙◌, ◌≡◌}

@@ -3,7 +3,8 @@ use Rattle.text_and_lists.proofs.Bytes.{IsBytes, IsReader}
 use Rattle.text_and_lists.proofs.Reading.{parted, passed}
 use Rattle.log_format.proofs.Steps.{block_reader, byte_again, byte_takes, counted_reader, long_reader, named_reader, pair_reader}
 use Rattle.log_format.proofs.Steps.{short_reader, text_reader}
-use Rattle.log_format.specs.Change.{AreBoth, AreFew, IsAny, IsBelow, IsBucket, IsChange, IsKey, IsNamed, IsTarget, IsText, IsUpload, header}
+use Rattle.log_format.specs.Change.{AreBoth, AreFew, IsBelow, IsBucket, IsChange, IsKey, IsNamed, IsTarget, IsText, IsUpload, header}
+use Rattle.log_format.specs.inner.Change.{IsAny}
 use Rattle.log_format.specs.Log.{block, body, counted, long, named, short, target, upload}
 use Rattle.log_format.specs.Reading.{Read, abort_upload_in, block_at, byte_at, change_in, complete_upload_in, copy_object_in, counted_at}
 use Rattle.log_format.specs.Reading.{create_upload_in, delete_object_in, delete_objects_in, header_in, kind_in, make_bucket_in, named_at}

@@ -162,7 +162,8 @@ log_takes whole bytes h fits e =
     (block b.value.0) b.value.1 (length (block b.value.0)) refl in
     let all : (bytes ≡ block b.value.0 ++ drop (length (block b.value.0)) bytes) × Ends (drop (length (block b.value.0)) bytes) x.value =
     (t.parts ∙ ap (λ (y : List ℕ). block b.value.0 ++ y) (sym rest_is), subst (λ (y : List ℕ). Ends y x.value) (sym rest_is) ends) in
-    subst (λ (k : LoggedStore). (bytes ≡ block k.base ++ drop (length (block k.base)) bytes) × Ends (drop (length (block k.base)) bytes) k.changes)
+    subst (λ (k : LoggedStore). (bytes ≡ block k.base ++ drop (length (block k.base)) bytes)
+    × Ends (drop (length (block k.base)) bytes) k.changes)
     (same_ok _ h x.next) all
 
 headed_is : (base rest : List ℕ) → headed base ++ rest ≡ magic ++ (block base ++ rest)

@@ -2,7 +2,8 @@
 use Rattle.text_and_lists.proofs.Bytes.{IsBytes, IsReader, IsWide, Takes, Takes-then, front_again, front_takes, wide32, wide64}
 use Rattle.text_and_lists.proofs.Reading.{parted, passed, same_ok, unmade}
 use Rattle.text_and_lists.specs.Reading.{◌>>=◌}
-use Rattle.log_format.specs.Change.{AreBoth, AreDigits, AreFew, IsAny, IsBelow, IsNamed}
+use Rattle.log_format.specs.Change.{AreBoth, AreDigits, AreFew, IsBelow, IsNamed}
+use Rattle.log_format.specs.inner.Change.{IsAny}
 use Rattle.log_format.specs.Log.{block, counted, long, named, short}
 use Rattle.log_format.specs.Reading.{Read, block_at, byte_at, bytes_at, counted_at, digits_at, list_at, named_at, named_of, number_at}
 use Rattle.log_format.specs.Reading.{pair_at, text_at}

@@ -33,10 +33,6 @@ abbrev pub header : Option ℕ → ℕ
 header None = 0
 header (Some n) = n + 1
 
--- Any bytes.
-abbrev pub IsAny : List ℕ → Type 0
-IsAny bytes = Unit {0}
-
 -- The bytes are UTF-8.
 abbrev pub IsText : List ℕ → Type 0
 IsText text = is_utf8 text ≡ true

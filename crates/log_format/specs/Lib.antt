@@ -3,3 +3,4 @@ pub mod Log
 pub mod Fault
 pub mod Reading
 pub mod File
+pub mod inner

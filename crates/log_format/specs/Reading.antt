@@ -1,6 +1,5 @@
 -- Reading a file from left to right, up to the first fault. Every fault within a record is reported at one place, that of the record's
 -- length.
-use Rattle.text_and_lists.specs.Reading.{made, passing, ◌>>=◌}
 use Rattle.log_format.specs.Log.{magic}
 use Rattle.log_format.specs.declared.fault.LogFault.{LogFault}
 use Rattle.log_format.specs.declared.fault.LogFault.TheVariants.{Bad}
@@ -16,6 +15,7 @@ use Rattle.std.specs.List.{list_all}
 use Rattle.std.specs.Prelude.{Bool, Err, List, None, Ok, Option, Result, Some, bytes_eq, drop, if◌then◌else◌, length, nat_lt, slice_index}
 use Rattle.std.specs.Prelude.{suc, take, zero, ℕ, [], ◌-◌, ◌==◌, ◌∷◌}
 use Rattle.std.specs.Str.{is_utf8}
+use Rattle.text_and_lists.specs.Reading.{made, passing, ◌>>=◌}
 use Rattle.text_and_lists.specs.Reading as reading
 
 -- A value with the bytes that are left after it, or a fault.
@@ -49,10 +49,6 @@ unfoldable pub text_at : (List ℕ → Bool) → ℕ → List ℕ → Read (List
 text_at is_kind at bytes = do
   text ← block_at at bytes
   passing is_kind (Bad at) text
-
--- The second value that is read, paired with the first.
-abbrev pub paired : {A B : Type 0} → A → Read B → Read (A × B)
-paired first second = made (λ b. (first, b)) second
 
 -- One value and then another.
 unfoldable pub pair_at : {A B : Type 0} → (List ℕ → Read A) → (List ℕ → Read B) → List ℕ → Read (A × B)

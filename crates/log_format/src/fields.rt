@@ -4,8 +4,10 @@ ghost use Rattle.std.specs.List.{list_all};
 ghost use Rattle.std.specs.Str.{is_utf8};
 ghost use Rattle.s3_types.specs.Names.{is_bucket, is_key};
 ghost use Rattle.s3_types.specs.Tags.{is_hex};
-ghost use Rattle.log_format.specs.Fault.{Gives, GivesBy};
-ghost use Rattle.log_format.specs.Reading.{Read, paired, pair_at, place, bytes_at, byte_at, number_at, block_at, text_at, list_at, counted_at, digits_at, named_at, target_at, upload_at, header_in};
+ghost use Rattle.log_format.specs.Fault.{Gives};
+ghost use Rattle.log_format.specs.inner.Fault.{GivesBy};
+ghost use Rattle.log_format.specs.Reading.{Read, pair_at, place, bytes_at, byte_at, number_at, block_at, text_at, list_at, counted_at, digits_at, named_at, target_at, upload_at, header_in};
+ghost use Rattle.log_format.specs.inner.Reading.{paired};
 
 use crate::fault::LogFault;
 use s3_types::{

@@ -1,7 +1,8 @@
 ghost use Rattle.std.specs.Prelude.{◌≡◌, ◌∷◌, ◌++◌, [], List, length, drop, Ok, Err, IfOk, IfSome, is_some};
 ghost use Rattle.text_and_lists.specs.Reading.{made};
 ghost use Rattle.text_and_lists.proofs.Reading.{with_front};
-ghost use Rattle.log_format.specs.Fault.{Gives, GivesBy};
+ghost use Rattle.log_format.specs.Fault.{Gives};
+ghost use Rattle.log_format.specs.inner.Fault.{GivesBy};
 ghost use Rattle.log_format.specs.File.{StandsFor};
 ghost use Rattle.log_format.specs.Reading.{record_at, changes_at, logged_in, is_log, base_length, held_in};
 ghost use Rattle.log_format.specs.declared.logged_store.LoggedStore.{LoggedStore as HeldValue};

@@ -1,6 +1,7 @@
 ghost use Rattle.std.specs.Prelude.{◌≡◌, ◌<◌, List, length, Ok, Err, OnOk, OnErr, IfErr};
 ghost use Rattle.s3_types.specs.declared.request.Request.{Request as RequestValue};
-ghost use Rattle.log_format.specs.Fault.{Gives, GivesBy};
+ghost use Rattle.log_format.specs.Fault.{Gives};
+ghost use Rattle.log_format.specs.inner.Fault.{GivesBy};
 ghost use Rattle.log_format.specs.Reading.{Read, alone, make_bucket_in, put_object_in, delete_object_in, delete_objects_in, copy_object_in, create_upload_in, upload_part_in, complete_upload_in, abort_upload_in, kind_in, change_in};
 
 use crate::fault::LogFault;

@@ -1,7 +1,8 @@
 -- A run whose machine has no next request is over; it is whole if no request exhausted its retries.
 use Rattle.machine.proofs.Literal.{literal_whole, literal_worn}
 use Rattle.machine.proofs.Tries.{tried_whole, tried_worn}
-use Rattle.machine.specs.Drove.{Driving, Drove, IsOver, IsRun, standing_after}
+use Rattle.machine.specs.Drove.{Drove, IsOver, IsRun, standing_after}
+use Rattle.machine.specs.inner.Drove.{Driving}
 use Rattle.machine.specs.Standing.{Standing}
 use Rattle.machine.specs.Turns.{retried}
 use Rattle.machine.specs.declared.driving.DriveStop.TheVariants.{StoreFault}

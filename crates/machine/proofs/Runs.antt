@@ -2,7 +2,8 @@
 use Rattle.text_and_lists.proofs.Naturals.{more_times, no_more_times}
 use Rattle.machine.proofs.Counts.{counted_then}
 use Rattle.machine.specs.Counted.{Counted}
-use Rattle.machine.specs.Drove.{Driving, IsRun, IsSent, standing_after}
+use Rattle.machine.specs.Drove.{IsRun, IsSent, standing_after}
+use Rattle.machine.specs.inner.Drove.{Driving}
 use Rattle.machine.specs.MachineLaws.{Laws}
 use Rattle.machine.specs.Standing.{Standing}
 use Rattle.machine.specs.Turns.{AreBy, retried, tells_worn, turn_of}

@@ -1,5 +1,4 @@
 -- What has happened after one send, and after driving a machine alone.
-use Rattle.machine.specs.Counted.{Counted}
 use Rattle.machine.specs.Standing.{Faulted, Standing}
 use Rattle.machine.specs.Tries.{IsFaultBy, Tried}
 use Rattle.machine.specs.Turns.{AreBy, broken, retried, turn_of}
@@ -18,8 +17,7 @@ use Rattle.s3_types.specs.declared.journal.Entry.{Entry}
 use Rattle.s3_types.specs.declared.reply.Reply.{Reply}
 use Rattle.s3_types.specs.declared.request.Actor.{Actor}
 use Rattle.s3_types.specs.declared.request.Request.{Request}
-use Rattle.std.specs.Prelude.{Bool, Err, IsTrue, List, None, Ok, Option, Result, Some, false, length, true, ℕ, [], ◌++◌, ◌+◌, ◌<◌, ◌∷◌, ◌≡◌}
-use Rattle.std.specs.Prelude.{◌≤◌, ◌⊎◌}
+use Rattle.std.specs.Prelude.{Bool, Err, IsTrue, List, None, Ok, Option, Result, Some, false, true, ℕ, [], ◌++◌, ◌+◌, ◌<◌, ◌∷◌, ◌≡◌, ◌⊎◌}
 
 -- From scene s to s' these entries are one run of the machine, started at t.
 pub record IsRun {M : Type 0} (wants : M → Option Request) (after : M → Item → M) (actor : Actor) (event : ℕ) (t : Retrying M) (s : Scene)
@@ -99,23 +97,6 @@ pub record Drove {M T : Type 0} (wants : M → Option Request) (after : M → It
   -- This holds if no send of its present request came before.
   pub literal : retried t ≡ fresh t.retries t.machine → IsFaultBy t.retries part result
   pub ended : Ended (IsOver wants after ready standing t part t' s') before now result
-
--- A machine that is alone, while it is being driven.
-pub record Driving {M : Type 0} (after : M → Item → M) (wants : M → Option Request) (ready : M → Scene → Bool → Type 0)
-    (standing : M → Standing) (actor : Actor) (event : ℕ) (t t' : Retrying M) (s s' : Scene) (old new : List Entry) (before now : ℕ)
-    (told tells : ℕ → Option Fate) (first requests : ℕ) (worn : Bool) : Type 0 where
-  pub part : List Entry
-  pub appended : new ≡ old ++ part
-  pub is_run : IsRun wants after actor event t s part s'
-  pub there : retried t' ≡ run (step t.retries after) (retried t) part
-  pub retries : t'.retries ≡ t.retries
-  pub wore : worn ≡ has_worn t.retries after (retried t) part
-  pub ready_still : ready t'.machine s' t'.repeated
-  pub foretold : AreForetold told (first + 1) part
-  pub counted : requests ≤ length new
-  pub counts : Counted old new first requests before now told tells
-  pub stands : standing t'.machine ≡ standing_after worn (standing t.machine)
-  pub lost : worn ≡ true → before < now
 
 -- The answer that the store gives to the present request fits.
 abbrev pub DueFits : {M : Type 0} → (M → Option Request) → (M → Reply → Bool → Type 0) → Retrying M → Scene → Type 0

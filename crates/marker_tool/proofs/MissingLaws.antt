@@ -1,7 +1,8 @@
 -- What the missing markers of a listing are, if the objects that were listed exist.
 use Rattle.text_and_lists.proofs.Bools.{not_so}
 use Rattle.text_and_lists.proofs.Less.{irrefl, lt, lt_not, lt_trans}
-use Rattle.text_and_lists.proofs.Members.{false_true, filter_in, in_append, in_back, in_filter, in_front, in_map, map_in, none_some, true_or_false}
+use Rattle.text_and_lists.proofs.Members.{false_true, filter_in, in_append, in_back, in_filter, in_front, in_map, map_in, none_some}
+use Rattle.text_and_lists.proofs.Members.{true_or_false}
 use Rattle.text_and_lists.specs.Members.{IsIn, RisesFrom, last_from}
 use Rattle.text_and_lists.specs.Order.{text_cmp, text_total}
 use Rattle.bucket_ops.proofs.Rising.{lower, sorted}

@@ -5,7 +5,8 @@ use Rattle.bucket_ops.proofs.Walks.{walk_begins, walk_falls, walk_fits, walk_goe
 use Rattle.bucket_ops.specs.Asks.{Ask, edited, reply_in}
 use Rattle.bucket_ops.specs.Looks.{look_of}
 use Rattle.bucket_ops.specs.Phases.{IsPhases, MayAsk}
-use Rattle.bucket_ops.specs.Walking.{IsWalked, IsWalking, LessWalked, all_below, fits, walk_asks, walk_left}
+use Rattle.bucket_ops.specs.Walking.{IsWalking, all_below, fits, walk_asks, walk_left}
+use Rattle.bucket_ops.specs.inner.Walking.{IsWalked, LessWalked}
 use Rattle.bucket_ops.specs.declared.look.Look.{Look}
 use Rattle.bucket_ops.specs.declared.look.Look.TheVariants.{There}
 use Rattle.dir_markers.specs.Markers.{marker_of}
@@ -13,7 +14,8 @@ use Rattle.fs_ops.proofs.AtPathLaws.{looks_there, still_look}
 use Rattle.fs_ops.proofs.Looks.{at_key, first_listed, none_listed}
 use Rattle.fs_ops.proofs.StepLaws.{phases_of}
 use Rattle.fs_ops.specs.Places.{key_if, look_asks, prefix_of}
-use Rattle.fs_ops.specs.code.Steps.{IsStages, goes_by}
+use Rattle.fs_ops.specs.code.Steps.{goes_by}
+use Rattle.fs_ops.specs.inner.Steps.{IsStages}
 use Rattle.fs_tree.specs.Tree.{IsDirectory, NoFile}
 use Rattle.fs_tree.specs.declared.answers.FsRefusal.{FsRefusal}
 use Rattle.fs_tree.specs.declared.answers.FsRefusal.TheVariants.{NoSuchBucket, NotDirectory, NotFound}

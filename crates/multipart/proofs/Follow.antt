@@ -5,8 +5,8 @@ use Rattle.text_and_lists.proofs.Naturals.{no_less}
 use Rattle.text_and_lists.proofs.Tree.{map_sorted}
 use Rattle.text_and_lists.specs.Order.{text_cmp, text_total}
 use Rattle.multipart.proofs.Keyed.{keyed_own, keys_keyed}
-use Rattle.multipart.specs.Index.{keyed}
-use Rattle.multipart.specs.Listing.{AreOwn, Follows, below}
+use Rattle.multipart.specs.inner.Index.{keyed}
+use Rattle.multipart.specs.inner.Listing.{AreOwn, Follows, below}
 use Rattle.s3_types.proofs.Begins.{between, from_prefix}
 use Rattle.s3_types.specs.Multipart.{is_behind, listed, ref_cmp, refs}
 use Rattle.s3_types.specs.Pages.{begins}

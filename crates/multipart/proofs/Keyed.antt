@@ -1,8 +1,8 @@
 -- The index agrees with the uploads.
 use Rattle.text_and_lists.proofs.Tree.{entries_empty, tied}
 use Rattle.text_and_lists.specs.Order.{text_cmp, text_total}
-use Rattle.multipart.specs.Index.{keyed, keyed_of}
-use Rattle.multipart.specs.Listing.{AreOwn}
+use Rattle.multipart.specs.inner.Index.{keyed, keyed_of}
+use Rattle.multipart.specs.inner.Listing.{AreOwn}
 use Rattle.s3_types.specs.Multipart.{ref_cmp, ref_of, refs, with_part}
 use Rattle.s3_types.specs.Store.{Upload, Uploads}
 use Rattle.s3_types.specs.declared.request.UploadRef.{UploadRef}

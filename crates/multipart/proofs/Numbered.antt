@@ -1,7 +1,7 @@
 -- Part numbers are 1 to 10,000, so an upload has at most 10,000 parts.
 use Rattle.text_and_lists.proofs.Naturals.{below_is, less_is}
 use Rattle.text_and_lists.proofs.Tree.{map_sorted, tied}
-use Rattle.multipart.specs.Numbers.{AreNumbered}
+use Rattle.multipart.specs.inner.Numbers.{AreNumbered}
 use Rattle.s3_types.specs.Multipart.{is_part_number, rises, rises_from}
 use Rattle.s3_types.specs.Store.{Parts}
 use Rattle.s3_types.specs.declared.request.NamedPart.{NamedPart}

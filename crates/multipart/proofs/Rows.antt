@@ -1,7 +1,7 @@
 -- A vector of entries whose numbers rise, seen as a finite map.
 use Rattle.text_and_lists.proofs.Naturals.{greater_is, less_is}
 use Rattle.text_and_lists.proofs.Tree.{entries_made, map_sorted}
-use Rattle.multipart.specs.Numbers.{IsPlace, is_number_at}
+use Rattle.multipart.specs.inner.Numbers.{IsPlace, is_number_at}
 use Rattle.std.proofs.Common.{List, None, Some, ap, arith, cond, false, get_or, inl, inr, length, nat_eq, refl, set, subst, suc, sym, true}
 use Rattle.std.proofs.Common.{zero, ℕ, [], ◌+◌, ◌<◌, ◌∙◌, ◌∷◌, ◌≡◌, ◌≤◌}
 use Rattle.std.proofs.lemmas.Bool.{cases_lt}

@@ -1,5 +1,3 @@
-pub mod Numbers
 pub mod Faults
-pub mod Index
 pub mod Next
-pub mod Listing
+pub mod inner

@@ -2,7 +2,7 @@ ghost use Rattle.std.specs.Option.{option_copied};
 ghost use Rattle.std.specs.Prelude.{◌≡◌, ◌≤◌, ◌+◌, ◌++◌, ◌∷◌, [], ℕ, List, Some, None, length, nat_lt, take, IfOk, OnOk};
 ghost use Rattle.std.specs.Map.{keys_of};
 ghost use Rattle.s3_types.specs.Multipart.{listed};
-ghost use Rattle.multipart.specs.Listing.{below, Follows, AreOwn};
+ghost use Rattle.multipart.specs.inner.Listing.{below, Follows, AreOwn};
 
 use crate::tables::Place;
 use crate::uploads::Uploads;

@@ -7,7 +7,7 @@ ghost use Rattle.std.specs.Ordering.{nat_cmp};
 ghost use Rattle.std.specs.Map.{keys_of};
 ghost use Rattle.std.specs.List.Sorted.{IsStrictlySortedBy};
 ghost use Rattle.multipart.specs.Next.{next_of};
-ghost use Rattle.multipart.specs.Numbers.{IsPlace, is_number_at};
+ghost use Rattle.multipart.specs.inner.Numbers.{IsPlace, is_number_at};
 ghost use Rattle.s3_types.specs.declared.limits.TheConstants.{MOST_PARTS};
 
 use s3_types::{Bytes, PartSize, PartSizes, Tag, part_digest, tag_of};
@@ -83,7 +83,7 @@ impl Model for Parts {
     ghost use Rattle.std.specs.List.Sorted.{IsStrictlySortedBy};
     ghost use Rattle.s3_types.specs.Store.{Parts as TheParts};
     ghost use Rattle.s3_types.specs.Coded.{coded_parts};
-    ghost use Rattle.multipart.specs.Numbers.{AreNumbered};
+    ghost use Rattle.multipart.specs.inner.Numbers.{AreNumbered};
 
     ghost Value = { TheParts };
 

@@ -211,7 +211,7 @@ pub struct Place {
 
 impl Model for Place {
     ghost use Rattle.s3_types.specs.declared.request.UploadRef.{UploadRef};
-    ghost use Rattle.s3_types.specs.Coded.{coded_ref};
+    ghost use Rattle.s3_types.specs.inner.Coded.{coded_ref};
 
     ghost Value = { UploadRef };
 
@@ -243,7 +243,8 @@ impl Model for Index {
     ghost use Rattle.std.specs.Prelude.{ℕ, List};
     ghost use Rattle.std.specs.FinMap as fin;
     ghost use Rattle.s3_types.specs.Multipart.{ref_cmp};
-    ghost use Rattle.s3_types.specs.Coded.{coded_ref, coded_text};
+    ghost use Rattle.s3_types.specs.inner.Coded.{coded_ref};
+    ghost use Rattle.s3_types.specs.Coded.{coded_text};
 
     ghost Value = { fin.FinMap ref_cmp (List ℕ) };
 

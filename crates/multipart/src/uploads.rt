@@ -5,7 +5,7 @@ ghost use Rattle.std.specs.Range.Bound.{bound_map};
 ghost use Rattle.std.specs.BTreeMap.Range.{entries_between};
 ghost use Rattle.std.specs.declared.ops.Bound.TheVariants.{Unbounded};
 ghost use Rattle.s3_types.specs.Multipart.{live, ref_cmp};
-ghost use Rattle.multipart.specs.Index.{keyed};
+ghost use Rattle.multipart.specs.inner.Index.{keyed};
 ghost use Rattle.s3_types.specs.Answer.{part_answer, part_put, parts_answer};
 ghost use Rattle.multipart.specs.Faults.{IfRefused};
 ghost use Rattle.multipart.specs.Next.{next_of, shown};
@@ -41,7 +41,7 @@ impl Model for Uploads {
     ghost use Rattle.std.specs.Prelude.{◌≡◌};
     ghost use Rattle.s3_types.specs.Store.{Uploads as TheUploads};
     ghost use Rattle.s3_types.specs.Coded.{coded_uploads};
-    ghost use Rattle.multipart.specs.Index.{keyed};
+    ghost use Rattle.multipart.specs.inner.Index.{keyed};
 
     ghost Value = { TheUploads };
 

@@ -4,8 +4,9 @@ use Rattle.text_and_lists.proofs.Naturals.{no_less}
 use Rattle.text_and_lists.proofs.Viewed.{entries_viewed, filter_map_same, viewed_sorted}
 use Rattle.text_and_lists.specs.Order.{text_cmp, text_total}
 use Rattle.object_store.proofs.Own.{own_filter}
-use Rattle.object_store.specs.Flat.{Follows, below, single}
-use Rattle.object_store.specs.Held.{AreOwn, contents}
+use Rattle.object_store.specs.inner.Flat.{Follows, below, single}
+use Rattle.object_store.specs.Held.{contents}
+use Rattle.object_store.specs.inner.Held.{AreOwn}
 use Rattle.object_store.specs.declared.objects.Held.{Held}
 use Rattle.s3_types.proofs.Begins.{between}
 use Rattle.s3_types.specs.Pages.{begins, entry_of, stem_if}
@@ -27,7 +28,7 @@ use Rattle.std.specs.declared.ops.Bound.{Bound}
 use Rattle.std.specs.declared.ops.Bound.TheVariants.{Unbounded}
 use Rattle.store_frame.proofs.Prefix.{le_le, lt, lt_not}
 use Rattle.store_frame.proofs.Walked.{from_start, kept_between, start_ge, stems}
-use Rattle.store_frame.specs.Walk.{start, walked}
+use Rattle.store_frame.specs.inner.Walk.{start, walked}
 use Rattle.std.specs.FinMap as fin
 
 -- ---- the end of a page

@@ -1,7 +1,8 @@
 -- Entries whose keys have the texts at which they are stored.
 use Rattle.text_and_lists.proofs.Viewed.{first_between, first_map, get_viewed}
 use Rattle.text_and_lists.specs.Order.{text_cmp, text_total}
-use Rattle.object_store.specs.Held.{AreOwn, contents, lent}
+use Rattle.object_store.specs.Held.{contents, lent}
+use Rattle.object_store.specs.inner.Held.{AreOwn}
 use Rattle.object_store.specs.declared.objects.Held.{Held}
 use Rattle.s3_types.specs.declared.object.Object.{Object}
 use Rattle.std.proofs.Common.{Bool, List, Option, ap, arith, cond, false, refl, sym, true, ℕ, [], ◌∙◌, ◌∷◌, ◌≡◌}

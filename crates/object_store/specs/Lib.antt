@@ -1,3 +1,3 @@
-pub mod Flat
 pub mod Held
 pub mod Objects
+pub mod inner

@@ -38,7 +38,8 @@ impl Model for Objects {
     ghost use Rattle.std.specs.FinMap as map;
     ghost use Rattle.s3_types.specs.Store.{Objects as Content};
     ghost use Rattle.s3_types.specs.Coded.{coded_objects};
-    ghost use Rattle.object_store.specs.Held.{contents, AreOwn};
+    ghost use Rattle.object_store.specs.Held.{contents};
+    ghost use Rattle.object_store.specs.inner.Held.{AreOwn};
 
     ghost Value = { Content };
 

@@ -6,9 +6,9 @@ ghost use Rattle.std.specs.declared.ops.Bound.TheVariants.{Unbounded};
 ghost use Rattle.text_and_lists.specs.Order.{text_cmp};
 ghost use Rattle.std.specs.Range.Bound.{bound_map};
 ghost use Rattle.s3_types.specs.Pages.{stem, entry_of, listed};
-ghost use Rattle.object_store.specs.Held.{AreOwn};
-ghost use Rattle.object_store.specs.Flat.{single, below, Follows};
-ghost use Rattle.store_frame.specs.Walk.{text_of, walked, start, ComesNext};
+ghost use Rattle.object_store.specs.inner.Held.{AreOwn};
+ghost use Rattle.object_store.specs.inner.Flat.{single, below, Follows};
+ghost use Rattle.store_frame.specs.inner.Walk.{text_of, walked, start, ComesNext};
 
 use crate::objects::{Held, Objects};
 use s3_types::{EntryList, Key, Object, PageEntry, Text};

@@ -23,7 +23,8 @@ fine_led (End a) = refl
 module _ {P A : Type 0} {starts : P → Type 0} {asks : P → Request} {goes : P → Reply → Bool → Step P A}
     {holds : P → Scene → P → Scene → Bool → Type 0} {gives : P → Scene → A → Scene → Type 0} {always : P → Scene → Scene → Type 0}
     {more : P → Scene → ℕ} (c : IsCourse starts asks goes holds gives always more) where
-  standing_on : (m : OperationStage P A) (r : Request) (a : Reply) (b : Bool) → wanted asks m ≡ Some r → standing (got goes m a b) ≡ standing m
+  standing_on : (m : OperationStage P A) (r : Request) (a : Reply) (b : Bool) → wanted asks m ≡ Some r
+      → standing (got goes m a b) ≡ standing m
   standing_on (On p) r a b w = fine_led (goes p a b)
   standing_on _ r a b w = absurd (cc)
 

@@ -37,7 +37,8 @@ module _ {P A : Type 0} {starts : P → Type 0} {asks : P → Request} {goes : P
   room a b h = mul-le-mul_right (retries + 1) h
 
   -- A send without an answer.
-  unanswered_most : (m : OperationStage P A) (spare : ℕ) (s u : Scene) (b : Bool) (n : ℕ) → 0 < left more m s → left more m u ≤ left more m s
+  unanswered_most : (m : OperationStage P A) (spare : ℕ) (s u : Scene) (b : Bool) (n : ℕ) → 0 < left more m s
+      → left more m u ≤ left more m s
       → spare ≤ retries
       → n ≤ most (unanswered_by retries (after goes) m b spare) u → suc n ≤ left more m s * (retries + 1) - (retries - spare)
   unanswered_most m zero s u b n some same few h = omega (arith, room 1 (left more m s) some)
@@ -58,7 +59,8 @@ module _ {P A : Type 0} {starts : P → Type 0} {asks : P → Request} {goes : P
   one_most t s r ReplyLost n w k honest few h = unanswered_most t.operation t.spare s (apply s r) true n
       (some_left course t.operation s r w) (no_rise course o z t.operation s r t.repeated w k) few h
 
-  spare_by : (m : OperationStage P A) (spare : ℕ) (b : Bool) → spare ≤ retries → (unanswered_by retries (after goes) m b spare).spare ≤ retries
+  spare_by : (m : OperationStage P A) (spare : ℕ) (b : Bool) → spare ≤ retries
+      → (unanswered_by retries (after goes) m b spare).spare ≤ retries
   spare_by m zero b h = omega arith
   spare_by m (suc k) b h = omega (arith, h)
 
@@ -68,7 +70,8 @@ module _ {P A : Type 0} {starts : P → Type 0} {asks : P → Request} {goes : P
   spare_still t RequestLost h = spare_by t.operation t.spare true h
   spare_still t ReplyLost h = spare_by t.operation t.spare true h
 
-  few_sent : (t : Retried (OperationStage P A)) (s : Scene) (part : List Entry) → Follows (wants_of (wanted asks)) (step retries (after goes)) t part
+  few_sent : (t : Retried (OperationStage P A)) (s : Scene) (part : List Entry)
+      → Follows (wants_of (wanted asks)) (step retries (after goes)) t part
       → AreHonest s part → K t.operation s t.repeated → t.spare ≤ retries → length part ≤ most t s
   few_sent t s [] f h k few = omega arith
   few_sent t s (e ∷ es) f h k few =
@@ -77,7 +80,8 @@ module _ {P A : Type 0} {starts : P → Type 0} {asks : P → Request} {goes : P
       (kept_run (keeps course o z) retries t s (e ∷ []) (f.0, tt) (h.0, tt) k) (spare_still t e.outcome few))
 
   -- From the start of the operation.
-  pub few_of : (m : OperationStage P A) → m ≡ On o → starts o → (t : Retried (OperationStage P A)) → t ≡ fresh retries m → (all : List Entry)
+  pub few_of : (m : OperationStage P A) → m ≡ On o → starts o → (t : Retried (OperationStage P A)) → t ≡ fresh retries m
+      → (all : List Entry)
       → Follows (wants_of (wanted asks)) (step retries (after goes)) t all → AreHonest z all
       → (old new part : List Entry) → new ≡ old ++ all → new ≡ old ++ part → length part ≤ (more o z + 1) * (retries + 1)
   few_of m e h t first all f honest old new part appended same =

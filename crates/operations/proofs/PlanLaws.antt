@@ -1,6 +1,7 @@
 -- An operation whose requests may all be made again is a course.
 use Rattle.operations.specs.Courses.{IsCourse, MaySend, Reached, once, reached}
-use Rattle.operations.specs.Plans.{Falls, Goes, IsPlan}
+use Rattle.operations.specs.Plans.{Falls, Goes}
+use Rattle.operations.specs.inner.Plans.{IsPlan}
 use Rattle.operations.specs.declared.plan.Step.{Step}
 use Rattle.operations.specs.declared.plan.Step.TheVariants.{End, Next}
 use Rattle.s3_types.specs.Answer.{answer, apply}

@@ -107,7 +107,8 @@ module _ {P A : Type 0} {starts : P → Type 0} {asks : P → Request} {goes : P
   pub kept_start : starts o → Kept (holds o z) (gives o z) (always o z) (On o) z false
   kept_start h = plan.begin o z h
 
-  pub ready_start : starts o → (m : OperationStage P A) → m ≡ On o → (s : Scene) → s ≡ z → (b : Bool) → b ≡ false → IsReady holds gives always m s b
+  pub ready_start : starts o → (m : OperationStage P A) → m ≡ On o → (s : Scene) → s ≡ z → (b : Bool) → b ≡ false
+      → IsReady holds gives always m s b
   ready_start h m e s f b q =
       subst (λ m. IsReady holds gives always m s b) (sym e)
       (subst (λ s. IsReady holds gives always (On o) s b) (sym f)
@@ -157,7 +158,8 @@ module _ {P A : Type 0} {starts : P → Type 0} {asks : P → Request} {goes : P
     )
 
   pub performed : {U : Type 0} (sends : P → Scene → Request → Type 0) (may : MaySend asks holds sends) (result : Result U DriveStop)
-      (actor : Actor) (event retries : ℕ) (t : Retrying (OperationStage P A)) (s : Scene) (old new part : List Entry) (first requests before now : ℕ)
+      (actor : Actor) (event retries : ℕ) (t : Retrying (OperationStage P A)) (s : Scene) (old new part : List Entry)
+      (first requests before now : ℕ)
       (told tells : ℕ → Option Fate) → t.machine ≡ On o → t.repeated ≡ false → starts o
       → IsRun (wanted asks) (after goes) actor event t z part s → new ≡ old ++ part → AreForetold told (first + 1) part
       → Tried retries retries part result → IsFaultBy retries part result → Counted old new first requests before now told tells
@@ -176,7 +178,8 @@ module _ {P A : Type 0} {starts : P → Type 0} {asks : P → Request} {goes : P
     counts = n;
   }
 
-  pub given : (t t' : Retrying (OperationStage P A)) (s : Scene) (part : List Entry) (a : A) → t.machine ≡ On o → t.repeated ≡ false → starts o
+  pub given : (t t' : Retrying (OperationStage P A)) (s : Scene) (part : List Entry) (a : A) → t.machine ≡ On o → t.repeated ≡ false
+      → starts o
       → Ran t part → AreHonest z part
       → retried t' ≡ Led t part → s ≡ after_all z part → t'.machine ≡ Over a → gives o z a s
   given t t' s part a e q h f honest there scene over =
@@ -242,7 +245,8 @@ module _ {P A : Type 0} {starts : P → Type 0} {asks : P → Request} {goes : P
       let one = calm_step retries t s e.request e.outcome q f.0 h.0 n.0 c in
       calm_all retries (step retries (after goes) t e.outcome) (effect s e.request e.outcome) es one.1 f.1 h.1 n.1 one.0
 
-  pub left_calm : (t t' : Retrying (OperationStage P A)) (s : Scene) (old new part all : List Entry) (a : A) → t.machine ≡ On o → t.repeated ≡ false
+  pub left_calm : (t t' : Retrying (OperationStage P A)) (s : Scene) (old new part all : List Entry) (a : A) → t.machine ≡ On o
+      → t.repeated ≡ false
       → starts o → Follows (wants_of (wanted asks)) (step t.retries (after goes)) (retried t) all → AreHonest z all
       → retried t' ≡ run (step t.retries (after goes)) (retried t) all → s ≡ after_all z all → t'.machine ≡ Over a → new ≡ old ++ all
       → new ≡ old ++ part → AreAnswered part → leaves o z a s

@@ -49,7 +49,8 @@ standing NoMemory = Broken
 standing _ = Fine
 
 -- What holds of an operation between two sends.
-abbrev pub Kept : {P A : Type 0} → (P → Scene → Bool → Type 0) → (A → Scene → Type 0) → (Scene → Type 0) → OperationStage P A → Scene → Bool → Type 0
+abbrev pub Kept : {P A : Type 0} → (P → Scene → Bool → Type 0) → (A → Scene → Type 0) → (Scene → Type 0) → OperationStage P A → Scene
+    → Bool → Type 0
 Kept holds gives always (On p) s b = holds p s b
 Kept holds gives always (Over a) s b = gives a s
 Kept holds gives always _ s b = always s

@@ -2,7 +2,7 @@
 use Rattle.pending_json.proofs.Floats.{pending_has_none, set_has_none, success_has_none}
 use Rattle.pending_json.specs.Committers.{committer_word}
 use Rattle.pending_json.specs.Pending.{Pending}
-use Rattle.pending_json.specs.Sending.{SendsMember, SendsSizes, SendsStamp}
+use Rattle.pending_json.specs.inner.Sending.{SendsMember, SendsSizes, SendsStamp}
 use Rattle.pending_json.specs.Trees.{mark_tree, pending_tree, set_tree, success_tree, tag_digits, texts, upload_tree, version_of, whole}
 use Rattle.pending_json.specs.Trees.{wholes}
 use Rattle.pending_json.specs.declared.records.PendingSet.{PendingSet}

@@ -2,8 +2,9 @@
 use Rattle.text_and_lists.specs.Reading.{◌>>=◌}
 use Rattle.pending_json.specs.Fields.{as_bucket, as_committer, as_key, as_tags, as_texts, as_u32, as_whole, as_word, field, is_sized}
 use Rattle.pending_json.specs.Fields.{members_in, of_kind_if, sizes_in, version_in}
-use Rattle.pending_json.specs.Groups.{attempt_in, commits_in, mark_end_in, numbers_in, parts_in, pending_by, set_by, set_end_in, success_by}
-use Rattle.pending_json.specs.Groups.{target_in}
+use Rattle.pending_json.specs.inner.Groups.{attempt_in, commits_in, mark_end_in, numbers_in, parts_in, pending_by, set_by, set_end_in}
+use Rattle.pending_json.specs.inner.Groups.{success_by}
+use Rattle.pending_json.specs.inner.Groups.{target_in}
 use Rattle.pending_json.specs.Reading.{pending_in, pendings_in, set_in, success_in}
 use Rattle.serde_json.specs.Data.{Data}
 use Rattle.serde_json.specs.Find.{as_array, as_str, get}

@@ -1,9 +1,8 @@
 pub mod Fault
 pub mod Fields
-pub mod Groups
 pub mod Pending
 pub mod Reading
 pub mod Records
 pub mod Committers
 pub mod Trees
-pub mod Sending
+pub mod inner

@@ -1,6 +1,6 @@
 ghost use Rattle.std.specs.Prelude.{◌≡◌};
 ghost use Rattle.pending_json.specs.declared.fault.RecordFault.TheVariants.{NoMemory, MissingField, WrongKind};
-ghost use Rattle.pending_json.specs.Fault.{IsFault};
+ghost use Rattle.pending_json.specs.inner.Fault.{IsFault};
 
 use s3_types::Text;
 use std::alloc::{AllocError, AllocFailed, Global};

@@ -1,7 +1,8 @@
 ghost use Rattle.std.specs.Prelude.{◌≡◌, codes};
 ghost use Rattle.serde_json.specs.View.{view, members_view, items_view};
 ghost use Rattle.serde_json.specs.Find.{get, as_str, as_array};
-ghost use Rattle.pending_json.specs.Fault.{Gives, GivesBy};
+ghost use Rattle.pending_json.specs.Fault.{Gives};
+ghost use Rattle.pending_json.specs.inner.Fault.{GivesBy};
 ghost use Rattle.pending_json.specs.Fields.{present, field, of_kind, of_kind_if, as_whole, as_u32, as_word, as_bucket, as_key, version_in, is_sized, members_in};
 
 use crate::fault::{RecordFault, missing, wrong_kind};

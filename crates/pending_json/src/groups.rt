@@ -3,7 +3,7 @@
 ghost use Rattle.std.specs.Prelude.{◌≡◌, IfOk, true};
 ghost use Rattle.serde_json.specs.View.{view, members_view};
 ghost use Rattle.pending_json.specs.Fault.{Gives};
-ghost use Rattle.pending_json.specs.Groups.{target_in, parts_in, numbers_in, attempt_in, set_end_in};
+ghost use Rattle.pending_json.specs.inner.Groups.{target_in, parts_in, numbers_in, attempt_in, set_end_in};
 ghost use Rattle.pending_json.specs.Pending.{are_tags, are_sizes};
 
 use crate::fault::RecordFault;
@@ -70,7 +70,7 @@ pub fn joined(target: Target, parts: Parts, numbers: Numbers) -> PendingUpload
 }
 
 /// The attempt of a pending upload and the place of its file, or the first fault of these fields.
-#[tactic(auto, unfolding(crate::specs::Groups::target_in))]
+#[tactic(auto, unfolding(crate::specs::inner::Groups::target_in))]
 pub fn target_of(alloc: Global, value: &Value) -> Result<Target, RecordFault>
     ensures { Gives result (target_in (view value.now)) }
 {
@@ -91,7 +91,7 @@ pub fn target_of(alloc: Global, value: &Value) -> Result<Target, RecordFault>
 
 /// The length, the tags and, if `sized`, the sizes of the parts, or the first fault of these
 /// fields.
-#[tactic(auto, unfolding(crate::specs::Groups::parts_in))]
+#[tactic(auto, unfolding(crate::specs::inner::Groups::parts_in))]
 pub fn parts_of(alloc: Global, value: &Value, sized: bool) -> Result<Parts, RecordFault>
     ensures read { Gives result (parts_in sized (view value.now)) }
     ensures tags { IfOk result (λ parts. are_tags parts.tags ≡ true) }
@@ -109,7 +109,7 @@ pub fn parts_of(alloc: Global, value: &Value, sized: bool) -> Result<Parts, Reco
 }
 
 /// The task and the id of a pending upload. It must have no other fields.
-#[tactic(auto, unfolding(crate::specs::Groups::numbers_in))]
+#[tactic(auto, unfolding(crate::specs::inner::Groups::numbers_in))]
 pub fn numbers_of(
     alloc: Global,
     value: &Value,
@@ -125,7 +125,7 @@ pub fn numbers_of(
 }
 
 /// The attempt of a set. Its version must be known.
-#[tactic(auto, unfolding(crate::specs::Groups::attempt_in))]
+#[tactic(auto, unfolding(crate::specs::inner::Groups::attempt_in))]
 pub fn attempt_of(alloc: Global, value: &Value) -> Result<u32, RecordFault>
     ensures { Gives result (attempt_in (view value.now)) }
 {
@@ -134,7 +134,7 @@ pub fn attempt_of(alloc: Global, value: &Value) -> Result<u32, RecordFault>
 }
 
 /// The job and the task of a set. It must have no other fields.
-#[tactic(auto, unfolding(crate::specs::Groups::set_end_in))]
+#[tactic(auto, unfolding(crate::specs::inner::Groups::set_end_in))]
 pub fn set_end_of(
     alloc: Global,
     value: &Value,

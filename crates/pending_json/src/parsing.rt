@@ -1,6 +1,6 @@
 ghost use Rattle.std.specs.Prelude.{◌≡◌};
 ghost use Rattle.serde_json.specs.View.{view};
-ghost use Rattle.pending_json.specs.Fault.{GivesBy};
+ghost use Rattle.pending_json.specs.inner.Fault.{GivesBy};
 ghost use Rattle.pending_json.specs.Reading.{tree_read, parsed};
 
 use crate::fault::RecordFault;

@@ -1,7 +1,7 @@
 ghost use Rattle.std.specs.Prelude.{◌≡◌, IfOk, Ok};
 ghost use Rattle.serde_json.specs.View.{view};
 ghost use Rattle.pending_json.specs.Fault.{Gives};
-ghost use Rattle.pending_json.specs.Groups.{pending_by};
+ghost use Rattle.pending_json.specs.inner.Groups.{pending_by};
 ghost use Rattle.pending_json.specs.Pending.{Pending};
 ghost use Rattle.pending_json.specs.Reading.{pending_in, pending_of};
 ghost use Rattle.pending_json.specs.Records.{IsPending, Spell};
@@ -17,7 +17,7 @@ use s3_types::let_go;
 use serde_json::Value;
 use std::alloc::Global;
 
-#[tactic(auto, unfolding(crate::specs::Groups::pending_by))]
+#[tactic(auto, unfolding(crate::specs::inner::Groups::pending_by))]
 fn pending_by(alloc: Global, value: &Value) -> Result<PendingUpload, RecordFault>
     ensures { Gives result (pending_by (view value.now)) }
 {

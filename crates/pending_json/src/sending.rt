@@ -3,7 +3,7 @@ ghost use Rattle.std.specs.Prelude.{◌≡◌, ◌+◌, ◌<◌, codes, map, con
 ghost use Rattle.std.specs.Option.{option_copied};
 ghost use Rattle.serde_json.specs.Data.{array, string};
 ghost use Rattle.serde_json.specs.View.{items_of};
-ghost use Rattle.pending_json.specs.Sending.{SendsMember, SendsSizes, SendsStamp};
+ghost use Rattle.pending_json.specs.inner.Sending.{SendsMember, SendsSizes, SendsStamp};
 ghost use Rattle.pending_json.specs.Trees.{whole, texts, wholes, tag_digits, version_of, pending_tree, set_tree, success_tree};
 
 use crate::committers::committer_word;

@@ -2,7 +2,7 @@ ghost use Rattle.std.specs.Prelude.{◌≡◌, IfOk, Ok};
 ghost use Rattle.serde_json.specs.View.{view, items_view};
 ghost use Rattle.pending_json.specs.declared.records.PendingSet.{PendingSet};
 ghost use Rattle.pending_json.specs.Fault.{Gives};
-ghost use Rattle.pending_json.specs.Groups.{commits_in, set_by};
+ghost use Rattle.pending_json.specs.inner.Groups.{commits_in, set_by};
 ghost use Rattle.pending_json.specs.Reading.{pendings_in, set_of};
 ghost use Rattle.pending_json.specs.Records.{IsSet, Spell};
 ghost use Rattle.pending_json.specs.Trees.{set_tree};
@@ -31,7 +31,7 @@ fn pendings_in(alloc: Global, list: &[Value]) -> Result<PendingList, RecordFault
     Ok(commits)
 }
 
-#[tactic(auto, unfolding(crate::specs::Groups::commits_in))]
+#[tactic(auto, unfolding(crate::specs::inner::Groups::commits_in))]
 fn commits_of(alloc: Global, value: &Value) -> Result<PendingList, RecordFault>
     ensures { Gives result (commits_in (view value.now)) }
 {
@@ -39,7 +39,7 @@ fn commits_of(alloc: Global, value: &Value) -> Result<PendingList, RecordFault>
     pendings_in(alloc, list)
 }
 
-#[tactic(auto, unfolding(crate::specs::Groups::set_by))]
+#[tactic(auto, unfolding(crate::specs::inner::Groups::set_by))]
 fn set_by(alloc: Global, value: &Value) -> Result<PendingSet, RecordFault>
     ensures { Gives result (set_by (view value.now)) }
 {

@@ -4,7 +4,7 @@ ghost use Rattle.serde_json.specs.Find.{get};
 ghost use Rattle.pending_json.specs.declared.records.SuccessMark.{SuccessMark};
 ghost use Rattle.pending_json.specs.Fault.{Gives};
 ghost use Rattle.pending_json.specs.Fields.{field, of_kind_if, as_whole, as_committer};
-ghost use Rattle.pending_json.specs.Groups.{mark_end_in, success_by};
+ghost use Rattle.pending_json.specs.inner.Groups.{mark_end_in, success_by};
 ghost use Rattle.pending_json.specs.Reading.{success_of};
 ghost use Rattle.pending_json.specs.Records.{Spell};
 ghost use Rattle.pending_json.specs.Trees.{success_tree};
@@ -45,7 +45,7 @@ fn whole_field_if(alloc: Global, value: &Value, name: &str) -> Result<Option<u64
 }
 
 /// The job and the stamp of `_SUCCESS`. It must have no other fields.
-#[tactic(auto, unfolding(crate::specs::Groups::mark_end_in))]
+#[tactic(auto, unfolding(crate::specs::inner::Groups::mark_end_in))]
 fn mark_end_of(
     alloc: Global,
     value: &Value,
@@ -60,7 +60,7 @@ fn mark_end_of(
     Ok((Text::copied(alloc, job)?, stamp))
 }
 
-#[tactic(auto, unfolding(crate::specs::Groups::success_by))]
+#[tactic(auto, unfolding(crate::specs::inner::Groups::success_by))]
 fn success_by(alloc: Global, value: &Value) -> Result<SuccessMark, RecordFault>
     ensures { Gives result (success_by (view value.now)) }
 {

@@ -27,7 +27,7 @@ use Rattle.job_invariant.specs.Facts.{Facts, Hold, IsAttempt}
 use Rattle.job_invariant.specs.Filed.{Gone}
 use Rattle.job_invariant.specs.Fits.{Fits}
 use Rattle.job_invariant.specs.Foreign.{IsForeign}
-use Rattle.job_invariant.specs.Spares.{Filed}
+use Rattle.job_invariant.specs.inner.Spares.{Filed}
 use Rattle.job_invariant.specs.Stores.{at_id, at_key}
 use Rattle.job_invariant.specs.Told.{Told, at_event, driver_entry, ends, entry, known, nothing_told, put_who, strange_entry, tell_attempt}
 use Rattle.job_invariant.specs.Told.{tell_driver}
@@ -50,10 +50,12 @@ use Rattle.job_spec.specs.Headline.{Kept}
 use Rattle.job_spec.specs.Turns.{is_own}
 use Rattle.protocol_runs.proofs.Folds.{DriverKeeps, driven, each_run}
 use Rattle.protocol_runs.proofs.Keeping.{at_beside, commit_shows, commit_starts, kept_next, other_fits, other_known, shows_beside}
-use Rattle.protocol_runs.proofs.Plain.{clean_plain, closed_picks, driver_begun, driver_last, one_scene, plain_mark, plain_picks, setup_plain}
+use Rattle.protocol_runs.proofs.Plain.{clean_plain, closed_picks, driver_begun, driver_last, one_scene, plain_mark, plain_picks}
+use Rattle.protocol_runs.proofs.Plain.{setup_plain}
 use Rattle.protocol_runs.proofs.Running.{At, CommitShows, Early, Idle, Late, Shows, Untouched, kept_commit, kept_untouched}
 use Rattle.protocol_runs.proofs.Steps.{commit_next, commit_shown, hidden_same}
-use Rattle.protocol_runs.specs.Runs.{BeginAbort, BeginClean, BeginCommit, BeginPublish, BeginSetup, BeginWrite, Beginning, IsOpening, IsTimely}
+use Rattle.protocol_runs.specs.Runs.{BeginAbort, BeginClean, BeginCommit, BeginPublish, BeginSetup, BeginWrite, Beginning, IsOpening}
+use Rattle.protocol_runs.specs.Runs.{IsTimely}
 use Rattle.protocol_runs.specs.Runs.{MayBegin, MaySetUp, Runs, Stand, actor_begins, attempt_sends, begin, commit_with, driver_sends}
 use Rattle.protocol_runs.specs.Runs.{first_stand, is_done, is_just_set, is_set, nothing_learnt, run_begins, saw, strays, with_attempt}
 use Rattle.protocol_runs.specs.Runs.{with_commit, with_driver}

@@ -5,7 +5,8 @@ use Rattle.job_model.specs.Attempts.{Who}
 use Rattle.job_protocol.specs.JobCommits.{Commit}
 use Rattle.job_protocol.specs.Operations.{Operation, Setting, TheCommit, asks, tells, who}
 use Rattle.job_protocol.specs.Seen.{Seen, Times, nothing_seen, see}
-use Rattle.protocol_runs.specs.Runs.{Beginning, IsTimely, MayBegin, Runs, Stand, actor_begins, attempt_sends, begin, commit_with, driver_sends}
+use Rattle.protocol_runs.specs.Runs.{Beginning, IsTimely, MayBegin, Runs, Stand, actor_begins, attempt_sends, begin, commit_with}
+use Rattle.protocol_runs.specs.Runs.{driver_sends}
 use Rattle.protocol_runs.specs.Runs.{first_stand, is_set, nothing_learnt, run_begins, saw, strays, with_attempt, with_commit, with_driver}
 use Rattle.s3_types.specs.Answer.{answer}
 use Rattle.s3_types.specs.Moment.{IsHonestOutcome}

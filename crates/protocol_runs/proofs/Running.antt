@@ -11,7 +11,8 @@ use Rattle.job_invariant.specs.Emptying.{EmptiesBy, OnlyThose, SetsUp}
 use Rattle.job_invariant.specs.Facts.{Hold, IsAttempt}
 use Rattle.job_invariant.specs.Filed.{Decides, FileLeft, FileStands, Gone, IsBefore, Wants, whole_of}
 use Rattle.job_invariant.specs.Fits.{Fits}
-use Rattle.job_invariant.specs.Spares.{Filed, FitsSparing}
+use Rattle.job_invariant.specs.Spares.{FitsSparing}
+use Rattle.job_invariant.specs.inner.Spares.{Filed}
 use Rattle.job_invariant.specs.Stores.{at_id, at_key}
 use Rattle.job_invariant.specs.Told.{Told, known, nothing_told}
 use Rattle.job_invariant.specs.Turning.{NoneEnded, Turns}

@@ -39,7 +39,8 @@ use Rattle.protocol_runs.proofs.Leads.{Leads, deals_then, empties_next, fetches,
 use Rattle.protocol_runs.proofs.Plain.{commit_unread, driver_begun, is_read_stage, one_scene, plain_mark, plain_picks, sweep_plain}
 use Rattle.protocol_runs.proofs.Replacing.{cleared_so, empty_enter, empty_next, keeps_same, others_enter, replaces_tells, still_clear}
 use Rattle.protocol_runs.proofs.Replacing.{taken_after}
-use Rattle.protocol_runs.proofs.Running.{Cleared, Clearing, CommitShows, Empty, Emptying, InCommit, MarkSays, Marks, OtherStands, false_marks}
+use Rattle.protocol_runs.proofs.Running.{Cleared, Clearing, CommitShows, Empty, Emptying, InCommit, MarkSays, Marks, OtherStands}
+use Rattle.protocol_runs.proofs.Running.{false_marks}
 use Rattle.protocol_runs.proofs.Running.{first_at, now_at, wants_of}
 use Rattle.list_walk.specs.Walks.{Sweep, sweep_asks, sweep_hears}
 use Rattle.magic_paths.specs.Layout.{magic_prefix, success_key}

@@ -2,7 +2,7 @@
 use Rattle.text_and_lists.proofs.Naturals.{next_most}
 use Rattle.text_and_lists.specs.Order.{text_cmp, text_total}
 use Rattle.s3_service.proofs.Changed.{absent, present}
-use Rattle.s3_service.specs.Changed.{with_bucket}
+use Rattle.s3_service.specs.inner.Changed.{with_bucket}
 use Rattle.s3_service.specs.Ids.{AreBelow, IsFresh}
 use Rattle.s3_types.specs.Answer.{aborted, apply_in, completed, draws, part_put}
 use Rattle.s3_types.specs.Multipart.{is_part_number, joined, live, with_key, with_part}

@@ -1,7 +1,7 @@
 -- Buckets after a change of one of them, by the entries of the tree that lends it.
 use Rattle.text_and_lists.proofs.Tree.{get_made, insert_same, made_insert}
 use Rattle.text_and_lists.specs.Order.{text_cmp, text_total}
-use Rattle.s3_service.specs.Changed.{changed, with_bucket}
+use Rattle.s3_service.specs.inner.Changed.{changed, with_bucket}
 use Rattle.s3_types.specs.Store.{BucketContent, Buckets}
 use Rattle.std.proofs.Common.{List, None, Option, Some, ap, cond, sym, ℕ, ◌∙◌, ◌≡◌}
 use Rattle.std.proofs.lemmas.Map.Lookups.{exact_bytes}

@@ -2,7 +2,7 @@
 use Rattle.text_and_lists.proofs.Rest.{after_first, after_found}
 use Rattle.text_and_lists.proofs.Tree.{map_sorted}
 use Rattle.text_and_lists.specs.Order.{text_cmp, text_total}
-use Rattle.s3_service.specs.Next.{IsNext, next_of, rest_of}
+use Rattle.s3_service.specs.inner.Next.{IsNext, next_of, rest_of}
 use Rattle.s3_types.specs.Store.{BucketContent, Buckets}
 use Rattle.std.proofs.Common.{List, None, Option, Some, ap, refl, subst, sym, ℕ, [], ◌∙◌, ◌∷◌, ◌≡◌}
 use Rattle.std.specs.List.{filter, slice_get}

@@ -1,5 +1,5 @@
 -- A request that names a bucket.
-use Rattle.s3_service.specs.Named.{named}
+use Rattle.s3_service.specs.inner.Named.{named}
 use Rattle.s3_types.specs.Answer.{answer_at, answer_store, apply_at, apply_store, bucket_of}
 use Rattle.s3_types.specs.Store.{Content}
 use Rattle.s3_types.specs.declared.request.Request.{Request}

@@ -1,6 +1,5 @@
 -- The ids of uploads are below the next id.
 use Rattle.s3_types.specs.Store.{BucketContent, Buckets, Uploads}
-use Rattle.s3_types.specs.declared.limits.TheConstants.{MOST_MINIMUM}
 use Rattle.std.specs.Prelude.{List, None, Some, ℕ, ◌≡◌, ◌≤◌}
 use Rattle.std.specs.FinMap as fin
 
@@ -11,10 +10,3 @@ IsFresh m n = (i : ℕ) → n ≤ i → fin.get m i ≡ None
 -- No bucket has an upload with id n or a greater one.
 abbrev pub AreBelow : Buckets → ℕ → Type 0
 AreBelow m n = (k : List ℕ) (b : BucketContent) → fin.get m k ≡ Some b → IsFresh b.uploads n
-
--- What every store keeps: the ids of all uploads are below the next id, and the least part size is from 1 to the greatest that a store may
--- ask for.
-pub record IsStore (m : Buckets) (next minimum : ℕ) : Type 0 where
-  pub below : AreBelow m next
-  pub some : 1 ≤ minimum
-  pub most : minimum ≤ MOST_MINIMUM

@@ -1,4 +1,2 @@
-pub mod Named
 pub mod Ids
-pub mod Changed
-pub mod Next
+pub mod inner

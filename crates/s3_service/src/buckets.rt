@@ -4,7 +4,7 @@ ghost use Rattle.std.specs.FinMap as map;
 ghost use Rattle.s3_types.specs.Store.{BucketContent, new_bucket};
 ghost use Rattle.s3_types.specs.Answer.{answer_in, apply_in, with_objects};
 ghost use Rattle.s3_service.specs.Ids.{IsFresh};
-ghost use Rattle.s3_service.specs.Changed.{with_bucket};
+ghost use Rattle.s3_service.specs.inner.Changed.{with_bucket};
 
 use crate::bucket::BucketStore;
 use s3_types::{Bucket, Bytes, Key, LengthHeader, Reply, Request};

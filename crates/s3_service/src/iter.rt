@@ -7,7 +7,7 @@ ghost use Rattle.std.specs.BTreeMap.Range.{entries_between};
 ghost use Rattle.std.specs.declared.ops.Bound.TheVariants.{Unbounded};
 ghost use Rattle.text_and_lists.specs.Order.{text_cmp};
 ghost use Rattle.s3_types.specs.Store.{BucketContent};
-ghost use Rattle.s3_service.specs.Next.{next_of, IsNext};
+ghost use Rattle.s3_service.specs.inner.Next.{next_of, IsNext};
 
 use crate::bucket::BucketStore;
 use crate::buckets::Buckets;

@@ -1,6 +1,6 @@
 ghost use Rattle.std.specs.Prelude.{◌≡◌, option_map};
 ghost use Rattle.s3_types.specs.Answer.{draws};
-ghost use Rattle.s3_service.specs.Named.{named};
+ghost use Rattle.s3_service.specs.inner.Named.{named};
 
 use s3_types::{Bucket, Request};
 

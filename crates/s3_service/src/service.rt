@@ -28,7 +28,7 @@ pub struct Service {
 impl Model for Service {
     ghost use Rattle.s3_types.specs.Store.{Content};
     ghost use Rattle.s3_types.specs.Coded.{coded_content};
-    ghost use Rattle.s3_service.specs.Ids.{IsStore};
+    ghost use Rattle.s3_service.specs.inner.Ids.{IsStore};
 
     ghost Value = { Content };
 

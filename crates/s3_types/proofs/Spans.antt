@@ -1,7 +1,8 @@
 -- Ranges of sends, seen as the map of their fates.
 use Rattle.text_and_lists.proofs.Naturals.{above_so, at_most_is, at_most_not, at_most_so, below_is, below_not, greater_is, less_is}
 use Rattle.s3_types.specs.Fates.{FateMap, IsFirstFrom, IsFirstNamed, is_answer, with_fates}
-use Rattle.s3_types.specs.Spans.{AreApart, first_in, from_on, named}
+use Rattle.s3_types.specs.Spans.{named}
+use Rattle.s3_types.specs.inner.Spans.{AreApart, first_in, from_on}
 use Rattle.s3_types.specs.declared.fates.Fate.{Fate}
 use Rattle.s3_types.specs.declared.fates.Span.{Span}
 use Rattle.std.proofs.Common.{Bool, List, None, Option, Some, ap, arith, cond, false, max, nat_le, nat_lt, refl, subst, suc, sym, true}

@@ -1,7 +1,6 @@
 -- Codes of the values that a store holds. Proofs use them to show that two values are equal.
 use Rattle.s3_types.specs.Store.{BucketContent, Buckets, Content, Files, Objects, Parts, Upload, Uploads}
 use Rattle.s3_types.specs.declared.object.Object.{Object}
-use Rattle.s3_types.specs.declared.request.UploadRef.{UploadRef}
 use Rattle.std.specs.Coded.{Coded, code_by, coded_list, coded_option, coded_ℕ, coded×}
 use Rattle.std.specs.Prelude.{List, Option, refl, ℕ}
 use Rattle.std.specs.FinMap as map
@@ -31,14 +30,6 @@ coded_upload = code_by (List ℕ × Parts) (coded× coded_text coded_parts) (λ 
 -- The code of a bucket's live uploads.
 abbrev pub coded_uploads : Coded Uploads
 coded_uploads = map.code coded_ℕ coded_upload
-
--- The code of an upload's key and id.
-abbrev pub coded_ref : Coded UploadRef
-coded_ref = code_by (List ℕ × ℕ) (coded× coded_text coded_ℕ) (λ r. (r.key, r.upload)) (λ p. record { key = p.0; upload = p.1 }) (λ _. refl)
-
--- The code of the unit value.
-abbrev pub coded_unit : Coded (Unit {0})
-coded_unit = code_by ℕ coded_ℕ (λ u. 0) (λ n. tt) (λ _. refl)
 
 -- The code of the content of a bucket.
 abbrev pub coded_bucket : Coded BucketContent

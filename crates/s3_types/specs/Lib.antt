@@ -13,3 +13,4 @@ pub mod Spans
 pub mod Requests
 pub mod Spelling
 pub mod Blocks
+pub mod inner

@@ -1,7 +1,7 @@
 ghost use Rattle.std.specs.Prelude.{◌≡◌, ◌↔◌, ℕ, ◌+◌, ◌≤◌, false, IfOk, OnOk, OnErr, IsErrOf, IsSome};
 ghost use Rattle.std.specs.FinMap as map;
 ghost use Rattle.s3_types.specs.Fates.{with_fates, fate_at, is_answer, IsFirstNamed, IsFirstFrom};
-ghost use Rattle.s3_types.specs.Spans.{from_on, first_in};
+ghost use Rattle.s3_types.specs.inner.Spans.{from_on, first_in};
 ghost use Rattle.s3_types.specs.declared.fates.FateFault.TheVariants.{NoMemory};
 
 use std::alloc::{AllocError, AllocFailed, Global};
@@ -66,7 +66,8 @@ pub struct Fates {
 
 impl Model for Fates {
     ghost use Rattle.s3_types.specs.Fates.{FateMap, coded_fates};
-    ghost use Rattle.s3_types.specs.Spans.{named, AreApart};
+    ghost use Rattle.s3_types.specs.Spans.{named};
+    ghost use Rattle.s3_types.specs.inner.Spans.{AreApart};
 
     ghost Value = { FateMap };
 

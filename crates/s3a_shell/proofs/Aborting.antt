@@ -11,9 +11,11 @@ use Rattle.s3_types.specs.Store.{BucketContent, Scene, Upload, Uploads}
 use Rattle.s3_types.specs.declared.request.Request.TheVariants.{AbortUpload}
 use Rattle.s3_types.specs.declared.request.UploadRef.{UploadRef}
 use Rattle.s3a_shell.proofs.Joining.{sent_as, sent_both}
-use Rattle.s3a_shell.specs.Sendings.{AppliedOrNot, Sent}
+use Rattle.s3a_shell.specs.Sendings.{AppliedOrNot}
+use Rattle.s3a_shell.specs.inner.Sendings.{Sent}
 use Rattle.s3a_shell.specs.Texts.{fine}
-use Rattle.s3a_shell.specs.Uploading.{AbortedIn, AbortedSome, AfterSome, AreEnded, DidAbort, EndedSome, aborted_line, after_aborts}
+use Rattle.s3a_shell.specs.Uploading.{AbortedIn, AbortedSome, AreEnded, DidAbort, EndedSome, aborted_line}
+use Rattle.s3a_shell.specs.inner.Uploading.{AfterSome, after_aborts}
 use Rattle.s3a_shell.specs.declared.said.Said.{Said}
 use Rattle.s3a_shell.specs.declared.session.Session.{Session}
 use Rattle.std.proofs.Common.{ap, inl, inr, refl, subst, sym, ◌∙◌}

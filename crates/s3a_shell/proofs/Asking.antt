@@ -22,10 +22,11 @@ use Rattle.s3_types.specs.declared.request.Request.{Request}
 use Rattle.s3_types.specs.declared.request.UploadRef.{UploadRef}
 use Rattle.s3a_shell.proofs.Joining.{sent_as}
 use Rattle.s3a_shell.proofs.Performing.{sent_of}
-use Rattle.s3a_shell.specs.Asking.{DeleteSends, IsLiveIn, LooksIn, MaySend, OnOne, PutSendsUnless, UploadSends, file_of}
+use Rattle.s3a_shell.specs.Asking.{DeleteSends, IsLiveIn, LooksIn, MaySend, PutSendsUnless, UploadSends, file_of}
+use Rattle.s3a_shell.specs.inner.Asking.{OnOne}
 use Rattle.s3a_shell.specs.Doings.{MayStandAt}
 use Rattle.s3a_shell.specs.Moving.{route}
-use Rattle.s3a_shell.specs.Sendings.{Asked, Sent, answered_by}
+use Rattle.s3a_shell.specs.inner.Sendings.{Asked, Sent, answered_by}
 use Rattle.s3a_shell.specs.declared.session.Session.{Session}
 use Rattle.s3a_words.specs.declared.command.Command.{Command}
 use Rattle.std.proofs.Common.{ap, append-nil, append_assoc, inl, inr, refl, subst, sym, ◌∙◌}

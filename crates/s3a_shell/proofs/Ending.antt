@@ -10,7 +10,8 @@ use Rattle.s3a_shell.proofs.EachCommand.{left_by}
 use Rattle.s3a_shell.proofs.Staying.{Leaves, below_none}
 use Rattle.s3a_shell.proofs.Unchanged.{no_change}
 use Rattle.s3a_shell.specs.Doings.{Does}
-use Rattle.s3a_shell.specs.Sendings.{Sends, has_changed}
+use Rattle.s3a_shell.specs.Sendings.{has_changed}
+use Rattle.s3a_shell.specs.inner.Sendings.{Sends}
 use Rattle.s3a_shell.specs.Stays.{OnlyIn, bucket_in, ended_by}
 use Rattle.s3a_shell.specs.declared.said.Said.{Said}
 use Rattle.s3a_words.specs.declared.command.Command.{Command}

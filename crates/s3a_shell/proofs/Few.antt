@@ -17,7 +17,7 @@ use Rattle.s3_types.specs.declared.reply.PageEntry.{PageEntry}
 use Rattle.s3_types.specs.declared.request.UploadRef.{UploadRef}
 use Rattle.s3a_shell.specs.Most.{children_below, count_below, most_put, most_requests, uploads_at}
 use Rattle.s3a_shell.specs.Moving.{route}
-use Rattle.s3a_shell.specs.Sendings.{AtMost}
+use Rattle.s3a_shell.specs.inner.Sendings.{AtMost}
 use Rattle.s3a_shell.specs.declared.session.Session.{Session}
 use Rattle.s3a_words.specs.declared.command.Command.{Command}
 use Rattle.std.proofs.Common.{ap, arith, length-append, subst, sym, ◌∙◌}

@@ -10,7 +10,8 @@ use Rattle.s3_types.specs.declared.journal.Entry.{Entry}
 use Rattle.s3_types.specs.declared.request.Actor.{Actor}
 use Rattle.s3_types.specs.declared.request.Actor.TheVariants.{Shell}
 use Rattle.s3_types.specs.declared.request.Request.{Request}
-use Rattle.s3a_shell.specs.Sendings.{AppliedOrNot, IsCounted, Sends, Sent, answered_by}
+use Rattle.s3a_shell.specs.Sendings.{AppliedOrNot}
+use Rattle.s3a_shell.specs.inner.Sendings.{IsCounted, Sends, Sent, answered_by}
 use Rattle.s3a_shell.specs.declared.session.Session.{Session}
 use Rattle.std.proofs.Common.{ap, append-nil, append_assoc, arith, inl, inr, length-append, refl, subst, sym, ◌∙◌}
 use Rattle.std.specs.Prelude.{List, length, suc, take, true, zero, ℕ, [], ◌++◌, ◌+◌, ◌∷◌, ◌≡◌}

@@ -8,7 +8,8 @@ use Rattle.s3_types.specs.Store.{BucketContent, Scene, Upload}
 use Rattle.s3_types.specs.declared.request.Request.TheVariants.{ListParts}
 use Rattle.s3_types.specs.declared.request.UploadRef.{UploadRef}
 use Rattle.s3a_shell.specs.Texts.{fine}
-use Rattle.s3a_shell.specs.Uploading.{DidList, ListedIn, asked_line, asked_lines, sizes_in, sizes_of, upload_line, upload_lines}
+use Rattle.s3a_shell.specs.Uploading.{DidList, ListedIn, sizes_of, upload_line, upload_lines}
+use Rattle.s3a_shell.specs.inner.Uploading.{asked_line, asked_lines, sizes_in}
 use Rattle.s3a_shell.specs.declared.said.Said.{Said}
 use Rattle.std.proofs.Common.{ap, append_assoc, refl, sym, ◌∙◌}
 use Rattle.std.specs.Prelude.{List, None, Option, Some, drop, option_map, ℕ, [], ◌++◌, ◌+◌, ◌∷◌, ◌≡◌}

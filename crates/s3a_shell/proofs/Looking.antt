@@ -7,7 +7,8 @@ use Rattle.s3_types.specs.Store.{Objects, Scene}
 use Rattle.s3_types.specs.declared.journal.Entry.{Entry}
 use Rattle.s3_types.specs.declared.reply.Reply.{Reply}
 use Rattle.s3_types.specs.declared.request.Request.{Request}
-use Rattle.s3a_shell.specs.Sendings.{Asked, answered_by, has_changed, is_change}
+use Rattle.s3a_shell.specs.Sendings.{has_changed, is_change}
+use Rattle.s3a_shell.specs.inner.Sendings.{Asked, answered_by}
 use Rattle.s3a_shell.specs.declared.session.Session.{Session}
 use Rattle.std.proofs.Common.{ap, refl, ◌∙◌}
 use Rattle.std.proofs.Math.Bool.{or-false}

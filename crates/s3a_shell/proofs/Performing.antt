@@ -33,7 +33,7 @@ use Rattle.s3a_shell.proofs.Joining.{sent_as}
 use Rattle.s3a_shell.specs.Doings.{Created, CreatedUnless, Did, DidMake, DidPut, FileOrNot, IsMadeOrNot, most_input, refusal_word}
 use Rattle.s3a_shell.specs.Doings.{refused_or_fine}
 use Rattle.s3a_shell.specs.Moving.{DidBetween}
-use Rattle.s3a_shell.specs.Sendings.{Asked, IsCounted, Sent}
+use Rattle.s3a_shell.specs.inner.Sendings.{Asked, IsCounted, Sent}
 use Rattle.s3a_shell.specs.Texts.{nothing, refusing, said}
 use Rattle.s3a_shell.specs.declared.said.Said.{Said}
 use Rattle.s3a_shell.specs.declared.session.Session.{Session}

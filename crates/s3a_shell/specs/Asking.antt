@@ -1,5 +1,4 @@
 -- The requests that each command may send: those of its operation, and no other (Amazon S3 API reference; Hadoop FileSystem specification).
-use Rattle.text_and_lists.specs.Members.{IsIn}
 use Rattle.bucket_ops.specs.Asks.{Ask, is_look, request_of}
 use Rattle.bucket_ops.specs.Phases.{SendsIn}
 use Rattle.bucket_ops.specs.Uploads.{IsPageOf}
@@ -24,6 +23,7 @@ use Rattle.s3a_words.specs.declared.command.Command.{Command}
 use Rattle.s3a_words.specs.declared.command.Command.TheVariants.{AbortUploads, Cat, CleanMarkers, Cp, FillMarkers, Ls, Markers, Mb, Mkdir}
 use Rattle.s3a_words.specs.declared.command.Command.TheVariants.{Mv, Put, PutDrop, PutForce, Rm, Rmr, Stat, Uploads}
 use Rattle.std.specs.Prelude.{Bool, List, None, Option, Some, false, length, nat_lt, true, ℕ, [], ◌≡◌, ◌⊎◌}
+use Rattle.text_and_lists.specs.Members.{IsIn}
 use Rattle.std.specs.FinMap as fin
 use Rattle.fs_ops.specs.code.Make as make
 use Rattle.fs_ops.specs.code.Delete as delete
@@ -98,10 +98,6 @@ IsLiveIn (Some c) path u = IsIn u (uploads_below path c)
 -- The request for the parts of an upload.
 abbrev pub lists : List ℕ → UploadRef → Request
 lists bucket u = ListParts bucket u.key u.upload
-
--- Holds if this is such a request on one of these uploads.
-abbrev pub OnOne : (List ℕ → UploadRef → Request) → List ℕ → List UploadRef → Request → Type 0
-OnOne asks bucket us r = (u : UploadRef) × IsIn u us × (r ≡ asks bucket u)
 
 -- Holds if this is such a request on an upload that is live below the path.
 abbrev pub OnLive : (List ℕ → UploadRef → Request) → Path → Scene → Request → Type 0

@@ -7,3 +7,4 @@ pub mod Stays
 pub mod Asking
 pub mod Most
 pub mod Commanded
+pub mod inner

@@ -1,21 +1,18 @@
 -- What the commands on uploads do and say (Amazon S3 API: ListMultipartUploads, ListParts, AbortMultipartUpload).
-use Rattle.text_and_lists.specs.Members.{IsIn}
 use Rattle.fs_files.specs.Placed.{placed}
 use Rattle.path_keys.specs.Paths.{Path, below}
-use Rattle.s3_types.specs.Answer.{answer, apply}
 use Rattle.s3_types.specs.Multipart.{listed, live, sizes}
 use Rattle.s3_types.specs.Store.{BucketContent, Scene, Upload}
 use Rattle.s3_types.specs.declared.reply.PartSize.{PartSize}
-use Rattle.s3_types.specs.declared.reply.Reply.{Reply}
-use Rattle.s3_types.specs.declared.reply.Reply.TheVariants.{Parts}
 use Rattle.s3_types.specs.declared.request.Request.{Request}
-use Rattle.s3_types.specs.declared.request.Request.TheVariants.{AbortUpload, ListParts}
+use Rattle.s3_types.specs.declared.request.Request.TheVariants.{AbortUpload}
 use Rattle.s3_types.specs.declared.request.UploadRef.{UploadRef}
 use Rattle.s3a_shell.specs.Texts.{fine, refusing}
 use Rattle.s3a_shell.specs.declared.said.Said.{Said}
 use Rattle.std.specs.Fmt.{decimal}
 use Rattle.std.specs.List.{flat_map, sum_by}
 use Rattle.std.specs.Prelude.{List, None, Option, Some, codes, length, take, ℕ, [], ◌++◌, ◌∷◌, ◌≡◌}
+use Rattle.text_and_lists.specs.Members.{IsIn}
 use Rattle.std.specs.FinMap as fin
 
 -- The live uploads of a bucket below a path, by key and then by id. At the root these are all.
@@ -86,28 +83,6 @@ AbortedSome path z s = EndedSome (fin.get z.content.buckets path.bucket) path z 
 
 -- ---- by requests
 
--- The part sizes in a reply.
-abbrev pub sizes_in : Reply → List PartSize
-sizes_in (Parts sizes) = sizes
-sizes_in _ = []
-
--- The line of an upload, with the parts that the store reports.
-abbrev pub asked_line : Scene → List ℕ → UploadRef → List ℕ
-asked_line z b r = upload_line r (sizes_in (answer z (ListParts b r.key r.upload)))
-
--- The lines of these uploads.
-abbrev pub asked_lines : Scene → List ℕ → List UploadRef → List ℕ
-asked_lines z b rs = flat_map (asked_line z b) rs
-
 -- The request that aborts an upload.
 abbrev pub aborts : List ℕ → UploadRef → Request
 aborts b r = AbortUpload b r.key r.upload
-
--- The scene after these uploads were aborted one by one.
-abbrev pub after_aborts : Scene → List ℕ → List UploadRef → Scene
-after_aborts s b [] = s
-after_aborts s b (r ∷ rs) = after_aborts (apply s (aborts b r)) b rs
-
--- Holds if the first few of them were aborted.
-abbrev pub AfterSome : List ℕ → List UploadRef → Scene → Scene → Type 0
-AfterSome b rs z s = (n : ℕ) × (s ≡ after_aborts z b (take n rs))

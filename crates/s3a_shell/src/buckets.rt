@@ -1,6 +1,7 @@
 ghost use Rattle.std.specs.Prelude.{◌≡◌, None, IfOk, OnOk, option_map};
 ghost use Rattle.s3_types.specs.Answer.{answer, apply};
-ghost use Rattle.s3a_shell.specs.Sendings.{IsCounted, Sent, Asked, AtMost, AppliedOrNot};
+ghost use Rattle.s3a_shell.specs.inner.Sendings.{IsCounted, Sent, Asked, AtMost};
+ghost use Rattle.s3a_shell.specs.Sendings.{AppliedOrNot};
 ghost use Rattle.s3a_shell.specs.Doings.{refusal_word, refused_or_fine, DidMake};
 
 use crate::said::{Said, fine, refusing};

@@ -1,7 +1,7 @@
 ghost use Rattle.std.specs.Prelude.{◌≡◌, ◌≤◌, false, length, IfOk, OnOk};
 ghost use Rattle.s3a_shell.specs.Asking.{PutSends, PutSendsUnless};
 ghost use Rattle.s3a_shell.specs.Most.{most_put};
-ghost use Rattle.s3a_shell.specs.Sendings.{IsCounted, Sent, Asked, AtMost};
+ghost use Rattle.s3a_shell.specs.inner.Sendings.{IsCounted, Sent, Asked, AtMost};
 ghost use Rattle.s3a_shell.specs.Doings.{most_input, Created, FileOrNot, DidPut};
 
 use crate::said::{Said, nothing_said, refusing};

@@ -5,7 +5,8 @@ ghost use Rattle.bucket_ops.specs.Uploads.{IsStill};
 ghost use Rattle.s3a_shell.specs.Texts.{kind_word, marker_line, marker_lines, cleaned_line, filled_line, said};
 ghost use Rattle.s3a_shell.specs.Asking.{LooksIn, CleanMarkersSends, FillMarkersSends};
 ghost use Rattle.s3a_shell.specs.Most.{count_below, surplus_below, missing_below, most_on};
-ghost use Rattle.s3a_shell.specs.Sendings.{IsCounted, Sent, Asked, AtMost, has_changed};
+ghost use Rattle.s3a_shell.specs.inner.Sendings.{IsCounted, Sent, Asked, AtMost};
+ghost use Rattle.s3a_shell.specs.Sendings.{has_changed};
 ghost use Rattle.s3a_shell.specs.Doings.{Did};
 
 use crate::said::{Said, fine, refused};

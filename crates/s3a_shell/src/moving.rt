@@ -3,7 +3,7 @@ ghost use Rattle.copy_tree.specs.Public.{StandsCopied, most_copies};
 ghost use Rattle.fs_rename.specs.Public.{StandsWhole, most_moves};
 ghost use Rattle.s3a_shell.specs.Moving.{route, refused_move, said_of_move, DidMove, refused_copy, copied_line, said_of_copy, DidCopy};
 ghost use Rattle.s3a_shell.specs.Asking.{MoveSends, CopyTreeSends};
-ghost use Rattle.s3a_shell.specs.Sendings.{IsCounted, Sent, Asked, AtMost};
+ghost use Rattle.s3a_shell.specs.inner.Sendings.{IsCounted, Sent, Asked, AtMost};
 
 use crate::said::{Said, fine, refusing};
 use crate::session::{EVENT, RETRIES, Session, wanting};

@@ -7,7 +7,8 @@ ghost use Rattle.bucket_ops.specs.Uploads.{IsStill};
 ghost use Rattle.s3a_shell.specs.Texts.{status_line, entry_line, entry_lines, bytes_alone, nothing, said};
 ghost use Rattle.s3a_shell.specs.Asking.{LooksIn, MakeSends, DeleteSends};
 ghost use Rattle.s3a_shell.specs.Most.{children_below, count_below, most_on};
-ghost use Rattle.s3a_shell.specs.Sendings.{IsCounted, Sent, Asked, AtMost, has_changed};
+ghost use Rattle.s3a_shell.specs.inner.Sendings.{IsCounted, Sent, Asked, AtMost};
+ghost use Rattle.s3a_shell.specs.Sendings.{has_changed};
 ghost use Rattle.s3a_shell.specs.Doings.{Did, DeletedSome};
 
 use crate::said::{Said, bytes_said, fine, nothing_said, refused};

@@ -4,7 +4,7 @@ ghost use Rattle.s3_types.specs.Answer.{answer, apply};
 ghost use Rattle.bucket_ops.specs.Asks.{objects_at};
 ghost use Rattle.bucket_ops.specs.Phases.{GivesIn, AlwaysIn, SendsIn, left_at};
 ghost use Rattle.s3_service.specs.Ids.{AreBelow};
-ghost use Rattle.s3a_shell.specs.Sendings.{IsCounted, Sent, Asked, AtMost, answered_by};
+ghost use Rattle.s3a_shell.specs.inner.Sendings.{IsCounted, Sent, Asked, AtMost, answered_by};
 
 use bucket_ops::{Phases, perform_in};
 use machine::DriveStop;

@@ -2,11 +2,15 @@ ghost use Rattle.std.specs.Prelude.{◌≡◌, ◌+◌, ◌*◌, ◌++◌, [], l
 ghost use Rattle.s3_types.specs.Answer.{apply};
 ghost use Rattle.path_keys.specs.Paths.{below};
 ghost use Rattle.bucket_ops.specs.Uploads.{uploads_from, IsStill, IsPageOf};
-ghost use Rattle.s3a_shell.specs.Asking.{lists, OnOne, UploadSends};
+ghost use Rattle.s3a_shell.specs.Asking.{lists, UploadSends};
+ghost use Rattle.s3a_shell.specs.inner.Asking.{OnOne};
 ghost use Rattle.s3a_shell.specs.Most.{uploads_at};
-ghost use Rattle.s3a_shell.specs.Sendings.{IsCounted, Sent, Asked, AtMost, AppliedOrNot, has_changed};
-ghost use Rattle.s3a_shell.specs.Uploading.{bytes_in, upload_line, aborted_line, sizes_in, asked_line, asked_lines};
-ghost use Rattle.s3a_shell.specs.Uploading.{aborts, after_aborts, AfterSome, DidList, DidAbort, AbortedSome};
+ghost use Rattle.s3a_shell.specs.inner.Sendings.{IsCounted, Sent, Asked, AtMost};
+ghost use Rattle.s3a_shell.specs.Sendings.{AppliedOrNot, has_changed};
+ghost use Rattle.s3a_shell.specs.Uploading.{bytes_in, upload_line, aborted_line};
+ghost use Rattle.s3a_shell.specs.inner.Uploading.{sizes_in, asked_line, asked_lines};
+ghost use Rattle.s3a_shell.specs.Uploading.{aborts, DidList, DidAbort, AbortedSome};
+ghost use Rattle.s3a_shell.specs.inner.Uploading.{after_aborts, AfterSome};
 
 use crate::said::{Said, fine, refusing};
 use crate::session::{EVENT, RETRIES, Session, wanting};

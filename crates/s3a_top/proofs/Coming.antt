@@ -7,9 +7,9 @@ use Rattle.s3a_top.proofs.Playing.{played_from}
 use Rattle.s3a_top.proofs.Telling.{tells_none, worked_due, worked_usage}
 use Rattle.s3a_top.specs.Commands.{StoreDone, StoreStopped}
 use Rattle.s3a_top.specs.Jobs.{JobPlayed, JobStopped, MayHaveLeft}
-use Rattle.s3a_top.specs.Plays.{JobSince}
-use Rattle.s3a_top.specs.Workings.{Comes, Counted, Goes, IsAnswered, IsStopped, JobGoes, JobHalted, StoreGoes, StoreHalted}
-use Rattle.s3a_top.specs.Works.{IsWritten}
+use Rattle.s3a_top.specs.inner.Plays.{JobSince}
+use Rattle.s3a_top.specs.inner.Workings.{Comes, Counted, Goes, IsAnswered, IsStopped, JobGoes, JobHalted, StoreGoes, StoreHalted}
+use Rattle.s3a_top.specs.inner.Works.{IsWritten}
 use Rattle.s3a_top.specs.declared.stop.Stop.{Stop}
 use Rattle.s3a_top.specs.declared.stop.Stop.TheVariants.{NoMemory, Usage}
 use Rattle.s3a_top.specs.declared.work.Work.{Work}

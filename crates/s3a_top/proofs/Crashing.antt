@@ -20,7 +20,8 @@ pub as_found : (told : Option Stored) (before : ShelfState) → ((s : Stored) �
 as_found None before h = tt
 as_found (Some s) before h = h s refl
 
-pub opens_so : (told : Option Stored) (before : ShelfState) (jobs : Jobs) (c : Content) → IsFound told before → opening_in before jobs ≡ Some c
+pub opens_so : (told : Option Stored) (before : ShelfState) (jobs : Jobs) (c : Content) → IsFound told before
+    → opening_in before jobs ≡ Some c
     → Opens told jobs c
 opens_so None before jobs c f e = tt
 opens_so (Some s) before jobs c f e = ap (λ (b : ShelfState). opening_in b jobs) (sym f) ∙ e

@@ -11,9 +11,10 @@ use Rattle.s3a_top.proofs.Outs.{comes_written, shows_written}
 use Rattle.s3a_top.specs.Commands.{NoCommand, StoreDone, StoreStopped}
 use Rattle.s3a_top.specs.Jobs.{JobPlayed, JobStopped}
 use Rattle.s3a_top.specs.Statuses.{IsDue, Writes}
-use Rattle.s3a_top.specs.Traces.{IsLoaded, JobTraced, Shows, StoreTraced, asks_trace, named_command, traced_command, traced_in}
-use Rattle.s3a_top.specs.Workings.{Comes}
-use Rattle.s3a_top.specs.Works.{IsWritten}
+use Rattle.s3a_top.specs.Traces.{IsLoaded, JobTraced, StoreTraced, asks_trace, named_command, traced_command, traced_in}
+use Rattle.s3a_top.specs.inner.Traces.{Shows}
+use Rattle.s3a_top.specs.inner.Workings.{Comes}
+use Rattle.s3a_top.specs.inner.Works.{IsWritten}
 use Rattle.s3a_top.specs.declared.work.Work.{Work}
 use Rattle.s3a_words.specs.Words.{command_of}
 use Rattle.s3a_words.specs.declared.command.Command.{Command}

@@ -15,10 +15,11 @@ use Rattle.s3a_top.proofs.Telling.{tells_none}
 use Rattle.s3a_top.specs.Commands.{HasReason, NoCommand, StoreStopped}
 use Rattle.s3a_top.specs.Jobs.{HasCause, IsFaulty, JobStopped, MayHaveLeft}
 use Rattle.s3a_top.specs.Openings.{AreJobsOf, IsFound, IsSoundly, Opens, is_sound, reads_jobs}
-use Rattle.s3a_top.specs.Plays.{JobBroke}
+use Rattle.s3a_top.specs.inner.Plays.{JobBroke}
 use Rattle.s3a_top.specs.Statuses.{IsDue, IsIdle}
-use Rattle.s3a_top.specs.Stops.{of_shelf, status_of, stop_text}
-use Rattle.s3a_top.specs.Workings.{IsMade, IsToldOf, JobHalted, StoreHalted}
+use Rattle.s3a_top.specs.Stops.{status_of, stop_text}
+use Rattle.s3a_top.specs.inner.Stops.{of_shelf}
+use Rattle.s3a_top.specs.inner.Workings.{IsMade, IsToldOf, JobHalted, StoreHalted}
 use Rattle.s3a_top.specs.declared.stop.Stop.{Stop}
 use Rattle.s3a_top.specs.declared.stop.Stop.TheVariants.{Image, NoMemory, ReadFault, Script as BadScript, ShelfFault, Twins as BadTwins}
 use Rattle.s3a_top.specs.declared.stop.Stop.TheVariants.{Usage}

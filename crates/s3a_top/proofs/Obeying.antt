@@ -14,10 +14,10 @@ use Rattle.s3a_top.proofs.Pieces.{read_taken, taken_part}
 use Rattle.s3a_top.proofs.Untouched.{untouched_of}
 use Rattle.s3a_top.specs.Commands.{HasReason, IsInput, WorkDone, reads_input}
 use Rattle.s3a_top.specs.Openings.{IsFound, is_sound}
-use Rattle.s3a_top.specs.Statuses.{IsWorked}
-use Rattle.s3a_top.specs.Stops.{of_shelf}
-use Rattle.s3a_top.specs.Workings.{HasReasonIn, IsQuiet, StoreGoes, StoreHalted, StoreOver, StoreSince}
-use Rattle.s3a_top.specs.Works.{IsWritten}
+use Rattle.s3a_top.specs.inner.Statuses.{IsWorked}
+use Rattle.s3a_top.specs.inner.Stops.{of_shelf}
+use Rattle.s3a_top.specs.inner.Workings.{HasReasonIn, IsQuiet, StoreGoes, StoreHalted, StoreOver, StoreSince}
+use Rattle.s3a_top.specs.inner.Works.{IsWritten}
 use Rattle.s3a_top.specs.declared.stop.Stop.{Stop}
 use Rattle.s3a_top.specs.declared.stop.Stop.TheVariants.{NoMemory, ReadFault}
 use Rattle.s3a_top.specs.declared.work.Work.{Work}
@@ -88,7 +88,8 @@ module _ {S : Type 0} (F : Sight S) where
 
 -- ---- causes, where it is known what the shelf held
 
-pub reason_of : (stop : Stop) (command : Command) (told : Option Stored) (before : ShelfState) (left rest : Option (List ℕ)) → IsFound told before
+pub reason_of : (stop : Stop) (command : Command) (told : Option Stored) (before : ShelfState) (left rest : Option (List ℕ))
+    → IsFound told before
     → HasReasonIn stop command before left rest → HasReason stop command told left rest
 reason_of ReadFault command told before left rest f h = (sound_of told before f h.0, h.1)
 reason_of NoMemory command told before left rest f (inl h) = inl h

@@ -9,9 +9,10 @@ use Rattle.s3_types.specs.declared.journal.Entry.{Entry}
 use Rattle.s3a_top.specs.Commands.{StoreDone, StoreStopped, WorkDone}
 use Rattle.s3a_top.specs.Jobs.{JobCut, JobEnded, JobPlayed, JobRan, JobStopped}
 use Rattle.s3a_top.specs.Statuses.{Writes}
-use Rattle.s3a_top.specs.Traces.{JobTraced, Shows, StoreTraced}
-use Rattle.s3a_top.specs.Workings.{Comes}
-use Rattle.s3a_top.specs.Works.{IsWritten}
+use Rattle.s3a_top.specs.Traces.{JobTraced, StoreTraced}
+use Rattle.s3a_top.specs.inner.Traces.{Shows}
+use Rattle.s3a_top.specs.inner.Workings.{Comes}
+use Rattle.s3a_top.specs.inner.Works.{IsWritten}
 use Rattle.s3a_top.specs.declared.work.Work.{Work}
 use Rattle.s3a_words.specs.declared.command.Command.{Command}
 use Rattle.devices.specs.Logged.{Sight}

@@ -16,8 +16,8 @@ use Rattle.s3_types.specs.Store.{Content}
 use Rattle.s3_types.specs.declared.journal.Entry.{Entry}
 use Rattle.s3a_top.specs.Jobs.{JobCut, JobEnded, JobPlayed, JobRan, job_text}
 use Rattle.s3a_top.specs.Openings.{AreJobsOf, Opens}
-use Rattle.s3a_top.specs.Plays.{IsReported, IsTold, JobOver}
-use Rattle.s3a_top.specs.Works.{IsWritten}
+use Rattle.s3a_top.specs.inner.Plays.{IsReported, IsTold, JobOver}
+use Rattle.s3a_top.specs.inner.Works.{IsWritten}
 use Rattle.s3a_top.specs.declared.work.Work.{Work}
 use Rattle.s3a_words.specs.declared.command.Command.{Command}
 use Rattle.devices.specs.Logged.{CrashesLeave, Holding, IsTimed, Sight, Stored}

@@ -8,7 +8,7 @@ use Rattle.job_script.specs.declared.fault.ScriptFault.{ScriptFault}
 use Rattle.s3a_top.specs.Bytes.{IsRead, TakesPart}
 use Rattle.s3a_top.specs.Jobs.{IsFaultOf}
 use Rattle.s3a_top.specs.Openings.{AreJobsOf, IsAllRead}
-use Rattle.s3a_top.specs.Reads.{AreJobsIn, reader}
+use Rattle.s3a_top.specs.inner.Reads.{AreJobsIn, reader}
 use Rattle.std.proofs.Common.{Bool, Err, List, None, Ok, Option, Result, Some, ap, arith, false, length, lit≤, nat_le, refl, sym, take}
 use Rattle.std.proofs.Common.{true, ℕ, ◌<◌, ◌∙◌, ◌≡◌, ◌≢◌, ◌≤◌}
 use Rattle.std.proofs.lemmas.Bool.Decides.{nat_tests}

@@ -4,7 +4,7 @@ use Rattle.s3a_top.proofs.Pieces.{read_taken, taken_part}
 use Rattle.s3a_top.proofs.Readings.{jobs_are, no_script, no_twins}
 use Rattle.s3a_top.specs.Bytes.{IsRead}
 use Rattle.s3a_top.specs.Openings.{AreJobsOf, reads_jobs}
-use Rattle.s3a_top.specs.Reads.{AreJobsIn, IsNone, IsReadStop, reader}
+use Rattle.s3a_top.specs.inner.Reads.{AreJobsIn, IsNone, IsReadStop, reader}
 use Rattle.s3a_top.specs.declared.stop.Stop.{Stop}
 use Rattle.s3a_top.specs.declared.stop.Stop.TheVariants.{NoMemory, Script as BadScript, Twins as BadTwins}
 use Rattle.std.proofs.Common.{Bool, Err, IfErr, IfOk, List, Ok, Option, Result, ap, false, inr, refl, subst, true, ℕ, ◌≡◌}

@@ -20,11 +20,12 @@ use Rattle.s3a_top.proofs.Telling.{counted_done, tells_none, worked_due, worked_
 use Rattle.s3a_top.specs.Commands.{StoreStopped}
 use Rattle.s3a_top.specs.Jobs.{JobStopped}
 use Rattle.s3a_top.specs.Openings.{AreJobsOf}
-use Rattle.s3a_top.specs.Statuses.{IsWorked}
-use Rattle.s3a_top.specs.Traces.{IsLoaded, JobTraced, Shows, StoreTraced, shown_sends, shown_status, store_in}
-use Rattle.s3a_top.specs.Tracings.{AnswerShown, IsShownOf, JobShows, JobTraces, StoreShows, StoreTraces, Traces}
-use Rattle.s3a_top.specs.Workings.{Counted, IsAnswered, IsStopped}
-use Rattle.s3a_top.specs.Works.{IsWritten}
+use Rattle.s3a_top.specs.inner.Statuses.{IsWorked}
+use Rattle.s3a_top.specs.Traces.{IsLoaded, JobTraced, StoreTraced, shown_sends, shown_status, store_in}
+use Rattle.s3a_top.specs.inner.Traces.{Shows}
+use Rattle.s3a_top.specs.inner.Tracings.{AnswerShown, IsShownOf, JobShows, JobTraces, StoreShows, StoreTraces, Traces}
+use Rattle.s3a_top.specs.inner.Workings.{Counted, IsAnswered, IsStopped}
+use Rattle.s3a_top.specs.inner.Works.{IsWritten}
 use Rattle.s3a_top.specs.declared.stop.Stop.{Stop}
 use Rattle.s3a_top.specs.declared.stop.Stop.TheVariants.{NoMemory, Usage}
 use Rattle.s3a_top.specs.declared.work.Work.{Work}

@@ -11,12 +11,15 @@ use Rattle.s3a_shell.specs.Commanded.{takes_input}
 use Rattle.s3a_top.proofs.Readings.{script_part, twins_part}
 use Rattle.s3a_top.specs.Commands.{may_read}
 use Rattle.s3a_top.specs.Jobs.{HasCause}
-use Rattle.s3a_top.specs.Openings.{AreJobsOf, IsSoundly, TakesIfRead}
-use Rattle.s3a_top.specs.Plays.{IsOfStop, IsVerdict}
-use Rattle.s3a_top.specs.Reads.{CountsReads, IsReadStop}
-use Rattle.s3a_top.specs.Statuses.{IsDue, IsWorked}
-use Rattle.s3a_top.specs.Stops.{of_shelf, status_of}
-use Rattle.s3a_top.specs.Workings.{Counted, HasReasonIn}
+use Rattle.s3a_top.specs.Openings.{AreJobsOf, IsSoundly}
+use Rattle.s3a_top.specs.inner.Openings.{TakesIfRead}
+use Rattle.s3a_top.specs.inner.Plays.{IsOfStop, IsVerdict}
+use Rattle.s3a_top.specs.inner.Reads.{CountsReads, IsReadStop}
+use Rattle.s3a_top.specs.Statuses.{IsDue}
+use Rattle.s3a_top.specs.inner.Statuses.{IsWorked}
+use Rattle.s3a_top.specs.Stops.{status_of}
+use Rattle.s3a_top.specs.inner.Stops.{of_shelf}
+use Rattle.s3a_top.specs.inner.Workings.{Counted, HasReasonIn}
 use Rattle.s3a_top.specs.declared.stop.Stop.{Stop}
 use Rattle.s3a_top.specs.declared.stop.Stop.TheVariants.{NoMemory, ReadFault, Script as BadScript, Twins as BadTwins}
 use Rattle.s3a_top.specs.declared.work.Work.{Work}
@@ -180,7 +183,8 @@ counted_read A NoMemory command left rest before after count h counts = counted_
 counted_read A _ command left rest before after count h counts = absurd h
 
 -- The bytes of a command's input could not be read.
-pub counted_bytes : (A : Type 0) (stop : Stop) (command : Command) (held : ShelfState) (left rest : Option (List ℕ)) (before after count : ℕ)
+pub counted_bytes : (A : Type 0) (stop : Stop) (command : Command) (held : ShelfState) (left rest : Option (List ℕ))
+    (before after count : ℕ)
     → HasReasonIn stop command held left rest → CountsReads {A = A} (Err stop) before after → Counted (Err stop) before after count count
 counted_bytes A ReadFault command held left rest before after count h counts = record
     { own = tt; read = tells_one 3 before after counts; shelf = tells_none 5 3 count count (λ e. cc) refl }

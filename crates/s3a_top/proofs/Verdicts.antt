@@ -10,7 +10,7 @@ use Rattle.job_model.specs.declared.ends.EventEnd.{EventEnd}
 use Rattle.job_model.specs.declared.ends.OpEnd.{OpEnd}
 use Rattle.job_model.specs.declared.ends.SetupEnd.{SetupEnd}
 use Rattle.job_spec.specs.States.{Decided, EndedSo, NotBegun, Unended, end_verdict, past, verdict, verdict_or}
-use Rattle.s3a_top.specs.Plays.{IsFinal}
+use Rattle.s3a_top.specs.inner.Plays.{IsFinal}
 use Rattle.std.proofs.Common.{Bool, List, false, if◌then◌else◌, inl, inr, refl, true, ℕ, ◌==◌}
 use Rattle.job_model.specs.declared.ends.SetupEnd.TheVariants as setups
 use Rattle.job_model.specs.declared.ends.CommitEnd.TheVariants as commits

@@ -4,9 +4,5 @@ pub mod Openings
 pub mod Stops
 pub mod Jobs
 pub mod Commands
-pub mod Reads
-pub mod Works
-pub mod Plays
-pub mod Workings
 pub mod Traces
-pub mod Tracings
+pub mod inner

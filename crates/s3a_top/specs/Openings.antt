@@ -1,4 +1,5 @@
 -- What a run begins with, given what the shelf held and what was left in the input.
+use Rattle.devices.specs.Logged.{Stored}
 use Rattle.durable_job.specs.Jobs.{dest_of}
 use Rattle.durable_job.specs.declared.jobs.Jobs.{Jobs}
 use Rattle.durable_job.specs.declared.jobs.Jobs.TheVariants.{One, Two}
@@ -11,10 +12,8 @@ use Rattle.s3_types.specs.Answer.{apply_store}
 use Rattle.s3_types.specs.Store.{Content, new_content}
 use Rattle.s3_types.specs.declared.limits.TheConstants.{MOST_MINIMUM}
 use Rattle.s3_types.specs.declared.request.Request.TheVariants.{MakeBucket}
-use Rattle.s3a_top.specs.Bytes.{TakesPart}
 use Rattle.s3a_words.specs.declared.command.Command.{Command}
 use Rattle.s3a_words.specs.declared.command.Command.TheVariants.{Gen, Job, Twins}
-use Rattle.devices.specs.Logged.{Stored}
 use Rattle.std.specs.Prelude.{Bool, List, None, Ok, Option, Result, Some, false, true, ℕ, [], ◌≡◌, ◌⊎◌}
 use Rattle.twin_script.specs.Twins.{twins_of}
 
@@ -37,10 +36,6 @@ abbrev pub reads_jobs : Command → Bool
 reads_jobs Job = true
 reads_jobs Twins = true
 reads_jobs _ = false
-
--- Holds if nothing was taken from the input, or the command reads its jobs from there and some first bytes were taken.
-abbrev pub TakesIfRead : Command → (left rest : Option (List ℕ)) → Type 0
-TakesIfRead command left rest = (rest ≡ left) ⊎ ((reads_jobs command ≡ true) × TakesPart left rest)
 
 -- Holds if nothing was taken from the input, or the command's jobs were read.
 abbrev pub TakesJobs : Command → (left rest : Option (List ℕ)) → Type 0

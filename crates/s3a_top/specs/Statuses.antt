@@ -1,14 +1,14 @@
 -- The statuses before writing, and the texts that are written.
+use Rattle.devices.specs.Devices.{Appends}
 use Rattle.durable_job.specs.Jobs.{nothing_told}
 use Rattle.durable_job.specs.declared.jobs.Told.{Told}
 use Rattle.exit_status.specs.Statuses.{code}
 use Rattle.exit_status.specs.declared.statuses.Status.{Status}
-use Rattle.exit_status.specs.declared.statuses.Status.TheVariants.{BadScript, ReadFault, Usage, WriteFault}
+use Rattle.exit_status.specs.declared.statuses.Status.TheVariants.{WriteFault}
 use Rattle.job_script.specs.Fault.{line_of, number_of}
 use Rattle.job_script.specs.declared.fault.ScriptFault.{ScriptFault}
 use Rattle.s3_types.specs.declared.journal.Entry.{Entry}
 use Rattle.s3a_top.specs.Bytes.{WritesSome}
-use Rattle.devices.specs.Devices.{Appends}
 use Rattle.std.specs.Fmt.{decimal}
 use Rattle.std.specs.Prelude.{List, Option, codes, ℕ, [], ◌++◌, ◌∷◌, ◌≡◌, ◌≢◌}
 use Rattle.twin_script.specs.declared.fault.TwinFault.{TwinFault}
@@ -17,14 +17,6 @@ use Rattle.twin_script.specs.Fault as twins
 -- Holds if this is the number of a status other than `WriteFault`, so it may be the status before writing.
 abbrev pub IsDue : ℕ → Type 0
 IsDue due = (s : Status) × ((s ≢ WriteFault) × (due ≡ code s))
-
--- Holds for the statuses that work which was done may have: no faulty words, no failed input or output, no bad script.
-abbrev pub IsWorked : Status → Type 0
-IsWorked Usage = ⊥
-IsWorked ReadFault = ⊥
-IsWorked WriteFault = ⊥
-IsWorked BadScript = ⊥
-IsWorked _ = Unit {0}
 
 -- The line that reports an invalid script: the fault's number and its line, 0 if it has none.
 unfoldable pub script_fault_text : ScriptFault → List ℕ

@@ -6,9 +6,7 @@ use Rattle.s3a_top.specs.Statuses.{script_fault_text, twin_fault_text}
 use Rattle.s3a_top.specs.declared.stop.Stop.{Stop}
 use Rattle.s3a_top.specs.declared.stop.Stop.TheVariants.{Image, NoMemory, ReadFault, Script as BadScript, ShelfFault, Twins as BadTwins}
 use Rattle.s3a_top.specs.declared.stop.Stop.TheVariants.{Usage}
-use Rattle.devices.specs.declared.kept.ShelfStop.{ShelfStop}
 use Rattle.std.specs.Prelude.{List, ℕ}
-use Rattle.devices.specs.declared.kept.ShelfStop.TheVariants as shelves
 use Rattle.exit_status.specs.declared.statuses.Status.TheVariants as statuses
 
 -- The exit status of each stop.
@@ -19,11 +17,6 @@ status_of ShelfFault = statuses.ShelfFault
 status_of (Image number place) = statuses.BadImage
 status_of NoMemory = statuses.NoMemory
 status_of _ = statuses.BadScript
-
--- The stop for a failed call of the shelf.
-abbrev pub of_shelf : ShelfStop → Stop
-of_shelf shelves.Failed = ShelfFault
-of_shelf shelves.NoMemory = NoMemory
 
 -- The line that the program writes for each stop.
 abbrev pub stop_text : Stop → List ℕ

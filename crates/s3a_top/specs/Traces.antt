@@ -1,8 +1,9 @@
 -- The outcome of `trace`: the requests that a command would send are shown, and nothing is stored.
-use Rattle.durable_job.specs.Jobs.{KeepsOne, nothing_told}
+use Rattle.devices.specs.Logged.{Sight}
+use Rattle.devices.specs.Logged.Call.{Load}
+use Rattle.durable_job.specs.Jobs.{KeepsOne}
 use Rattle.durable_job.specs.declared.jobs.Jobs.TheVariants.{One}
 use Rattle.durable_job.specs.declared.jobs.Told.{Told}
-use Rattle.durable_store.specs.Outcomes.{Tells}
 use Rattle.durable_store.specs.Works.{Saves, Says, Work}
 use Rattle.durable_store.specs.declared.shelf_state.ShelfState.{ShelfState}
 use Rattle.durable_store.specs.declared.shelf_state.ShelfState.TheVariants.{Store}
@@ -14,17 +15,13 @@ use Rattle.job_spec.specs.States.{verdict}
 use Rattle.s3_types.specs.Store.{Content, new_content}
 use Rattle.s3_types.specs.declared.journal.Entry.{Entry}
 use Rattle.s3_types.specs.declared.limits.TheConstants.{MOST_MINIMUM}
-use Rattle.s3a_shell.specs.Commanded.{IsWork, plays}
-use Rattle.s3a_top.specs.Commands.{IsInput, NoCommand, StoreStopped, reads_input}
-use Rattle.s3a_top.specs.Jobs.{JobStopped}
+use Rattle.s3a_shell.specs.Commanded.{IsWork}
+use Rattle.s3a_top.specs.Commands.{IsInput, reads_input}
 use Rattle.s3a_top.specs.Openings.{AreJobsOf, IsFound, Opens}
-use Rattle.s3a_top.specs.Statuses.{IsDue}
 use Rattle.s3a_words.specs.Words.{command_of}
 use Rattle.s3a_words.specs.declared.command.Command.{Command}
 use Rattle.s3a_words.specs.declared.command.Command.TheVariants.{Init, Twins}
-use Rattle.devices.specs.Logged.{Sight}
-use Rattle.devices.specs.Logged.Call.{Load}
-use Rattle.std.specs.Prelude.{Bool, List, None, Option, Some, bytes_eq, codes, cond, false, option_and_then, true, ℕ, ◌∷◌, ◌≡◌, ◌⊎◌}
+use Rattle.std.specs.Prelude.{Bool, List, None, Option, Some, bytes_eq, codes, cond, false, option_and_then, ℕ, ◌∷◌, ◌≡◌, ◌⊎◌}
 use Rattle.trace_text.specs.Trace.{requests_text, trace_text}
 use Rattle.exit_status.specs.declared.statuses.Status.TheVariants as statuses
 
@@ -120,19 +117,3 @@ pub record StoreTraced {S : Type 0} (F : Sight S) (command : Command) (left rest
 -- Holds if the shelf was called at most once, to load it.
 abbrev pub IsLoaded : {S : Type 0} → Sight S → S → S → Type 0
 IsLoaded F old new = (old ≡ new) ⊎ (F.fails Load old new ⊎ F.answers Load old new)
-
--- The status before writing is one of the program's and fits the counts of faults of the input (`i`, `j`) and of the shelf (`m`, `n`). What
--- was traced, or stopped, is as the headline has it.
-pub record Shows {S : Type 0} (F : Sight S) (named : Option Command) (left rest : Option (List ℕ)) (old new : S) (i j m n status : ℕ)
-    (es : List Entry) (told : Told) (Says : List ℕ → Type 0) : Type 0 where
-  pub due : IsDue status
-  pub read : Tells 3 status i j
-  pub shelf : Tells 5 status m n
-  pub job : (c : Command) → named ≡ Some c → plays c ≡ true
-      → JobTraced F c left rest old new status es told Says ⊎ JobStopped F c left rest old new status es told Says
-  pub store : (c : Command) → named ≡ Some c → plays c ≡ false
-      → StoreTraced F c left rest old new status es Says ⊎ StoreStopped F c left rest old new status es Says
-  pub quiet : (c : Command) → named ≡ Some c → plays c ≡ false → told ≡ nothing_told
-  pub loaded : IsLoaded F old new
-  pub usage : named ≡ None → NoCommand status old new es told Says
-  pub command : status ≡ 2 → named ≡ None

@@ -8,8 +8,8 @@ ghost use Rattle.s3a_shell.specs.Commanded.{plays};
 ghost use Rattle.s3a_top.specs.Openings.{opening_in, is_sound, IsFound};
 ghost use Rattle.s3a_top.specs.Jobs.{one_text, both_text, job_text};
 ghost use Rattle.s3a_top.specs.Commands.{may_read};
-ghost use Rattle.s3a_top.specs.Plays.{IsFinal, IsVerdict, IsOfStop, IsReported, IsTold, JobSince};
-ghost use Rattle.s3a_top.specs.Workings.{MayDo, Counted};
+ghost use Rattle.s3a_top.specs.inner.Plays.{IsFinal, IsVerdict, IsOfStop, IsReported, IsTold, JobSince};
+ghost use Rattle.s3a_top.specs.inner.Workings.{MayDo, Counted};
 
 use crate::asked::Asked;
 use crate::script::jobs_for;

@@ -3,7 +3,7 @@ ghost use Rattle.s3a_words.specs.Words.{IsBounded};
 ghost use Rattle.s3a_shell.specs.Commanded.{plays};
 ghost use Rattle.s3a_top.specs.Openings.{AreJobsOf};
 ghost use Rattle.s3a_top.specs.Commands.{may_read};
-ghost use Rattle.s3a_top.specs.Reads.{reader, AreJobsIn, IsReadStop, IsNone, CountsReads};
+ghost use Rattle.s3a_top.specs.inner.Reads.{reader, AreJobsIn, IsReadStop, IsNone, CountsReads};
 
 use crate::input::{InputFault, read_input};
 use crate::stop::Stop;

@@ -1,8 +1,9 @@
 ghost use Rattle.std.specs.Prelude.{◌≡◌, IfOk, OnErr};
 ghost use Rattle.exit_status.specs.Statuses.{written_text};
 ghost use Rattle.s3a_top.specs.Statuses.{script_fault_text, twin_fault_text, IsIdle};
-ghost use Rattle.s3a_top.specs.Stops.{status_of, of_shelf, stop_text};
-ghost use Rattle.s3a_top.specs.Workings.{IsAnswered, IsMade, IsStopped};
+ghost use Rattle.s3a_top.specs.Stops.{status_of, stop_text};
+ghost use Rattle.s3a_top.specs.inner.Stops.{of_shelf};
+ghost use Rattle.s3a_top.specs.inner.Workings.{IsAnswered, IsMade, IsStopped};
 
 use crate::work::{Work, quiet};
 use devices::kept::ShelfStop;

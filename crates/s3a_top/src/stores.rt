@@ -2,9 +2,9 @@ ghost use Rattle.std.specs.Prelude.{◌≡◌, ◌<◌, ◌^◌, ◌-◌, true, 
 ghost use Rattle.durable_store.specs.Outcomes.{IsSound};
 ghost use Rattle.s3a_shell.specs.Commanded.{takes_input, plays};
 ghost use Rattle.s3a_top.specs.Openings.{is_sound};
-ghost use Rattle.s3a_top.specs.Reads.{CountsReads};
+ghost use Rattle.s3a_top.specs.inner.Reads.{CountsReads};
 ghost use Rattle.s3a_top.specs.Commands.{reads_input, IsInput};
-ghost use Rattle.s3a_top.specs.Workings.{MayDo, Counted, HasReasonIn, StoreSince};
+ghost use Rattle.s3a_top.specs.inner.Workings.{MayDo, Counted, HasReasonIn, StoreSince};
 
 use crate::asked::Asked;
 use crate::input::{InputFault, read_input};

@@ -8,9 +8,10 @@ ghost use Rattle.s3a_shell.specs.Commanded.{plays};
 ghost use Rattle.s3a_top.specs.Statuses.{IsDue, Writes};
 ghost use Rattle.s3a_top.specs.Jobs.{JobPlayed, JobStopped};
 ghost use Rattle.s3a_top.specs.Commands.{may_read, NoCommand, StoreStopped, StoreDone};
-ghost use Rattle.s3a_top.specs.Traces.{IsLoaded, JobTraced, Shows, StoreTraced, asks_trace, named_command, traced_command, traced_in};
-ghost use Rattle.s3a_top.specs.Works.{IsWritten};
-ghost use Rattle.s3a_top.specs.Workings.{MayDo, Counted, Goes, Comes};
+ghost use Rattle.s3a_top.specs.Traces.{IsLoaded, JobTraced, StoreTraced, asks_trace, named_command, traced_command, traced_in};
+ghost use Rattle.s3a_top.specs.inner.Traces.{Shows};
+ghost use Rattle.s3a_top.specs.inner.Works.{IsWritten};
+ghost use Rattle.s3a_top.specs.inner.Workings.{MayDo, Counted, Goes, Comes};
 
 use crate::asked::Asked;
 use crate::jobs::job;

@@ -15,12 +15,13 @@ ghost use Rattle.trace_text.specs.Trace as traces;
 ghost use Rattle.twin_script.specs.TwinScripts.{Twins};
 ghost use Rattle.s3a_top.specs.Commands.{may_read};
 ghost use Rattle.s3a_top.specs.Openings.{IsFound};
-ghost use Rattle.s3a_top.specs.Plays.{IsFinal, IsVerdict};
-ghost use Rattle.s3a_top.specs.Traces.{Shows, asks_trace, if_traceable, store_in, traced_in};
+ghost use Rattle.s3a_top.specs.inner.Plays.{IsFinal, IsVerdict};
+ghost use Rattle.s3a_top.specs.inner.Traces.{Shows};
+ghost use Rattle.s3a_top.specs.Traces.{asks_trace, if_traceable, store_in, traced_in};
 ghost use Rattle.s3a_top.specs.Traces.{shown_sends as sends_in};
-ghost use Rattle.s3a_top.specs.Tracings.{AnswerShown, IsShownOf, JobShows, RunShown, StoreShows, Traces};
-ghost use Rattle.s3a_top.specs.Workings.{Counted, MayDo};
-ghost use Rattle.s3a_top.specs.Works.{IsWritten};
+ghost use Rattle.s3a_top.specs.inner.Tracings.{AnswerShown, IsShownOf, JobShows, RunShown, StoreShows, Traces};
+ghost use Rattle.s3a_top.specs.inner.Workings.{Counted, MayDo};
+ghost use Rattle.s3a_top.specs.inner.Works.{IsWritten};
 
 use crate::asked::Asked;
 use crate::jobs::{opened, status_of};

@@ -1,7 +1,7 @@
 ghost use Rattle.std.specs.Prelude.{◌≡◌};
 ghost use Rattle.exit_status.specs.Statuses.{written_text};
 ghost use Rattle.durable_job.specs.Jobs.{nothing_told};
-ghost use Rattle.s3a_top.specs.Workings.{IsQuiet};
+ghost use Rattle.s3a_top.specs.inner.Workings.{IsQuiet};
 
 use durable_job::Told;
 use durable_store::CommandAnswer;

@@ -1,5 +1,6 @@
 -- A word writes a number exactly if it is the number's decimal text.
-use Rattle.s3a_words.specs.Numbers.{WritesDecimals, is_number, number_in}
+use Rattle.s3a_words.specs.Numbers.{is_number, number_in}
+use Rattle.s3a_words.specs.inner.Numbers.{WritesDecimals}
 use Rattle.std.proofs.Common.{List, None, Some, ap, arith, false, get_or, length, nat_le, not, refl, subst, true, ℕ, ◌&&◌, ◌<◌, ◌==◌, ◌^◌}
 use Rattle.std.proofs.Common.{◌||◌, ◌≡◌, ◌≤◌}
 use Rattle.std.proofs.lemmas.Bool.{and_parts, false_from_ne_true, le-leb, leb-true}

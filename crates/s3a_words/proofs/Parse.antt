@@ -10,7 +10,7 @@ use Rattle.clap.specs.Walk.{Held, Row, Text, Walk, arg_by_index, finished, first
 use Rattle.clap.specs.Words.{found_of, rows_of}
 use Rattle.clap.specs.declared.error.kind.ErrorKind.{ErrorKind}
 use Rattle.clap.specs.declared.parser.matches.ArgMatches.{ArgMatches}
-use Rattle.s3a_words.specs.Grammar.{Gives, given, grammar, listed}
+use Rattle.s3a_words.specs.inner.Grammar.{Gives, given, grammar, listed}
 use Rattle.s3a_words.specs.Words.{is_plain, said}
 use Rattle.std.proofs.Common.{Bool, List, None, Option, ap, ap₂, arith, codes, false, fold, is_some, refl, subst, sym, true, ℕ, [], ◌&&◌}
 use Rattle.std.proofs.Common.{◌==◌, ◌∙◌, ◌∷◌, ◌≡◌}

@@ -1,4 +1,4 @@
 pub mod Numbers
 pub mod Words
-pub mod Grammar
 pub mod Kinds
+pub mod inner

@@ -1,8 +1,7 @@
 -- Numbers among the program's words.
 use Rattle.s3_types.specs.declared.limits.TheConstants.{MOST_MINIMUM}
-use Rattle.std.specs.Fmt.{decimal}
 use Rattle.std.specs.Prelude.{Bool, List, None, Option, Some, if◌then◌else◌, length, nat_le, not, option_and_then, slice_index, ℕ, ◌&&◌}
-use Rattle.std.specs.Prelude.{◌<◌, ◌==◌, ◌^◌, ◌||◌, ◌↔◌, ◌≡◌}
+use Rattle.std.specs.Prelude.{◌==◌, ◌||◌}
 use Rattle.std.specs.Str.{all_ascii_digits}
 use Rattle.std.specs.Str.Parse.{digits_value}
 
@@ -14,10 +13,6 @@ is_number word = nat_le 1 (length word) && nat_le (length word) 18 && all_ascii_
 -- The number that a word writes, if it writes one.
 unfoldable pub number_in : List ℕ → Option ℕ
 number_in word = if is_number word then Some (digits_value 10 word) else None
-
--- Holds if the word writes a number exactly when it is the decimal text of one below 10^18.
-abbrev pub WritesDecimals : List ℕ → Type 0
-WritesDecimals word = (n : ℕ) → (number_in word ≡ Some n) ↔ ((n < 10 ^ 18) × (decimal n ≡ word))
 
 -- True for 1 to 5,242,880, the bytes that the least size of a part may have.
 abbrev pub is_minimum : ℕ → Bool

@@ -3,7 +3,7 @@ ghost use Rattle.std.specs.Prelude.{◌≡◌, ◌↔◌, IfOk, IsErr, None, tru
 ghost use Rattle.std.specs.List.{list_all};
 ghost use Rattle.clap.specs.Words.{app_of, kind_of};
 ghost use Rattle.clap.specs.Walk.{texts};
-ghost use Rattle.s3a_words.specs.Grammar.{grammar, Gives};
+ghost use Rattle.s3a_words.specs.inner.Grammar.{grammar, Gives};
 ghost use Rattle.s3a_words.specs.Words.{is_plain};
 
 use clap::error::ErrorKind;

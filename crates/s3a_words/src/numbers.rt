@@ -1,5 +1,6 @@
 ghost use Rattle.std.specs.Prelude.{◌≡◌, IfOk};
-ghost use Rattle.s3a_words.specs.Numbers.{number_in, WritesDecimals, minimum_in, number_within};
+ghost use Rattle.s3a_words.specs.Numbers.{number_in, minimum_in, number_within};
+ghost use Rattle.s3a_words.specs.inner.Numbers.{WritesDecimals};
 
 use s3_types::MOST_MINIMUM;
 use std::alloc::{AllocError, Global};

@@ -1,7 +1,7 @@
 ghost use Rattle.std.specs.Prelude.{◌≡◌, Some, None, IfOk};
 ghost use Rattle.std.specs.List.{list_all};
 ghost use Rattle.s3a_words.specs.Words.{is_plain, path_named, alone, with_path, with_operand, with_paths, with_two, made, with_three, said, command_of, IsBounded, Reads};
-ghost use Rattle.s3a_words.specs.Grammar.{given};
+ghost use Rattle.s3a_words.specs.inner.Grammar.{given};
 
 use crate::command::{Command, WordFault};
 use crate::grammar::{as_texts, matches_in};

@@ -22,7 +22,8 @@ use Rattle.script_steps.proofs.PastMore.{event_at}
 use Rattle.script_steps.proofs.RunningAlong.{ActorAt, Along, actor_dies, actor_ends, at_of, attempt_sent, busy_at, driver_sent, set_up}
 use Rattle.script_steps.proofs.RunningAlong.{state_so, strays_on, told_known}
 use Rattle.script_steps.proofs.RunningNumbers.{begun_at, begun_next, unbegun}
-use Rattle.script_steps.proofs.RunningStages.{Begun, begins_so, driver_restarts, may_end, memory_dies, restarted_new, still_begun, with_event}
+use Rattle.script_steps.proofs.RunningStages.{Begun, begins_so, driver_restarts, may_end, memory_dies, restarted_new, still_begun}
+use Rattle.script_steps.proofs.RunningStages.{with_event}
 use Rattle.script_steps.proofs.RunningSteps.{begins, still}
 use Rattle.script_steps.specs.Running.{Ahead, IsRun, operation_of}
 use Rattle.script_steps.specs.Transitions.{Closes, Finishes, MayClose, MayFinish, MayOpen, MaySend, Opens, Play, Reachable, Refuses, Sends}

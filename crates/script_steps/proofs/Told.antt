@@ -24,7 +24,8 @@ use Rattle.script_steps.proofs.Parts.{honest_last, own_own, rising_last, since_l
 use Rattle.script_steps.proofs.Parts.{until_late, up_to_last, up_to_more, up_to_part}
 use Rattle.script_steps.proofs.PastMore.{Begins, Starts, after_is, busy_is, busy_not, ended_idle, ends_more, fine_begins, opening_counts}
 use Rattle.script_steps.proofs.PastMore.{past_more, turns_refused}
-use Rattle.script_steps.specs.Transitions.{Closes, Finishes, MayClose, MayFinish, MayOpen, MaySend, MayStray, Opens, Play, Reachable, Refuses}
+use Rattle.script_steps.specs.Transitions.{Closes, Finishes, MayClose, MayFinish, MayOpen, MaySend, MayStray, Opens, Play, Reachable}
+use Rattle.script_steps.specs.Transitions.{Refuses}
 use Rattle.script_steps.specs.Transitions.{Sends, Strays, begin_running, begun, happen, happens, hear, knows_now, nothing_happened}
 use Rattle.script_steps.specs.Transitions.{nothing_played, open_running}
 use Rattle.retries.proofs.Runs.{follows_more, run_more}

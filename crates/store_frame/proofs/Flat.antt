@@ -1,7 +1,8 @@
 -- A listing without a delimiter has the existing keys, in order.
 use Rattle.text_and_lists.proofs.Bools.{contrary}
 use Rattle.text_and_lists.proofs.Less.{irrefl, lt, lt_trans}
-use Rattle.text_and_lists.proofs.Members.{false_true, filter_in, in_filter, in_map, map_in, none_some, some_is, text_exact, text_false, text_true}
+use Rattle.text_and_lists.proofs.Members.{false_true, filter_in, in_filter, in_map, map_in, none_some, some_is, text_exact, text_false}
+use Rattle.text_and_lists.proofs.Members.{text_true}
 use Rattle.text_and_lists.proofs.Members.{true_or_false}
 use Rattle.text_and_lists.proofs.Tree.{map_sorted, tied}
 use Rattle.text_and_lists.specs.Members.{IsIn, RisesFrom, last_from}

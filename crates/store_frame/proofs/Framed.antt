@@ -1,5 +1,6 @@
 -- A request changes only the keys, the upload and the paths that it names, and the ids that it uses.
-use Rattle.text_and_lists.proofs.Members.{nat_gone, nat_left, nat_other, none_some, same_or_not, same_or_other, text_here, text_left, text_other}
+use Rattle.text_and_lists.proofs.Members.{nat_gone, nat_left, nat_other, none_some, same_or_not, same_or_other, text_here, text_left}
+use Rattle.text_and_lists.proofs.Members.{text_other}
 use Rattle.text_and_lists.proofs.Naturals.{next_most}
 use Rattle.text_and_lists.specs.Members.{IsIn}
 use Rattle.s3_types.specs.Answer.{aborted, apply, apply_at, apply_in, bucket_of, completed, copied, draws, made, part_put, renamed, without}

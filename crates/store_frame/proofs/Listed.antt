@@ -21,7 +21,7 @@ use Rattle.std.specs.Ordering.{is_eq, is_gt, is_lt}
 use Rattle.std.specs.declared.cmp.Ordering.TheVariants.{Equal, Greater, Less}
 use Rattle.store_frame.proofs.Prefix.{le_le, lt, lt_not}
 use Rattle.store_frame.proofs.Walked.{stems, text_le}
-use Rattle.store_frame.specs.Walk.{text_by, text_of, walked}
+use Rattle.store_frame.specs.inner.Walk.{text_by, text_of, walked}
 
 -- The entries with texts greater than that of the entry before them, or than a for the first.
 abbrev given : List ℕ → List PageEntry → List PageEntry

@@ -19,7 +19,7 @@ use Rattle.std.specs.declared.cmp.Ordering.TheVariants.{Less}
 use Rattle.std.specs.declared.ops.Bound.TheVariants.{Unbounded}
 use Rattle.store_frame.proofs.Prefix.{before_next, le_le, lt, lt_not, up_to_next}
 use Rattle.store_frame.proofs.Stem.{stem_below, stem_prefix, stem_same}
-use Rattle.store_frame.specs.Walk.{ComesNext, start, start_by, text_by, text_of, walked}
+use Rattle.store_frame.specs.inner.Walk.{ComesNext, start, start_by, text_by, text_of, walked}
 
 -- ---- how a key's text compares
 

@@ -1,4 +1,4 @@
 pub mod Held
 pub mod Frame
-pub mod Walk
 pub mod PageLaws
+pub mod inner

@@ -1,8 +1,8 @@
 -- The numbers and places of faults, and what a call returned, compared with what reading gives.
-use Rattle.std.specs.Prelude.{ℕ, Bool, true, false, Result}
-use Rattle.text_and_lists.specs.Reading as reading
+use Rattle.std.specs.Prelude.{Bool, Result, false, true, ℕ}
 use Rattle.store_image.specs.declared.fault.ImageFault.{ImageFault}
-use Rattle.store_image.specs.declared.fault.ImageFault.TheVariants.{BadHead, Short, BadOrder, BadName, CounterTooHigh, Trailing, NoMemory}
+use Rattle.store_image.specs.declared.fault.ImageFault.TheVariants.{BadHead, BadName, BadOrder, CounterTooHigh, NoMemory, Short, Trailing}
+use Rattle.text_and_lists.specs.Reading as reading
 
 -- The number of a fault.
 abbrev pub number_of : ImageFault → ℕ
@@ -26,10 +26,6 @@ place_in _ = 0
 abbrev pub wanting : ImageFault → Bool
 wanting NoMemory = true
 wanting fault = false
-
--- The call's result, seen by `view`, is what reading gives, unless memory ran out.
-abbrev pub GivesBy : {A B : Type 0} → (A → B) → Result A ImageFault → Result B ImageFault → Type 0
-GivesBy view result read = reading.GivesBy wanting view result read
 
 -- The call's result is what reading gives, unless memory ran out.
 abbrev pub Gives : {A : Type 0} → Result A ImageFault → Result A ImageFault → Type 0

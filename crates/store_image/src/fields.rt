@@ -5,7 +5,7 @@ ghost use Rattle.std.specs.Ordering.{nat_cmp};
 ghost use Rattle.text_and_lists.specs.Order.{text_cmp};
 ghost use Rattle.s3_types.specs.Names.{is_bucket, is_key};
 ghost use Rattle.s3_types.specs.Multipart.{is_part_number};
-ghost use Rattle.store_image.specs.Fault.{GivesBy};
+ghost use Rattle.store_image.specs.inner.Fault.{GivesBy};
 ghost use Rattle.store_image.specs.Content.{is_minimum, is_counter, is_id};
 ghost use Rattle.store_image.specs.Reading.{place, bytes_at, number_at, block_at, is_after, name_at, id_at, part_number_at, object_at, head_at, header_in};
 

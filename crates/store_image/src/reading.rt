@@ -10,7 +10,8 @@ ghost use Rattle.s3_types.specs.Answer.{part_put};
 ghost use Rattle.s3_service.specs.Ids.{IsFresh};
 ghost use Rattle.store_image.specs.Image.{image};
 ghost use Rattle.store_image.specs.Content.{IsContent};
-ghost use Rattle.store_image.specs.Fault.{Gives, GivesBy};
+ghost use Rattle.store_image.specs.Fault.{Gives};
+ghost use Rattle.store_image.specs.inner.Fault.{GivesBy};
 ghost use Rattle.store_image.specs.Reading.{block_at, name_at, id_at, part_number_at, map_at, object_at, upload_at, bucket_at, store_at, content_in};
 
 use crate::fault::ImageFault;

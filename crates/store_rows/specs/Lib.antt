@@ -1,1 +1,1 @@
-pub mod Lake
+pub mod inner

@@ -1,6 +1,6 @@
 ghost use Rattle.std.specs.Prelude.{◌≡◌, IfOk, OnOk};
 ghost use Rattle.s3_types.specs.Store.{new_content};
-ghost use Rattle.store_rows.specs.Lake.{lake, lake_content};
+ghost use Rattle.store_rows.specs.inner.Lake.{lake, lake_content};
 
 use multipart::Uploads;
 use object_store::Objects;

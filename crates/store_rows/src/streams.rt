@@ -1,7 +1,7 @@
 ghost use Rattle.std.specs.Prelude.{◌≡◌, Bool, false, IfOk, OnOk};
 ghost use Rattle.s3_types.specs.Store.{Scene};
 ghost use Rattle.block_stream.specs.Holds.{IsReady};
-ghost use Rattle.store_rows.specs.Lake.{lake};
+ghost use Rattle.store_rows.specs.inner.Lake.{lake};
 
 use crate::lake::{BLOCK, new_store};
 use crate::streams_shown::show_driven;

@@ -30,8 +30,10 @@ use Rattle.std.proofs.lemmas.Option.{slice_get-get_or, slice_get_past, slice_get
 use Rattle.std.specs.Cmp.Lexicographic.{bytes_decides}
 use Rattle.task_operation.specs.Commits.{FitsCommit}
 use Rattle.task_magic.proofs.Listed.{missing_by}
-use Rattle.task_magic.specs.Committing.{AreRecords, HoldsCommit, commit_by, commit_of, is_no_key, known_if, least_unseen, publishes}
-use Rattle.task_magic.specs.Committing.{record_of, seen_in, with_sent}
+use Rattle.task_magic.specs.Committing.{AreRecords, HoldsCommit, commit_by, commit_of}
+use Rattle.task_magic.specs.inner.Committing.{is_no_key, known_if, least_unseen, publishes}
+use Rattle.task_magic.specs.Committing.{record_of}
+use Rattle.task_magic.specs.inner.Committing.{seen_in, with_sent}
 use Rattle.task_magic.specs.declared.committing.Committing.{Committing}
 use Rattle.task_requests.proofs.Told.{own_files}
 use Rattle.task_requests.specs.Publishing.{AreReady, FitsRecord, IsPending, are_places, drawn_of, picked}

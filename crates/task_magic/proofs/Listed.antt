@@ -26,8 +26,9 @@ use Rattle.std.specs.Cmp.Lexicographic.{bytes_decides}
 use Rattle.std.specs.List.{AllByRecursion, IsDistinct, filter, list_any, position}
 use Rattle.std.specs.Map.{keys_of, lookup}
 use Rattle.std.specs.Prelude.{IfSome, is_some, slice_set}
-use Rattle.task_magic.specs.Committing.{AreRecords, IsPlaceOf, IsRecordAt, is_at, least_unseen, places_in, record_of, records_in, seen_in}
-use Rattle.task_magic.specs.Committing.{set_at}
+use Rattle.task_magic.specs.Committing.{AreRecords, record_of}
+use Rattle.task_magic.specs.inner.Committing.{IsPlaceOf, IsRecordAt, is_at, least_unseen, places_in, records_in, seen_in}
+use Rattle.task_magic.specs.inner.Committing.{set_at}
 use Rattle.task_requests.proofs.Told.{own_files}
 use Rattle.task_requests.specs.Publishing.{are_places, picked}
 use Rattle.job_model.specs.declared.ends.TaskEnd.TheVariants as ends

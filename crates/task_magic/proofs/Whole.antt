@@ -14,7 +14,7 @@ use Rattle.std.proofs.Common.{Bool, List, None, Option, Some, ap, arith, codes, 
 use Rattle.std.proofs.Common.{◌++◌, ◌<◌, ◌∙◌, ◌∷◌, ◌≡◌}
 use Rattle.std.proofs.lemmas.Bool.{false≢true}
 use Rattle.std.specs.Prelude.{IsSome}
-use Rattle.task_magic.specs.Writing.{done_if_none}
+use Rattle.task_magic.specs.inner.Writing.{done_if_none}
 use Rattle.task_requests.proofs.Told.{next_files, no_set, own_files, same_known}
 use Rattle.task_requests.specs.Writing.{IsOpen, at_parts, at_stage, seen_write, write_by, write_fits}
 use Rattle.task_requests.specs.declared.stage.WriteStage.{WriteStage}

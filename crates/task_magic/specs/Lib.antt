@@ -1,3 +1,4 @@
 pub mod Writing
 pub mod Undoing
 pub mod Committing
+pub mod inner

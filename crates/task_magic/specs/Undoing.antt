@@ -5,9 +5,8 @@ use Rattle.job_model.specs.declared.ends.TaskEnd.{TaskEnd}
 use Rattle.job_protocol.specs.Knowledge.{as_made}
 use Rattle.job_protocol.specs.TaskAborts.{Dropping, Sweeping, TaskAbort, TaskAbortOver}
 use Rattle.list_walk.specs.Walks.{Sweep}
-use Rattle.std.specs.Prelude.{Bool, List, None, Option, Some, drop, if◌then◌else◌, ℕ, [], ◌∷◌}
+use Rattle.std.specs.Prelude.{Bool, List, None, Option, Some, drop, ℕ, [], ◌∷◌}
 use Rattle.task_magic.specs.declared.undoing.Undoing.{Undoing}
-use Rattle.job_model.specs.declared.ends.TaskEnd.TheVariants as ends
 
 -- ---- how far an abort has come
 
@@ -24,7 +23,3 @@ abort_by k at s (Some end) = TaskAbortOver end
 -- The task abort that the kept values represent.
 abbrev pub abort_of : Task → Undoing → TaskAbort
 abort_of t h = abort_by t.known h.at h.sweep h.end
-
--- Kept if the attempt has sent its publishing request, else None.
-abbrev pub kept_if : Bool → Option TaskEnd
-kept_if b = if b then Some ends.Kept else None

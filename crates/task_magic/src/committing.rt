@@ -6,7 +6,8 @@ ghost use Rattle.list_walk.specs.Walks.{page_after, keys_on};
 ghost use Rattle.job_protocol.specs.TaskCommits.{attempt_prefix, Looking, reading, task_commit_asks, task_commit_hears};
 ghost use Rattle.task_requests.specs.Publishing.{picked};
 ghost use Rattle.task_operation.specs.Commits.{FitsCommit};
-ghost use Rattle.task_magic.specs.Committing.{HoldsCommit, commit_of, IsListed, Keeps, is_no_key, publishes, with_sent};
+ghost use Rattle.task_magic.specs.Committing.{HoldsCommit, commit_of, Keeps};
+ghost use Rattle.task_magic.specs.inner.Committing.{IsListed, is_no_key, publishes, with_sent};
 
 use crate::listing::{Listed, files_of_keys, missing, record_at};
 use crate::stepping::name_of;

@@ -1,7 +1,8 @@
 ghost use Rattle.std.specs.Prelude.{◌≡◌, ◌<◌, ℕ, List, ◌++◌, codes, length, map, get_or, [], true, false, replicate, IfOk, OnOk, IfSome, MatchOption, option_map};
 ghost use Rattle.job_protocol.specs.AtWork.{task_script, who_of};
 ghost use Rattle.job_protocol.specs.TaskCommits.{attempt_prefix, least_of};
-ghost use Rattle.task_magic.specs.Committing.{record_of, IsListed, IsRecordAt, IsPlaceOf, places_in, records_in, set_at, least_unseen};
+ghost use Rattle.task_magic.specs.Committing.{record_of};
+ghost use Rattle.task_magic.specs.inner.Committing.{IsListed, IsRecordAt, IsPlaceOf, places_in, records_in, set_at, least_unseen};
 
 use crate::stepping::name_of;
 use job_model::{TaskEnd, TaskPlan};

@@ -4,7 +4,8 @@ ghost use Rattle.s3_types.specs.declared.reply.Refusal.TheVariants.{NoSuchUpload
 ghost use Rattle.s3_types.specs.Tags.{is_plain_tag};
 ghost use Rattle.retries.specs.Retries.{Got};
 ghost use Rattle.job_protocol.specs.AtWork.{write_told};
-ghost use Rattle.task_requests.specs.Writing.{dir_of, is_new, Holds, IsWrite, seen_write, write_fits, ended_by};
+ghost use Rattle.task_requests.specs.Writing.{dir_of, is_new, Holds, IsWrite, seen_write, write_fits};
+ghost use Rattle.task_requests.specs.inner.Writing.{ended_by};
 
 use job_model::{TaskEnd, TaskPlan};
 use path_keys::S3Path;

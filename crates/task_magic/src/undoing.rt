@@ -5,7 +5,8 @@ ghost use Rattle.list_walk.specs.Walks.{sweep_asks};
 ghost use Rattle.job_protocol.specs.TaskCommits.{attempt_prefix};
 ghost use Rattle.job_protocol.specs.TaskAborts.{task_abort_hears};
 ghost use Rattle.task_operation.specs.Aborts.{FitsAbort};
-ghost use Rattle.task_magic.specs.Undoing.{abort_of, kept_if};
+ghost use Rattle.task_magic.specs.Undoing.{abort_of};
+ghost use Rattle.task_magic.specs.inner.Undoing.{kept_if};
 
 use job_model::{TaskEnd, TaskPlan};
 use list_walk::{AllKeys, Sweep};

@@ -1,6 +1,7 @@
 ghost use Rattle.std.specs.Prelude.{◌≡◌, Some};
 ghost use Rattle.s3_types.specs.declared.request.Committer.TheVariants.{Magic};
-ghost use Rattle.task_magic.specs.Writing.{Keeps, done_if_none, operation_of};
+ghost use Rattle.task_magic.specs.Writing.{Keeps, operation_of};
+ghost use Rattle.task_magic.specs.inner.Writing.{done_if_none};
 
 use crate::stepping::{Turned, advance};
 use job_model::{TaskEnd, TaskPlan};

@@ -17,7 +17,8 @@ use Rattle.std.proofs.Common.{slice_get, subst, suc, sym, take, true, zero, ℕ,
 use Rattle.std.proofs.lemmas.List.{map-append, reverse-append, reverse-reverse, take_more}
 use Rattle.std.proofs.lemmas.Option.{get_or_from_slice_get, same_Some}
 use Rattle.task_requests.proofs.InOrder.{made_reverse}
-use Rattle.task_requests.specs.Publishing.{AreReady, IsLastAt, IsPending, drawn_of, picked, records_of}
+use Rattle.task_requests.specs.Publishing.{AreReady, IsPending, drawn_of, picked}
+use Rattle.task_requests.specs.inner.Publishing.{IsLastAt, records_of}
 use Rattle.magic_paths.specs.Layout as layout
 
 get_end : (xs : List Drawn) (d : Drawn) → slice_get (xs ++ d ∷ []) (length xs) ≡ Some d

@@ -27,7 +27,8 @@ use Rattle.std.specs.List.{list_all}
 use Rattle.std.specs.Prelude.{IfOk, option_map}
 use Rattle.task_requests.proofs.Told.{created, front_is, has_more, marked, none_left, part_gone, part_sent, recorded, seen_at, take_next}
 use Rattle.task_requests.specs.Writing.{FitsCreate, FitsPart, HasSent, Holds, HoldsAt, IsBehind, IsWrite, asks_behind, at_parts, dir_of}
-use Rattle.task_requests.specs.Writing.{ended_by, is_new, next_stage, part_behind, parts_in, seen_write, size_of, tag_in, upload_in}
+use Rattle.task_requests.specs.Writing.{is_new, next_stage, part_behind, parts_in, seen_write, size_of, tag_in, upload_in}
+use Rattle.task_requests.specs.inner.Writing.{ended_by}
 use Rattle.task_requests.specs.Writing.{with_drawn, with_tag, write_fits}
 use Rattle.task_requests.specs.declared.stage.WriteStage.{WriteStage}
 use Rattle.job_model.specs.declared.ends.TaskEnd.TheVariants as ends

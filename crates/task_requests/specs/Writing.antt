@@ -218,8 +218,3 @@ abbrev pub asks_behind : Task → File → WriteStage → Request
 asks_behind t f (stage.Sending n) = UploadPart t.job.dest.bucket (file_key (task_script t) f) (drawn_last t.known).upload (n + 1)
     (part_behind t f.1 n)
 asks_behind t f _ = PutObject t.job.dest.bucket (marker_key (task_script t) (who_of t) f) [] (Some (length f.1))
-
--- The end of a write that has no next request: Done.
-abbrev pub ended_by : Option Request → Option TaskEnd
-ended_by (Some r) = None
-ended_by None = Some ends.Done

@@ -5,7 +5,8 @@ ghost use Rattle.job_protocol.specs.AtWork.{task_script, who_of, task_commit_wan
 ghost use Rattle.job_protocol.specs.Knowledge.{as_made};
 ghost use Rattle.job_protocol.specs.Records.{file_record, set_text};
 ghost use Rattle.job_protocol.specs.TaskCommits.{Publishing, task_commit_asks};
-ghost use Rattle.task_requests.specs.Publishing.{picked, are_places, AreReady, IsPending, drawn_of, IsLastAt};
+ghost use Rattle.task_requests.specs.Publishing.{picked, are_places, AreReady, IsPending, drawn_of};
+ghost use Rattle.task_requests.specs.inner.Publishing.{IsLastAt};
 
 use crate::drawn::{made, made_at};
 use crate::names::{bucket_of, file_at, job_of, target};

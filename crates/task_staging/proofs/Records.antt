@@ -15,10 +15,12 @@ use Rattle.std.proofs.Common.{◌++◌, ◌+◌, ◌<◌, ◌∙◌, ◌∷◌, 
 use Rattle.std.proofs.lemmas.List.{map-append, take_more}
 use Rattle.std.specs.Cmp.Lexicographic.{bytes_decides}
 use Rattle.task_requests.proofs.Steps.{record_sizes, record_tags}
-use Rattle.task_requests.specs.Publishing.{drawn_of, records_of}
+use Rattle.task_requests.specs.Publishing.{drawn_of}
+use Rattle.task_requests.specs.inner.Publishing.{records_of}
 use Rattle.task_requests.specs.Writing.{HasSent, one_more, parts_in, with_drawn, with_tag}
 use Rattle.task_staging.proofs.FilesApart.{AreOthers, others_before}
-use Rattle.task_staging.specs.Staging.{IsLastPart, IsOfKey, set_of}
+use Rattle.task_staging.specs.Staging.{IsOfKey, set_of}
+use Rattle.task_staging.specs.inner.Staging.{IsLastPart}
 
 -- ---- an upload was created
 

@@ -40,8 +40,10 @@ use Rattle.task_requests.specs.Writing.{parts_in, size_of, tag_in, upload_in, wi
 use Rattle.task_requests.specs.declared.stage.WriteStage.{WriteStage}
 use Rattle.task_staging.proofs.FilesApart.{all_taken, front_at}
 use Rattle.task_staging.proofs.Records.{first_known, set_closed, set_drawn, set_sent}
-use Rattle.task_staging.specs.Staging.{HoldsSet, HoldsAt, HoldsSent, IsLastPart, IsOfKey, KeepsBy, next_asks, opening, sending_at}
-use Rattle.task_staging.specs.Staging.{sending_from, set_of, staged_at, staged_by, text_of, worn_known}
+use Rattle.task_staging.specs.Staging.{HoldsAt, HoldsSent, HoldsSet, IsOfKey, KeepsBy, opening, sending_at}
+use Rattle.task_staging.specs.inner.Staging.{IsLastPart, next_asks}
+use Rattle.task_staging.specs.Staging.{sending_from, set_of, staged_at, staged_by}
+use Rattle.task_staging.specs.inner.Staging.{text_of, worn_known}
 use Rattle.task_staging.specs.declared.staging.StagingStage.{StagingStage}
 use Rattle.task_staging.specs.declared.staging.Staging.{Staging}
 use Rattle.job_model.specs.declared.ends.TaskEnd.TheVariants as ends
@@ -98,7 +100,8 @@ pub record IsSent (t : Task) (place n : ℕ) : Type 0 where
   pub sent : HasSent t.known.drawn (take n (parts_in t (file_at t place)))
   pub key : IsOfKey (file_key (task_script t) (file_at t place)) t.known.drawn
 
-pub is_sent : (t : Task) (s : StagingStage) (ds : List (List ℕ)) (place n : ℕ) → HoldsAt t s ds place → s ≡ stages.Sending n → IsSent t place n
+pub is_sent : (t : Task) (s : StagingStage) (ds : List (List ℕ)) (place n : ℕ) → HoldsAt t s ds place → s ≡ stages.Sending n
+    → IsSent t place n
 is_sent t s ds place n h i = by (drop place t.files) refl (subst (λ x. HoldsAt t x ds place) i h).1
   where
     by : (l : List File) → drop place t.files ≡ l → HoldsSent (task_script t) t.minimum t.known n (drop place t.files) → IsSent t place n
@@ -174,7 +177,8 @@ check_told : (t : Task) (d : List ℕ) (ds : List (List ℕ)) (fs : List File) (
     (at t (opening (d ∷ ds) fs)) (Got r b)
 check_told t d ds fs r b = ap (at t) (sym (checks_tell.goes (task_script t) t.minimum (who_of t) d ds r b))
 
-some_partition : (t : Task) (s : StagingStage) (ds : List (List ℕ)) (place : ℕ) → s ≡ stages.Opening → is_none ds ≡ false → HoldsAt t s ds place
+some_partition : (t : Task) (s : StagingStage) (ds : List (List ℕ)) (place : ℕ) → s ≡ stages.Opening → is_none ds ≡ false
+    → HoldsAt t s ds place
     → place ≡ 0
 some_partition t s ds place h g e = grind arith
 
@@ -502,7 +506,8 @@ record_at t place size tag f d h g = grind (arith, file_is, first_known)
 
 -- ---- the last part of a file
 
-pub is_last : (t : Task) (s : StagingStage) (ds : List (List ℕ)) (place n : ℕ) (end : Option TaskEnd) → end ≡ None → (i : s ≡ stages.Sending n)
+pub is_last : (t : Task) (s : StagingStage) (ds : List (List ℕ)) (place n : ℕ) (end : Option TaskEnd) → end ≡ None
+    → (i : s ≡ stages.Sending n)
     → (hold : HoldsAt t s ds place) → (tag : Spelled) (size : ℕ) → size ≡ length (part_behind t (file_at t place).1 n)
     → is_plain_tag tag ≡ true
     → length (parts_in t (file_at t place)) ≤ n + 1 → IsLastPart t place tag size

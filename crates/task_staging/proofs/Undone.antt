@@ -14,7 +14,8 @@ use Rattle.std.proofs.Common.{Bool, None, Option, Some, ap, arith, drop, false, 
 use Rattle.std.proofs.Common.{◌≡◌}
 use Rattle.std.proofs.lemmas.List.{drop_all}
 use Rattle.std.specs.Prelude.{if◌then◌else◌}
-use Rattle.task_staging.specs.Undoing.{abort_by, abort_from, done_at, end_at}
+use Rattle.task_staging.specs.Undoing.{abort_by, abort_from}
+use Rattle.task_staging.specs.inner.Undoing.{done_at, end_at}
 use Rattle.job_model.specs.declared.ends.TaskEnd.TheVariants as ends
 
 -- The abort after its last upload was aborted.

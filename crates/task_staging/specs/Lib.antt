@@ -1,2 +1,3 @@
 pub mod Undoing
 pub mod Staging
+pub mod inner

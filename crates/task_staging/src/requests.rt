@@ -6,7 +6,7 @@ ghost use Rattle.job_protocol.specs.TaskCommits.{temporary_path};
 ghost use Rattle.conflict.specs.Checks.{check_asks};
 ghost use Rattle.task_requests.specs.Writing.{asks_behind, parts_in, IsBehind};
 ghost use Rattle.task_requests.specs.declared.stage.WriteStage.TheVariants as write_stages;
-ghost use Rattle.task_staging.specs.Staging.{next_asks, text_of};
+ghost use Rattle.task_staging.specs.inner.Staging.{next_asks, text_of};
 
 use conflict::CheckAbsent;
 use job_model::TaskPlan;

@@ -10,7 +10,8 @@ ghost use Rattle.conflict.specs.Checks.{is_none};
 ghost use Rattle.s3_types.specs.declared.reply.Reply.TheVariants.{Part};
 ghost use Rattle.task_requests.specs.Writing.{next_stage, one_more, part_behind, parts_in};
 ghost use Rattle.task_operation.specs.Commits.{commit_fits};
-ghost use Rattle.task_staging.specs.Staging.{commit_of, seen, Keeps, IsAt, CameBack, Heard, IsLastPart, is_no_file, stores, worn_known};
+ghost use Rattle.task_staging.specs.Staging.{commit_of, Keeps};
+ghost use Rattle.task_staging.specs.inner.Staging.{seen, IsAt, CameBack, Heard, IsLastPart, is_no_file, stores, worn_known};
 
 use crate::opening::to_check;
 use crate::requests::{check_request, next_request, part_request, rename_request, temporary};

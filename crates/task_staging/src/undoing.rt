@@ -4,7 +4,8 @@ ghost use Rattle.job_protocol.specs.AtWork.{task_script, who_of};
 ghost use Rattle.job_protocol.specs.TaskCommits.{temporary_path};
 ghost use Rattle.job_protocol.specs.TaskAborts.{task_abort_hears};
 ghost use Rattle.s3_types.specs.declared.request.Committer.TheVariants.{Magic};
-ghost use Rattle.task_staging.specs.Undoing.{abort_of, done_at, end_at};
+ghost use Rattle.task_staging.specs.Undoing.{abort_of};
+ghost use Rattle.task_staging.specs.inner.Undoing.{done_at, end_at};
 
 use crate::requests::temporary;
 use job_model::{TaskEnd, TaskPlan};

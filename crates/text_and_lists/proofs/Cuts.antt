@@ -2,7 +2,8 @@
 use Rattle.text_and_lists.proofs.Lists.{last_is}
 use Rattle.text_and_lists.proofs.Pieces.{others_from_bytes}
 use Rattle.text_and_lists.proofs.Split.{first_from, last_line}
-use Rattle.text_and_lists.specs.Lines.{is_inside, lines_of, without_return}
+use Rattle.text_and_lists.specs.Lines.{lines_of, without_return}
+use Rattle.text_and_lists.specs.inner.Lines.{is_inside}
 use Rattle.text_and_lists.specs.Parts.{is_other}
 use Rattle.std.proofs.Common.{Bool, List, ap, arith, drop, false, get_or, length, refl, suc, sym, take, true, ℕ, [], ◌++◌, ◌-◌, ◌<◌, ◌==◌}
 use Rattle.std.proofs.Common.{◌∙◌, ◌∷◌, ◌≡◌, ◌≢◌}

@@ -2,10 +2,12 @@
 use Rattle.text_and_lists.proofs.Bools.{not_so}
 use Rattle.text_and_lists.proofs.Lists.{weaker}
 use Rattle.text_and_lists.proofs.Split.{first_from, lone_from, part_from}
-use Rattle.text_and_lists.specs.Lines.{is_inside, lines_from, lines_of, without_return}
+use Rattle.text_and_lists.specs.Lines.{lines_from, lines_of, without_return}
+use Rattle.text_and_lists.specs.inner.Lines.{is_inside}
 use Rattle.text_and_lists.specs.Numbers.{digits_from, is_digit, number_in, number_of}
 use Rattle.text_and_lists.specs.Parts.{is_other, parts_of}
-use Rattle.text_and_lists.specs.Words.{IsBare, IsLine, IsWord, ended, is_bare, is_plain, joined, text_of, words_of}
+use Rattle.text_and_lists.specs.Words.{IsBare, ended, is_bare, joined, text_of, words_of}
+use Rattle.text_and_lists.specs.inner.Words.{IsLine, IsWord, is_plain}
 use Rattle.std.proofs.Common.{Bool, List, Some, ap, append_assoc, arith, cond, decimal, false, get_or, length, lit<, map, not, refl, suc}
 use Rattle.std.proofs.Common.{true, zero, ℕ, [], ◌&&◌, ◌*◌, ◌++◌, ◌+◌, ◌-◌, ◌<◌, ◌==◌, ◌^◌, ◌∙◌, ◌∷◌, ◌≡◌, ◌≤◌}
 use Rattle.std.proofs.lemmas.Bool.{and_parts, le-leb, leb-true}

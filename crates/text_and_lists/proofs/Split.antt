@@ -1,6 +1,7 @@
 -- The first part of a text and the first line of some bytes, found from the front.
 use Rattle.text_and_lists.proofs.Bools.{not_so}
-use Rattle.text_and_lists.specs.Lines.{is_inside, lines_from, lines_of, unless_empty, without_return}
+use Rattle.text_and_lists.specs.Lines.{lines_from, lines_of, unless_empty, without_return}
+use Rattle.text_and_lists.specs.inner.Lines.{is_inside}
 use Rattle.text_and_lists.specs.Parts.{is_other, parts_from, parts_of}
 use Rattle.std.proofs.Common.{Bool, List, ap, append_assoc, arith, drop, eq-eqb, false, get_or, length, refl, subst, suc, sym, take, true}
 use Rattle.std.proofs.Common.{ℕ, [], ◌++◌, ◌<◌, ◌==◌, ◌∙◌, ◌∷◌, ◌≡◌}

@@ -6,3 +6,4 @@ pub mod Lines
 pub mod Numbers
 pub mod Words
 pub mod Shapes
+pub mod inner

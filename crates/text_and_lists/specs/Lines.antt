@@ -1,5 +1,5 @@
 -- The lines of a text.
-use Rattle.std.specs.Prelude.{ℕ, ◌-◌, ◌==◌, ◌&&◌, nat_lt, not, take, slice_index, List, [], ◌∷◌, ◌++◌, length, Bool, if◌then◌else◌}
+use Rattle.std.specs.Prelude.{List, if◌then◌else◌, length, nat_lt, slice_index, take, ℕ, [], ◌&&◌, ◌++◌, ◌-◌, ◌==◌, ◌∷◌}
 
 -- The line without one CR at its end.
 abbrev pub without_return : List ℕ → List ℕ
@@ -18,7 +18,3 @@ lines_from line (x ∷ xs) = if x == 10 then without_return line ∷ lines_from 
 -- The lines of a text.
 abbrev pub lines_of : List ℕ → List (List ℕ)
 lines_of bytes = lines_from [] bytes
-
--- True if the byte is no LF.
-abbrev pub is_inside : ℕ → Bool
-is_inside b = not (b == 10)

@@ -1,6 +1,6 @@
 -- Reading that ends at the first fault, and what a call returned, compared with what reading gives. Faults are of any type F. `wanting` is
 -- true of the faults which say that memory ran out; these may come at any place.
-use Rattle.std.specs.Prelude.{◌≡◌, ℕ, ⊤, Bool, true, false, List, Option, Some, None, Result, Ok, Err, if◌then◌else◌}
+use Rattle.std.specs.Prelude.{Bool, Err, List, None, Ok, Option, Result, Some, false, if◌then◌else◌, true, ℕ, ⊤, ◌≡◌}
 
 -- Passes the value of the first step to the second, or ends with the fault.
 infixl 10 ◌>>=◌
@@ -53,7 +53,3 @@ GivesBy wanting view (Err fault) read = Fails wanting fault read
 -- The call's result is what reading gives, unless memory ran out.
 abbrev pub Gives : {F A : Type 0} → (F → Bool) → Result A F → Result A F → Type 0
 Gives wanting result read = GivesBy wanting (λ x. x) result read
-
--- The call changed its argument to what reading gives, unless memory ran out.
-abbrev pub Makes : {F A : Type 0} → (F → Bool) → Result ⊤ F → A → Result A F → Type 0
-Makes wanting result new read = GivesBy wanting (λ u. new) result read

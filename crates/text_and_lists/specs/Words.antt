@@ -1,7 +1,7 @@
 -- The words of a line, and the text of lines of words.
-use Rattle.text_and_lists.specs.Parts.{parts_after, parts_of}
-use Rattle.std.specs.List.{AllByRecursion, flat_map, list_all}
+use Rattle.std.specs.List.{flat_map, list_all}
 use Rattle.std.specs.Prelude.{Bool, List, Option, not, true, ℕ, [], ◌&&◌, ◌++◌, ◌==◌, ◌∷◌, ◌≡◌}
+use Rattle.text_and_lists.specs.Parts.{parts_after, parts_of}
 
 -- The words of a text: the parts between single blanks.
 abbrev pub words_of : List ℕ → List (List ℕ)
@@ -24,19 +24,6 @@ ended ws = joined ws ++ 10 ∷ []
 -- The text of these lines of words.
 abbrev pub text_of : List (List (List ℕ)) → List ℕ
 text_of ls = flat_map ended ls
-
--- True if the byte is no blank, LF or CR.
-abbrev pub is_plain : ℕ → Bool
-is_plain b = not (b == 32) && (not (b == 10) && not (b == 13))
-
--- A text of such bytes.
-abbrev pub IsWord : List ℕ → Type 0
-IsWord w = list_all is_plain w ≡ true
-
--- A line of one word or more.
-abbrev pub IsLine : List (List ℕ) → Type 0
-IsLine [] = ⊥
-IsLine (w ∷ ws) = IsWord w × AllByRecursion IsWord ws
 
 -- True if the byte is no blank and no LF.
 abbrev pub is_bare : ℕ → Bool

@@ -2,3 +2,4 @@ pub mod Lines
 pub mod Words
 pub mod Requests
 pub mod Members
+pub mod inner

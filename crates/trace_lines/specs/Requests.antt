@@ -1,10 +1,6 @@
 -- The line of one send of a request.
-use Rattle.std.specs.Prelude.{ℕ, Bool, true, false, ◌&&◌, is_none, List, [], ◌∷◌, ◌++◌, length, codes, cond, Option, Some, None, IfSome, ⊤}
-use Rattle.std.specs.Prelude.{◌≡◌, map}
-use Rattle.serde_json.specs.Data.{Data, array, boolean, string}
-use Rattle.serde_json.specs.View.{items_of}
-use Rattle.s3_types.specs.Tags.{Spelled, plain_tag}
 use Rattle.s3_types.specs.Spelling.{actor_text, tag_text}
+use Rattle.s3_types.specs.Tags.{Spelled, plain_tag}
 use Rattle.s3_types.specs.declared.journal.Entry.{Entry}
 use Rattle.s3_types.specs.declared.journal.Outcome.{Outcome}
 use Rattle.s3_types.specs.declared.journal.Outcome.TheVariants.{Answered, ReplyLost}
@@ -13,11 +9,15 @@ use Rattle.s3_types.specs.declared.reply.Reply.{Reply}
 use Rattle.s3_types.specs.declared.reply.Reply.TheVariants.{Page, Part, Refused, Stored, Upload, Uploads}
 use Rattle.s3_types.specs.declared.request.NamedPart.{NamedPart}
 use Rattle.s3_types.specs.declared.request.Request.{Request}
-use Rattle.s3_types.specs.declared.request.Request.TheVariants.{MakeBucket, PutObject, GetObject, HeadObject, DeleteObject, DeleteObjects}
-use Rattle.s3_types.specs.declared.request.Request.TheVariants.{CopyObject, ListPage, CreateUpload, UploadPart, CompleteUpload, AbortUpload}
-use Rattle.s3_types.specs.declared.request.Request.TheVariants.{ListParts, ListUploads, ClusterPut, ClusterRename, ClusterGet}
-use Rattle.s3_types.specs.declared.request.Request.TheVariants.{ClusterDelete, ClusterList}
+use Rattle.s3_types.specs.declared.request.Request.TheVariants.{AbortUpload, ClusterDelete, ClusterGet, ClusterList, ClusterPut}
+use Rattle.s3_types.specs.declared.request.Request.TheVariants.{ClusterRename, CompleteUpload, CopyObject, CreateUpload, DeleteObject}
+use Rattle.s3_types.specs.declared.request.Request.TheVariants.{DeleteObjects, GetObject, HeadObject, ListPage, ListParts, ListUploads}
+use Rattle.s3_types.specs.declared.request.Request.TheVariants.{MakeBucket, PutObject, UploadPart}
 use Rattle.s3_types.specs.declared.request.UploadRef.{UploadRef}
+use Rattle.serde_json.specs.Data.{Data, array, boolean, string}
+use Rattle.serde_json.specs.View.{items_of}
+use Rattle.std.specs.Prelude.{Bool, IfSome, List, None, Option, Some, codes, cond, false, is_none, length, map, true, ℕ, [], ⊤, ◌&&◌, ◌++◌}
+use Rattle.std.specs.Prelude.{◌∷◌, ◌≡◌}
 use Rattle.trace_lines.specs.Lines.{Named, line, object_of, texts, whole}
 use Rattle.trace_lines.specs.Words.{error_code, operation_name, outcome_word}
 
@@ -148,12 +148,6 @@ abbrev pub request_line : ℕ → Entry → Reply → List ℕ
 request_line n e due = line (request_members n e due)
 
 -- ---- the tag of the bytes that were sent
-
--- The bytes of an object or a part that a request sends.
-abbrev pub sent_bytes : Request → Option (List ℕ)
-sent_bytes (PutObject bucket key bytes header) = Some bytes
-sent_bytes (UploadPart bucket key upload n bytes) = Some bytes
-sent_bytes _ = None
 
 -- The tag in the reply to a PutObject.
 abbrev pub stored_tag : Reply → Option Spelled

@@ -4,7 +4,8 @@ ghost use Rattle.s3_types.specs.Spelling.{tag_text};
 ghost use Rattle.s3_types.specs.Tags.{plain_tag};
 ghost use Rattle.trace_lines.specs.Lines.{put_all};
 ghost use Rattle.trace_lines.specs.Members.{members_of};
-ghost use Rattle.trace_lines.specs.Requests.{asked, behind, delimiter, magic_length, payload, place, sent_bytes, upload_place};
+ghost use Rattle.trace_lines.specs.Requests.{asked, behind, delimiter, magic_length, payload, place, upload_place};
+ghost use Rattle.trace_lines.specs.inner.Requests.{sent_bytes};
 
 use crate::line::Line;
 use s3_types::{

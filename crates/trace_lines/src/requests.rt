@@ -3,7 +3,8 @@ ghost use Rattle.s3_types.specs.Spelling.{actor_text, tag_text};
 ghost use Rattle.s3_types.specs.Tags.{plain_tag};
 ghost use Rattle.trace_lines.specs.Lines.{put_all};
 ghost use Rattle.trace_lines.specs.Members.{members_of};
-ghost use Rattle.trace_lines.specs.Requests.{TellsTag, part_tag, request_line, request_members, send_members, sent_bytes, stored_tag};
+ghost use Rattle.trace_lines.specs.Requests.{TellsTag, part_tag, request_line, request_members, send_members, stored_tag};
+ghost use Rattle.trace_lines.specs.inner.Requests.{sent_bytes};
 
 use crate::asked::put_asked;
 use crate::line::Line;

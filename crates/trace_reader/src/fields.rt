@@ -4,7 +4,8 @@ ghost use Rattle.serde_json.specs.Find.{as_bool, as_str, get};
 ghost use Rattle.serde_json.specs.View.{view};
 ghost use Rattle.pending_json.specs.Fields.{as_u32};
 ghost use Rattle.trace_reader.specs.declared.fault.TraceFault.TheVariants.{MissingField};
-ghost use Rattle.trace_reader.specs.Faults.{Gives, GivesBy};
+ghost use Rattle.trace_reader.specs.Faults.{Gives};
+ghost use Rattle.trace_reader.specs.inner.Faults.{GivesBy};
 ghost use Rattle.trace_reader.specs.Reading.{member, name_of};
 
 use crate::fault::{Field, TraceFault};

@@ -2,7 +2,8 @@ ghost use Rattle.std.specs.Prelude.{◌≡◌};
 ghost use Rattle.serde_json.specs.View.{view};
 ghost use Rattle.path_keys.specs.Paths.{path_in};
 ghost use Rattle.trace_reader.specs.declared.fault.Field.TheVariants as field;
-ghost use Rattle.trace_reader.specs.Faults.{Gives, GivesBy};
+ghost use Rattle.trace_reader.specs.Faults.{Gives};
+ghost use Rattle.trace_reader.specs.inner.Faults.{GivesBy};
 ghost use Rattle.trace_reader.specs.Reading.{as_dest, as_file_path, as_keeps, as_task, below_bucket, keeps_of, member, of_kind};
 
 use crate::fault::{Field, TraceFault};

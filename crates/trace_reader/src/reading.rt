@@ -2,7 +2,8 @@ ghost use Rattle.std.specs.Prelude.{◌≡◌};
 ghost use Rattle.text_and_lists.specs.Reading.{need};
 ghost use Rattle.serde_json.specs.View.{view};
 ghost use Rattle.trace_reader.specs.declared.fault.TraceFault.TheVariants.{NotJson};
-ghost use Rattle.trace_reader.specs.Faults.{Gives, GivesBy};
+ghost use Rattle.trace_reader.specs.Faults.{Gives};
+ghost use Rattle.trace_reader.specs.inner.Faults.{GivesBy};
 ghost use Rattle.trace_reader.specs.Reading.{line_in, line_of, said_by, tree_of, turn_in};
 
 use crate::changes::{complete_in, copy_in, delete_all_in, delete_in, put_in};

@@ -18,7 +18,7 @@ use Rattle.trace_lines.proofs.Tagged.{answer_tells}
 use Rattle.trace_lines.specs.Requests.{TellsTag, request_line}
 use Rattle.trace_text.proofs.Due.{none_told}
 use Rattle.trace_text.specs.Sends.{Send, behind_event, commit_line, is_of_commit, is_until, send_lines, sends_from, until_event}
-use Rattle.trace_text.specs.Tapes.{Follows, HasWritten, NoneLostBehind, is_reply_lost, left, reply_known, reply_told}
+use Rattle.trace_text.specs.inner.Tapes.{Follows, HasWritten, NoneLostBehind, is_reply_lost, left, reply_known, reply_told}
 use Rattle.trace_text.specs.declared.tape.Tape.{Tape}
 
 -- ---- the send at a place of a journal

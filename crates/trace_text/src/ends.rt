@@ -4,7 +4,7 @@ ghost use Rattle.job_spec.specs.States.{verdict};
 ghost use Rattle.job_model.specs.Words.{event_text};
 ghost use Rattle.serde_json.specs.Data.{no_members};
 ghost use Rattle.trace_lines.specs.Members.{members_of};
-ghost use Rattle.trace_text.specs.Texts.{text_of};
+ghost use Rattle.trace_text.specs.inner.Texts.{text_of};
 ghost use Rattle.trace_text.specs.Trace as lines;
 
 use crate::counts::{refused, unsent};

@@ -2,7 +2,7 @@ ghost use Rattle.std.specs.Prelude.{◌≡◌, ◌++◌, string_bytes, OnOk};
 ghost use Rattle.std.specs.List.{zip};
 ghost use Rattle.s3_types.specs.Store.{Content};
 ghost use Rattle.trace_text.specs.Trace.{event_lines};
-ghost use Rattle.trace_text.specs.Tapes.{Follows, left};
+ghost use Rattle.trace_text.specs.inner.Tapes.{Follows, left};
 
 use crate::ends::write_event;
 use crate::sends::write_until;

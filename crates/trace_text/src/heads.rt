@@ -6,7 +6,7 @@ ghost use Rattle.job_soundness.specs.Claim.{keeps_by};
 ghost use Rattle.serde_json.specs.Data.{no_members};
 ghost use Rattle.trace_lines.specs.Members.{members_of};
 ghost use Rattle.trace_text.specs.Heads as lines;
-ghost use Rattle.trace_text.specs.Texts.{text_of};
+ghost use Rattle.trace_text.specs.inner.Texts.{text_of};
 
 use crate::parts::part_tags;
 use block_stream::block_of;

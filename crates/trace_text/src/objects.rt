@@ -6,7 +6,7 @@ ghost use Rattle.path_keys.specs.Paths.{below};
 ghost use Rattle.serde_json.specs.Data.{no_members};
 ghost use Rattle.trace_lines.specs.Members.{members_of};
 ghost use Rattle.trace_text.specs.Heads as lines;
-ghost use Rattle.trace_text.specs.Texts.{text_of};
+ghost use Rattle.trace_text.specs.inner.Texts.{text_of};
 
 use object_store::Objects;
 use path_keys::S3Path;

@@ -2,7 +2,7 @@ ghost use Rattle.std.specs.Prelude.{◌≡◌, ◌+◌, ◌<◌, ◌≤◌, ◌^
 ghost use Rattle.s3_types.specs.Answer.{answer};
 ghost use Rattle.s3_types.specs.Moment.{effect};
 ghost use Rattle.trace_lines.specs.Requests.{TellsTag, has_reached};
-ghost use Rattle.trace_text.specs.Tapes.{NoneLostBehind, is_reply_lost};
+ghost use Rattle.trace_text.specs.inner.Tapes.{NoneLostBehind, is_reply_lost};
 
 use s3_types::{Entry, Outcome, Reply};
 use std::alloc::AllocError;

@@ -5,7 +5,7 @@ ghost use Rattle.s3_types.specs.Moment.{effect};
 ghost use Rattle.s3_types.specs.Store.{Content};
 ghost use Rattle.trace_lines.specs.Requests.{TellsTag, request_line};
 ghost use Rattle.trace_text.specs.Sends.{behind_event, commit_line, is_of_commit, send_lines, until_event};
-ghost use Rattle.trace_text.specs.Tapes.{Follows, HasWritten, left, reply_told};
+ghost use Rattle.trace_text.specs.inner.Tapes.{Follows, HasWritten, left, reply_told};
 
 use crate::replies::reply_to;
 use crate::tape::Tape;

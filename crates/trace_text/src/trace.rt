@@ -5,7 +5,7 @@ ghost use Rattle.s3_types.specs.Store as stores;
 ghost use Rattle.s3_types.specs.Store.{Content};
 ghost use Rattle.job_spec.specs.States as states;
 ghost use Rattle.trace_text.specs.Heads.{head_lines};
-ghost use Rattle.trace_text.specs.Tapes.{Follows, left};
+ghost use Rattle.trace_text.specs.inner.Tapes.{Follows, left};
 ghost use Rattle.trace_text.specs.Trace as traces;
 
 use crate::commits::commit_event;

@@ -1,5 +1,6 @@
 -- What an abort or clean at a shared destination has still to remove, while no attempt of its side sends.
-use Rattle.text_and_lists.proofs.Members.{false_true, filter_in, in_back, in_filter, in_front, map_in, none_or_some, none_some, same_or_other}
+use Rattle.text_and_lists.proofs.Members.{false_true, filter_in, in_back, in_filter, in_front, map_in, none_or_some, none_some}
+use Rattle.text_and_lists.proofs.Members.{same_or_other}
 use Rattle.text_and_lists.proofs.Members.{some_is, text_exact, text_gone, text_left, text_true}
 use Rattle.text_and_lists.specs.Members.{IsIn}
 use Rattle.text_and_lists.specs.Order.{text_cmp}

@@ -7,7 +7,8 @@ use Rattle.job_protocol.specs.Cleanups.{Clean, clean_start}
 use Rattle.job_protocol.specs.Operations.{Operation, Setting, TheClean, TheSparing, tells, who}
 use Rattle.job_protocol.specs.Seen.{Seen, Times, is_marking, is_picking, is_reading, see}
 use Rattle.job_protocol.specs.Sparing.{sparing_start}
-use Rattle.protocol_runs.specs.Runs.{BeginClean, BeginCommit, BeginSetup, Runs, Stand, actor_begins, attempt_sends, driver_sends, run_begins}
+use Rattle.protocol_runs.specs.Runs.{BeginClean, BeginCommit, BeginSetup, Runs, Stand, actor_begins, attempt_sends, driver_sends}
+use Rattle.protocol_runs.specs.Runs.{run_begins}
 use Rattle.protocol_runs.specs.Runs.{strays}
 use Rattle.retries.specs.Retries.{Retried, fresh}
 use Rattle.s3_types.specs.Moment.{effect, is_effective}

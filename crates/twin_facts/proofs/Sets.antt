@@ -35,7 +35,8 @@ use Rattle.job_protocol.specs.Writes.{write_start}
 use Rattle.protocol_runs.proofs.Entries.{late_now}
 use Rattle.protocol_runs.proofs.EveryRun.{good}
 use Rattle.protocol_runs.proofs.Running.{At, Early, Late}
-use Rattle.protocol_runs.specs.Runs.{BeginAbort, BeginClean, BeginCommit, BeginPublish, BeginSetup, BeginWrite, Beginning, IsOpening, MayBegin}
+use Rattle.protocol_runs.specs.Runs.{BeginAbort, BeginClean, BeginCommit, BeginPublish, BeginSetup, BeginWrite, Beginning, IsOpening}
+use Rattle.protocol_runs.specs.Runs.{MayBegin}
 use Rattle.protocol_runs.specs.Runs.{Runs, Stand, actor_begins, attempt_sends, begin, begun_attempts, begun_driver, driver_sends, is_set}
 use Rattle.protocol_runs.specs.Runs.{nothing_learnt, run_begins, strays}
 use Rattle.magic_paths.specs.Layout.{magic_prefix, staged_set_path}

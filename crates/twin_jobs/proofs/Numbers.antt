@@ -9,7 +9,8 @@ use Rattle.std.proofs.lemmas.List.Sums.{sum_by-cons}
 use Rattle.std.proofs.lemmas.Option.{slice_get_within}
 use Rattle.std.specs.List.{list_any}
 use Rattle.std.specs.Prelude.{replicate, sum_by}
-use Rattle.twin_jobs.specs.Order.{events_of, is_same, other_of, others_in}
+use Rattle.twin_jobs.specs.Order.{is_same, other_of, others_in}
+use Rattle.twin_jobs.specs.inner.Order.{events_of}
 use Rattle.twin_jobs.specs.Worlds.{mine}
 use Rattle.twin_script.specs.TwinScripts.{first_count, second_count, sides_in}
 use Rattle.twin_script.specs.declared.turns.Side.{Side}

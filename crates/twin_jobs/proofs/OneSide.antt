@@ -36,7 +36,7 @@ use Rattle.twin_facts.specs.TwinLaws.{MayBeTwins}
 use Rattle.twin_jobs.proofs.Eyes.{AreApart, actors, after_eyes, appended, by_first, first_eyes, foreign_by, own_on, second_eyes}
 use Rattle.twin_jobs.proofs.Numbers.{mine_at, opposite, same_self}
 use Rattle.twin_jobs.specs.Order.{other_of}
-use Rattle.twin_jobs.specs.Pairs.{IsAmong, RestsOne, RestsShared, over}
+use Rattle.twin_jobs.specs.inner.Pairs.{IsAmong, RestsOne, RestsShared, over}
 use Rattle.twin_jobs.specs.Worlds.{both_of, mine, setting}
 use Rattle.twin_script.specs.declared.turns.Side.{Side}
 use Rattle.s3_types.specs.Store as store
@@ -200,7 +200,8 @@ module _ {W : Type 0} (wants : W → Option Request) (is_of : Setting → Actor 
         (foreign_by own theirs t.script b.stand.told.drawn (old.events + 1) b.stand.seen.scene part are f))
 
     -- So what the other side keeps between its events stays.
-    pub stays_beside : (s s1 t : body.JobRun W) (old new : Shared) (part : List Entry) → MayBeTwins s1.script t.script → RestsShared sides new
+    pub stays_beside : (s s1 t : body.JobRun W) (old new : Shared) (part : List Entry) → MayBeTwins s1.script t.script
+        → RestsShared sides new
         → RestsShared sides old → new.opening ≡ old.opening → new.events ≡ old.events + 1
         → new.journal.entries ≡ old.journal.entries ++ part → AreOf (old.events + 1) part → slice_get sides old.events ≡ Some name
         → Quiet wants is_of running picks_of (over s old) → RestsOne wants is_of running picks_of sides name s1 new

@@ -19,7 +19,8 @@ use Rattle.twin_facts.specs.TwinLaws.{MayBeTwins}
 use Rattle.twin_jobs.proofs.Numbers.{mine_at, more_left, same_self}
 use Rattle.twin_jobs.proofs.OneSide.{shared_more, stays_beside, twins_turned}
 use Rattle.twin_jobs.specs.Order.{other_of}
-use Rattle.twin_jobs.specs.Pairs.{IsPlayed, IsTurnedTo, IsUnplayed, Rests, RestsBoth, RestsOne, RestsShared, over, side_by, side_in}
+use Rattle.twin_jobs.specs.Pairs.{side_by, side_in}
+use Rattle.twin_jobs.specs.inner.Pairs.{IsPlayed, IsTurnedTo, IsUnplayed, Rests, RestsBoth, RestsOne, RestsShared, over}
 use Rattle.twin_jobs.specs.Worlds.{mine}
 use Rattle.twin_jobs.specs.declared.pair.Pair.{Pair}
 use Rattle.twin_script.specs.declared.turns.Side.{Side}

@@ -17,8 +17,10 @@ use Rattle.s3_types.specs.declared.request.Request.{Request}
 use Rattle.std.proofs.Common.{List, Option, ap, arith, false, length, refl, slice_get, subst, sym, ℕ, [], ◌+◌, ◌<◌, ◌^◌, ◌∙◌, ◌≡◌, ◌≤◌}
 use Rattle.twin_facts.specs.TwinLaws.{MayBeTwins}
 use Rattle.twin_jobs.proofs.Numbers.{all_sides, events_asked}
-use Rattle.twin_jobs.specs.Order.{events_of, others_in}
-use Rattle.twin_jobs.specs.Pairs.{IsFresh, IsPaired, Rests, RestsOne, job_in, over, run_of, side_in}
+use Rattle.twin_jobs.specs.Order.{others_in}
+use Rattle.twin_jobs.specs.inner.Order.{events_of}
+use Rattle.twin_jobs.specs.Pairs.{job_in, run_of, side_in}
+use Rattle.twin_jobs.specs.inner.Pairs.{IsFresh, IsPaired, Rests, RestsOne, over}
 use Rattle.twin_jobs.specs.Worlds.{begun, nothing_run}
 use Rattle.twin_jobs.specs.declared.pair.Pair.{Pair}
 use Rattle.twin_script.specs.TwinScripts.{AreTwins, Twins, is_replace, sides_in}

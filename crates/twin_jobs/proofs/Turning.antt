@@ -20,7 +20,8 @@ use Rattle.std.proofs.Common.{◌<◌, ◌∙◌, ◌∷◌, ◌≡◌, ◌≤�
 use Rattle.std.proofs.lemmas.Bool.{cases_lt}
 use Rattle.std.specs.List.{AllByRecursion}
 use Rattle.twin_jobs.proofs.Whole.{keeps, played_is, scene_is, state_is}
-use Rattle.twin_jobs.specs.Pairs.{IsPlayed, IsUnplayed, Rests, RestsBoth, job_in, over, run_of, side_by, side_in}
+use Rattle.twin_jobs.specs.Pairs.{job_in, run_of, side_by, side_in}
+use Rattle.twin_jobs.specs.inner.Pairs.{IsPlayed, IsUnplayed, Rests, RestsBoth, over}
 use Rattle.twin_jobs.specs.Worlds.{FoundNone, JobRun, Keeps, Played, Run, job_of, played}
 use Rattle.twin_jobs.specs.declared.pair.Pair.{Pair}
 use Rattle.twin_safety.specs.Shared.{RunsAreKeptShared}

@@ -32,7 +32,8 @@ use Rattle.twin_facts.specs.Named.{NamesNoneOfOthers}
 use Rattle.twin_facts.specs.Sides.{IsTwinOpening, TwinRun, drew}
 use Rattle.twin_jobs.proofs.Numbers.{all_numbers}
 use Rattle.twin_jobs.proofs.OneSide.{SideRun, idle, in_words, plain_scene, side_run, twin_opening, twin_run}
-use Rattle.twin_jobs.specs.Pairs.{IsAmong, RestsBoth, RestsOne, job_in, over, run_of}
+use Rattle.twin_jobs.specs.Pairs.{job_in, run_of}
+use Rattle.twin_jobs.specs.inner.Pairs.{IsAmong, RestsBoth, RestsOne, over}
 use Rattle.twin_jobs.specs.Worlds.{Keeps, both_of, mine, setting}
 use Rattle.twin_safety.specs.Shared.{RunsAreKeptShared, SharedKept}
 use Rattle.twin_script.specs.declared.turns.Side.{Side}
@@ -49,7 +50,8 @@ module _ {W : Type 0} (wants : W → Option Request) (is_of : Setting → Actor 
   abbrev One : List Side → Side → body.JobRun W → Shared → Type 0
   One = RestsOne wants is_of running picks_of
 
-  among : (has : HasPicks running picks_of) (sides : List Side) (name : Side) (s : body.JobRun W) (shared : Shared) → One sides name s shared
+  among : (has : HasPicks running picks_of) (sides : List Side) (name : Side) (s : body.JobRun W) (shared : Shared)
+      → One sides name s shared
       → KeptAmong (setting s.script shared.opening) shared.opening (in_eyes (mine sides name) shared.journal.entries)
       (job_in picks_of s).picks s.ends.items
   among has sides name s shared r =
@@ -68,7 +70,8 @@ module _ {W : Type 0} (wants : W → Option Request) (is_of : Setting → Actor 
       (law (setting_of (over s shared)) shared.opening h.play h.legal h.opens h.happened
       (idle wants is_of running picks_of (over s shared) r.quiet) r.shares)
 
-  whole : (has : HasPicks running picks_of) (sides : List Side) (name : Side) (s : body.JobRun W) (shared : Shared) → One sides name s shared
+  whole : (has : HasPicks running picks_of) (sides : List Side) (name : Side) (s : body.JobRun W) (shared : Shared)
+      → One sides name s shared
       → lacked_memory (past s.script s.ends.items).commit ≡ false
       → (job_in picks_of s).picks ≡ all_picks s.script shared.opening (in_eyes (mine sides name) shared.journal.entries) s.ends.items
   whole has sides name s shared r =

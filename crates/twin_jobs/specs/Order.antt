@@ -1,5 +1,5 @@
 -- The side of each event in a run of two jobs.
-use Rattle.std.specs.Prelude.{ℕ, ◌+◌, Bool, true, false, cond, List, [], ◌∷◌}
+use Rattle.std.specs.Prelude.{Bool, List, cond, false, true, ℕ, [], ◌+◌, ◌∷◌}
 use Rattle.twin_script.specs.declared.turns.Side.{Side}
 use Rattle.twin_script.specs.declared.turns.Side.TheVariants.{First, Second}
 
@@ -14,11 +14,6 @@ is_same Second First = false
 abbrev pub other_of : Side → Side
 other_of First = Second
 other_of Second = First
-
--- The number of events that are this side's.
-abbrev pub events_of : Side → List Side → ℕ
-events_of side [] = 0
-events_of side (s ∷ sides) = cond (is_same side s) (events_of side sides + 1) (events_of side sides)
 
 -- The numbers, from n on, of the events that are not this side's.
 abbrev pub others_in : Side → ℕ → List Side → List ℕ

@@ -2,7 +2,8 @@ ghost use Rattle.std.specs.Prelude.{◌≡◌, ◌+◌, ◌<◌, ◌≤◌, ◌^
 ghost use Rattle.s3_types.specs.declared.limits.TheConstants.{MOST_MINIMUM};
 ghost use Rattle.job_run.specs.Events.{Next};
 ghost use Rattle.twin_jobs.specs.Order.{others_in};
-ghost use Rattle.twin_jobs.specs.Pairs.{side_in, Rests, IsFresh, IsPaired, IsTurnedTo, IsPlayed, IsUnplayed};
+ghost use Rattle.twin_jobs.specs.Pairs.{side_in};
+ghost use Rattle.twin_jobs.specs.inner.Pairs.{Rests, IsFresh, IsPaired, IsTurnedTo, IsPlayed, IsUnplayed};
 
 use crate::order::others_of;
 use job_actor::Works;

@@ -31,7 +31,8 @@ impl<W: Works> Model for TwinWorld<W> {
     ghost use Rattle.s3_types.specs.Coded.{coded_content};
     ghost use Rattle.job_model.specs.Codes.{coded_script};
     ghost use Rattle.twin_script.specs.declared.turns.Side.TheVariants.{First, Second};
-    ghost use Rattle.twin_jobs.specs.Pairs.{Rests, run_of, side_in};
+    ghost use Rattle.twin_jobs.specs.inner.Pairs.{Rests};
+    ghost use Rattle.twin_jobs.specs.Pairs.{run_of, side_in};
     ghost use Rattle.twin_jobs.specs.Worlds.{Run};
 
     ghost Value = { Run };

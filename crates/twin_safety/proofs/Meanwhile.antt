@@ -25,7 +25,8 @@ use Rattle.script_steps.proofs.RunningNumbers.{begun_at}
 use Rattle.script_steps.proofs.RunningStages.{IsTimed}
 use Rattle.script_steps.proofs.Told.{told_all}
 use Rattle.script_steps.specs.Running.{Ahead, IsRun, operation_of}
-use Rattle.script_steps.specs.Transitions.{Closes, Finishes, MaySend, MayStray, Opens, Play, Reachable, Refuses, Sends, Strays, happen, hear}
+use Rattle.script_steps.specs.Transitions.{Closes, Finishes, MaySend, MayStray, Opens, Play, Reachable, Refuses, Sends, Strays, happen}
+use Rattle.script_steps.specs.Transitions.{hear}
 use Rattle.script_steps.specs.Transitions.{open_running}
 use Rattle.protocol_runs.proofs.Changes.{moment_scene}
 use Rattle.protocol_runs.specs.Runs.{BeginClean, IsOpening, IsTimely, Runs, Stand, actor_begins, begin, is_set, nothing_learnt, saw, strays}

@@ -6,7 +6,8 @@ use Rattle.text_and_lists.specs.Lines.{lines_from, lines_of}
 use Rattle.text_and_lists.specs.Parts.{parts_from}
 use Rattle.text_and_lists.specs.Reading.{check, ◌>>=◌}
 use Rattle.text_and_lists.specs.Shapes.{two}
-use Rattle.text_and_lists.specs.Words.{IsLine, IsWord, ended, joined, text_of}
+use Rattle.text_and_lists.specs.Words.{ended, joined, text_of}
+use Rattle.text_and_lists.specs.inner.Words.{IsLine, IsWord}
 use Rattle.job_model.specs.JobScript.{Script}
 use Rattle.job_model.specs.Legal.{IsLegal}
 use Rattle.job_script.proofs.Whole.{read_again}

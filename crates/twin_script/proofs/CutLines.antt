@@ -1,6 +1,7 @@
 -- The search over lines for the first separator line.
 use Rattle.text_and_lists.proofs.Bools.{not_so}
-use Rattle.text_and_lists.specs.Lines.{is_inside, without_return}
+use Rattle.text_and_lists.specs.Lines.{without_return}
+use Rattle.text_and_lists.specs.inner.Lines.{is_inside}
 use Rattle.text_and_lists.specs.Parts.{parts_of}
 use Rattle.std.proofs.Common.{List, ap, append_assoc, arith, drop, false, length, length-append, sym, take, true, ℕ, [], ◌++◌, ◌+◌, ◌==◌}
 use Rattle.std.proofs.Common.{◌∙◌, ◌∷◌, ◌≡◌, ◌≤◌}

@@ -3,7 +3,8 @@ use Rattle.text_and_lists.proofs.Counts.{some_part}
 use Rattle.text_and_lists.proofs.Lists.{weaker}
 use Rattle.text_and_lists.proofs.Pieces.{join_parts}
 use Rattle.text_and_lists.proofs.Split.{first_from, last_line}
-use Rattle.text_and_lists.specs.Lines.{is_inside, lines_of, without_return}
+use Rattle.text_and_lists.specs.Lines.{lines_of, without_return}
+use Rattle.text_and_lists.specs.inner.Lines.{is_inside}
 use Rattle.text_and_lists.specs.Numbers.{is_digit, number_in}
 use Rattle.text_and_lists.specs.Parts.{is_other, parts_from, parts_of}
 use Rattle.s3_types.proofs.Utf8.{hex_utf8}

@@ -16,7 +16,8 @@ use Rattle.std.specs.FinMap.{empty_of_len, get-empty, len-empty, nat_cmp-IsAntis
 use Rattle.std.specs.Ordering.{nat_cmp}
 use Rattle.std.specs.Prelude.{Result, bytes_eq, is_some, ⊤, ◌||◌}
 use Rattle.twin_script.proofs.OrderLines.{order_sound}
-use Rattle.twin_script.specs.Fault.{first_fault, is_told, second_fault, wanting}
+use Rattle.twin_script.specs.Fault.{is_told, wanting}
+use Rattle.twin_script.specs.inner.Fault.{first_fault, second_fault}
 use Rattle.twin_script.specs.Order.{order_of}
 use Rattle.twin_script.specs.TwinScripts.{AreTwins, is_replace}
 use Rattle.twin_script.specs.Twins.{fit, is_same_dest, names_fate, paired, told, turns_of, within}

@@ -1,6 +1,5 @@
 -- The numbers and lines of faults, and how a call's result relates to the definition of reading.
-use Rattle.job_script.specs.declared.fault.ScriptFault.{ScriptFault}
-use Rattle.std.specs.Prelude.{Bool, Result, false, true, ℕ, ⊤}
+use Rattle.std.specs.Prelude.{Bool, Result, false, true, ℕ}
 use Rattle.twin_script.specs.declared.fault.TwinFault.{TwinFault}
 use Rattle.twin_script.specs.declared.fault.TwinFault.TheVariants.{BadOrder, First, NoMemory, NotThree, OtherDest, ReplaceMode, SameJob}
 use Rattle.twin_script.specs.declared.fault.TwinFault.TheVariants.{Second, SecondLoss, TooLarge}
@@ -33,16 +32,6 @@ abbrev pub wanting : TwinFault → Bool
 wanting NoMemory = true
 wanting fault = false
 
--- The fault of the first part. NoMemory is not the fault of a part.
-abbrev pub first_fault : ScriptFault → TwinFault
-first_fault script_fault.NoMemory = NoMemory
-first_fault fault = First fault
-
--- The fault of the second part. NoMemory is not the fault of a part.
-abbrev pub second_fault : ScriptFault → TwinFault
-second_fault script_fault.NoMemory = NoMemory
-second_fault fault = Second fault
-
 -- True unless the fault reports NoMemory as that of a part.
 abbrev pub is_told : TwinFault → Bool
 is_told (First script_fault.NoMemory) = false
@@ -52,7 +41,3 @@ is_told fault = true
 -- Holds if a call returned the result of reading, unless memory ran out.
 abbrev pub Gives : {A : Type 0} → Result A TwinFault → Result A TwinFault → Type 0
 Gives result read = reading.Gives wanting result read
-
--- Holds if a call changed its argument to the result of reading, unless memory ran out.
-abbrev pub Makes : {A : Type 0} → Result ⊤ TwinFault → A → Result A TwinFault → Type 0
-Makes result new read = reading.Makes wanting result new read

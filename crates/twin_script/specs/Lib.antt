@@ -4,3 +4,4 @@ pub mod Cutting
 pub mod Order
 pub mod Twins
 pub mod Print
+pub mod inner

@@ -2,7 +2,8 @@ ghost use Rattle.std.specs.Prelude.{◌≡◌, true, IfErr};
 ghost use Rattle.text_and_lists.specs.Lines.{lines_of};
 ghost use Rattle.text_and_lists.specs.Numbers.{number_in};
 ghost use Rattle.job_script.specs.Kinds.{named};
-ghost use Rattle.twin_script.specs.Fault.{Gives, Makes, is_told};
+ghost use Rattle.twin_script.specs.Fault.{Gives, is_told};
+ghost use Rattle.twin_script.specs.inner.Fault.{Makes};
 ghost use Rattle.twin_script.specs.Order as order;
 
 use crate::cutting::{next_line, two_words};

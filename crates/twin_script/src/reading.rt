@@ -1,7 +1,8 @@
 ghost use Rattle.std.specs.Prelude.{◌≡◌, ◌||◌, true, IfOk, IfErr, Ok};
 ghost use Rattle.job_script.specs.Script.{script_of};
 ghost use Rattle.twin_script.specs.TwinScripts.{Twins, is_replace};
-ghost use Rattle.twin_script.specs.Fault.{Gives, first_fault, second_fault, is_told};
+ghost use Rattle.twin_script.specs.Fault.{Gives, is_told};
+ghost use Rattle.twin_script.specs.inner.Fault.{first_fault, second_fault};
 ghost use Rattle.twin_script.specs.Twins as twins;
 ghost use Rattle.twin_script.specs.declared.fault.TwinFault.TheVariants.{First, Second};
 

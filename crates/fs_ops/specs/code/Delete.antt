@@ -1,6 +1,4 @@
 -- The deletion of a path, by its stages.
-use Rattle.text_and_lists.specs.Members.{IsIn}
-use Rattle.text_and_lists.specs.Order.{text_eq}
 use Rattle.bucket_ops.specs.Asks.{Ask, Drop, DropAll, Page, Put, is_look}
 use Rattle.bucket_ops.specs.Looks.{look_of}
 use Rattle.bucket_ops.specs.Sweeping.{IsSweeping, sweep_asks, sweep_left}
@@ -14,8 +12,8 @@ use Rattle.fs_ops.specs.declared.delete.DeleteStage.TheVariants.{Below, DropFile
 use Rattle.fs_ops.specs.declared.delete.Inside.{Inside}
 use Rattle.fs_ops.specs.declared.delete.Inside.TheVariants.{Children, Empty, MarkerAlone}
 use Rattle.fs_tree.specs.Answers.{Deletes}
-use Rattle.fs_tree.specs.Changes.{IsMarked, IsWithoutBelow, marker_if, parent}
-use Rattle.fs_tree.specs.Tree.{HasChildren, HasFile, IsAbsent, IsEmpty, NoneBelow, SomeBelow, Stands, marker}
+use Rattle.fs_tree.specs.Changes.{IsWithoutBelow, marker_if, parent}
+use Rattle.fs_tree.specs.Tree.{HasFile, IsEmpty, NoneBelow, SomeBelow, Stands, marker}
 use Rattle.fs_tree.specs.declared.answers.FsRefusal.{FsRefusal}
 use Rattle.fs_tree.specs.declared.answers.FsRefusal.TheVariants.{IsRoot, NotEmpty, NotFound}
 use Rattle.list_walk.specs.Walks.{all_go, sweep_hears, sweep_start}
@@ -29,6 +27,8 @@ use Rattle.s3_types.specs.declared.reply.Reply.{Reply}
 use Rattle.s3_types.specs.declared.reply.Reply.TheVariants.{Page as APage}
 use Rattle.std.specs.Prelude.{Bool, Err, List, None, Ok, Option, Result, Some, false, if◌then◌else◌, length, true, ℕ, [], ◌&&◌, ◌+◌, ◌==◌}
 use Rattle.std.specs.Prelude.{◌∷◌, ◌≡◌, ◌≤◌, ◌⊎◌}
+use Rattle.text_and_lists.specs.Members.{IsIn}
+use Rattle.text_and_lists.specs.Order.{text_eq}
 use Rattle.std.specs.FinMap as fin
 use Rattle.list_walk.specs.Walks as walks
 
@@ -172,14 +172,6 @@ Asks o z a = (is_look a ≡ true) ⊎ (IsDue o z × Changes o z a)
 -- Holds if the deletion of a path with a valid key may send this request.
 abbrev pub sends : Deletion → Objects → Ask → Type 0
 sends o z a = is_key o.path ≡ true → Asks o z a
-
--- What each answer says of the objects: what was deleted and the marker that was put, or why nothing changed.
-abbrev pub ends : Deletion → Objects → DeleteAnswer → Objects → Type 0
-ends o z (Ok x) m = (n : Objects) × Removed o z n × IsMarked (marker_if (parent o.path)) n m
-ends o z (Err IsRoot) m = (o.path ≡ []) × (m ≡ z)
-ends o z (Err NotFound) m = IsAbsent z o.path × (m ≡ z)
-ends o z (Err NotEmpty) m = (o.recursive ≡ false) × NoFileAt z o.path × HasChildren z o.path × (m ≡ z)
-ends o z (Err r) m = ⊥
 
 -- Holds if the key belongs to the path: the key of a file, or of a directory its marker and the keys below it.
 abbrev pub GoesWith : Deletion → Objects → List ℕ → Type 0

@@ -1,5 +1,5 @@
 use Rattle.std.proofs.Common.{◌≡◌, ◌+◌, None, drop, length}
-use Rattle.audit_judge.specs.Picking.{least_up}
+use Rattle.audit_judge.specs.inner.Picking.{least_up}
 use Rattle.audit_judge.proofs.narrow.least_up.Given as goal
 
 abbrev pub invariant-loop-number : goal.invariant-loop-number

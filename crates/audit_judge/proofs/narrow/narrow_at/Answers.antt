@@ -1,6 +1,6 @@
 use Rattle.std.proofs.Common.{◌∙◌, ◌<◌, ◌≡◌, ap, cond, length, None, rules, Some, subst, sym, vec_len}
 use Rattle.audit_judge.proofs.Loops.{after_is, as_many, empty_here, free_empty, free_narrow, places_are, within}
-use Rattle.audit_judge.specs.Scene.{meets}
+use Rattle.audit_judge.specs.inner.Scene.{meets}
 use Rattle.audit_judge.proofs.narrow.narrow_at.Goals as goal
 
 pub returns-in_default-clause-after : goal.returns-in_default-clause-after

@@ -1,7 +1,7 @@
 use Rattle.std.proofs.Common.{ap}
 use Rattle.audit_judge.proofs.Loops.{least_more, narrowed_more}
-use Rattle.audit_judge.specs.Narrowed.{keys_of, paths_of_task}
-use Rattle.audit_judge.specs.Scene.{meets}
+use Rattle.audit_judge.specs.inner.Narrowed.{keys_of, paths_of_task}
+use Rattle.audit_judge.specs.inner.Scene.{meets}
 use Rattle.audit_judge.proofs.narrow.narrow_attempts.Goals as goal
 
 pub loop-files-preserved : goal.loop-files-preserved

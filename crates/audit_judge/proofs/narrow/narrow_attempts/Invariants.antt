@@ -1,6 +1,6 @@
 use Rattle.std.proofs.Common.{◌≡◌}
-use Rattle.audit_judge.specs.Narrowed.{Fitting, least_from, narrow_all, paths_of_task}
-use Rattle.audit_judge.specs.Scene.{meets}
+use Rattle.audit_judge.specs.inner.Narrowed.{Fitting, least_from, narrow_all, paths_of_task}
+use Rattle.audit_judge.specs.inner.Scene.{meets}
 use Rattle.audit_judge.proofs.narrow.narrow_attempts.Given as goal
 
 abbrev pub invariant-loop-files : goal.invariant-loop-files

@@ -1,7 +1,7 @@
 use Rattle.std.proofs.Common.{◌≡◌, None, drop}
 use Rattle.audit_judge.specs.Changes.{paths_of}
-use Rattle.audit_judge.specs.Narrowed.{Fitting, least_from, narrow_all}
-use Rattle.audit_judge.specs.Scene.{meets}
+use Rattle.audit_judge.specs.inner.Narrowed.{Fitting, least_from, narrow_all}
+use Rattle.audit_judge.specs.inner.Scene.{meets}
 use Rattle.audit_judge.proofs.narrow.narrow_changes.Given as goal
 
 abbrev pub invariant-loop-change : goal.invariant-loop-change

@@ -1,6 +1,6 @@
 use Rattle.std.proofs.Common.{◌≡◌}
-use Rattle.audit_judge.specs.Narrowed.{Fitting, keys_of, least_from, narrow_all}
-use Rattle.audit_judge.specs.Scene.{meets}
+use Rattle.audit_judge.specs.inner.Narrowed.{Fitting, keys_of, least_from, narrow_all}
+use Rattle.audit_judge.specs.inner.Scene.{meets}
 use Rattle.audit_judge.proofs.narrow.narrow_files.Given as goal
 
 abbrev pub invariant-loop-path : goal.invariant-loop-path

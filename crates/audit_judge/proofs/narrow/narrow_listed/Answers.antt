@@ -1,7 +1,7 @@
 use Rattle.std.proofs.Common.{ap}
 use Rattle.audit_judge.proofs.Loops.{least_more, narrowed_more}
-use Rattle.audit_judge.specs.Narrowed.{paths_of_all, paths_of_task}
-use Rattle.audit_judge.specs.Scene.{meets}
+use Rattle.audit_judge.specs.inner.Narrowed.{paths_of_all, paths_of_task}
+use Rattle.audit_judge.specs.inner.Scene.{meets}
 use Rattle.audit_judge.proofs.narrow.narrow_listed.Goals as goal
 
 pub loop-attempts-preserved : goal.loop-attempts-preserved

@@ -1,6 +1,6 @@
 use Rattle.std.proofs.Common.{◌≡◌, None}
-use Rattle.audit_judge.specs.Narrowed.{Fitting, least_from, narrow_all, paths_of_all}
-use Rattle.audit_judge.specs.Scene.{meets}
+use Rattle.audit_judge.specs.inner.Narrowed.{Fitting, least_from, narrow_all, paths_of_all}
+use Rattle.audit_judge.specs.inner.Scene.{meets}
 use Rattle.audit_judge.proofs.narrow.narrow_listed.Given as goal
 
 abbrev pub invariant-loop-attempts : goal.invariant-loop-attempts

@@ -2,7 +2,7 @@ use Rattle.std.proofs.Common.{ℕ, length, ◌∙◌, ap, arith}
 use Rattle.audit_judge.proofs.Loops.{count_more, places_more, rest_more}
 use Rattle.soundness.specs.Claims.{Files}
 use Rattle.audit_claims.specs.Claims.{Tags}
-use Rattle.audit_judge.specs.Scene.{meets}
+use Rattle.audit_judge.specs.inner.Scene.{meets}
 use Rattle.audit_judge.proofs.narrow.narrow_task.Goals as goal
 
 pub overflow_add-k : goal.overflow_add-k

@@ -1,6 +1,6 @@
 use Rattle.std.proofs.Common.{◌≡◌, ◌+◌, ◌++◌, drop, length, take}
-use Rattle.audit_judge.specs.Narrowed.{narrow_task}
-use Rattle.audit_judge.specs.Scene.{meets}
+use Rattle.audit_judge.specs.inner.Narrowed.{narrow_task}
+use Rattle.audit_judge.specs.inner.Scene.{meets}
 use Rattle.audit_judge.proofs.narrow.narrow_task.Given as goal
 
 abbrev pub invariant-loop-files : goal.invariant-loop-files

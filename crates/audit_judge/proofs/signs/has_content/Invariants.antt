@@ -1,5 +1,5 @@
 use Rattle.std.proofs.Common.{◌≡◌}
-use Rattle.audit_judge.specs.Tests.{has_content}
+use Rattle.audit_judge.specs.inner.Tests.{has_content}
 use Rattle.audit_judge.proofs.signs.has_content.Given as goal
 
 abbrev pub invariant-loop-files : goal.invariant-loop-files

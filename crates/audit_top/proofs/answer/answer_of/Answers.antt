@@ -1,8 +1,9 @@
 use Rattle.std.proofs.Common.{ap, refl, subst, sym, ◌∙◌, true, false, ◌≡◌}
 use Rattle.std.proofs.lemmas.Bool.{false≢true}
 use Rattle.audit_top.proofs.Answering.{some_lines}
-use Rattle.audit_top.specs.Answer.{IsAnswer, text_of}
-use Rattle.audit_top.specs.Progress.{Judged}
+use Rattle.audit_top.specs.Answer.{IsAnswer}
+use Rattle.audit_top.specs.inner.Answer.{text_of}
+use Rattle.audit_top.specs.inner.Progress.{Judged}
 use Rattle.audit_top.specs.declared.verdict.Verdict.{Verdict}
 use Rattle.trace_reader.specs.Faults.{wanting}
 use Rattle.audit_top.proofs.answer.answer_of.Goals as goal

@@ -1,5 +1,5 @@
 use Rattle.std.proofs.Common.{◌≡◌, ◌-◌, ◌^◌}
-use Rattle.audit_top.specs.Progress.{IsAt}
+use Rattle.audit_top.specs.inner.Progress.{IsAt}
 use Rattle.line_input.specs.Reading.{unread}
 use Rattle.audit_top.proofs.lines.judge_lines.Given as goal
 

@@ -1,6 +1,6 @@
 use Rattle.std.proofs.Common.{Bool, List, Option, rules, subst, sym, true, false, ℕ, ◌≡◌}
 use Rattle.audit_top.proofs.Progress.{next_step, over_step}
-use Rattle.audit_top.specs.Progress.{LineTaken}
+use Rattle.audit_top.specs.inner.Progress.{LineTaken}
 use Rattle.line_input.specs.Reading.{Gives, unread}
 use Rattle.trace_reader.specs.Reading.{MOST_BYTES}
 use Rattle.audit_top.proofs.lines.take_line.Goals as goal

@@ -1,7 +1,7 @@
 use Rattle.std.proofs.Common.{Some, subst, sym}
 use Rattle.audit_model.specs.Recorded.{after}
 use Rattle.auditor.proofs.Taking.{still}
-use Rattle.auditor.specs.AuditState.{GoesBy}
+use Rattle.auditor.specs.inner.AuditState.{GoesBy}
 use Rattle.trace_reader.specs.declared.line.TraceLine.{TraceLine}
 use Rattle.auditor.proofs.auditor.step.Goals as goal
 

@@ -1,6 +1,6 @@
 use Rattle.std.proofs.Common.{◌≡◌, ◌||◌, ℕ, List, drop}
 use Rattle.audit_model.specs.Answers.{seen_paths}
-use Rattle.auditor.specs.Paths.{has_path}
+use Rattle.auditor.specs.inner.Paths.{has_path}
 use Rattle.auditor.proofs.paths.seen_paths.Given as goal
 
 abbrev pub invariant-loop-key : goal.invariant-loop-key

@@ -1,5 +1,5 @@
 use Rattle.cluster_fs.proofs.Listed.{follows_rest, none_left}
-use Rattle.cluster_fs.specs.Cluster.{Follows}
+use Rattle.cluster_fs.specs.inner.Cluster.{Follows}
 use Rattle.s3_types.specs.Pages.{begins}
 use Rattle.std.proofs.Common.{List, ap, append-nil, append_assoc, cond, false, subst, sym, true, ℕ, [], ◌++◌, ◌∙◌, ◌∷◌, ◌≡◌}
 use Rattle.std.specs.List.{filter}

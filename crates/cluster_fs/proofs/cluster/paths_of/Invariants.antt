@@ -1,4 +1,4 @@
-use Rattle.cluster_fs.specs.Cluster.{Follows}
+use Rattle.cluster_fs.specs.inner.Cluster.{Follows}
 use Rattle.s3_types.specs.Pages.{begins}
 use Rattle.std.proofs.Common.{length, ◌++◌, ◌≡◌}
 use Rattle.std.specs.List.{filter}

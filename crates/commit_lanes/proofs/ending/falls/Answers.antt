@@ -1,5 +1,5 @@
 use Rattle.commit_lanes.proofs.Falling.{commit_falls}
-use Rattle.commit_lanes.proofs.falls.Goals as goal
+use Rattle.commit_lanes.proofs.ending.falls.Goals as goal
 
 pub returns : goal.returns
 returns c = commit_falls

@@ -1,4 +1,4 @@
-use Rattle.commit_lanes.specs.Relatives.{paths_below}
+use Rattle.commit_lanes.specs.inner.Relatives.{paths_below}
 use Rattle.job_protocol.specs.JobCommits.{all_commits}
 use Rattle.job_protocol.specs.Outputs.{ordered}
 use Rattle.std.proofs.Common.{drop, length, ◌≡◌, ◌≤◌}

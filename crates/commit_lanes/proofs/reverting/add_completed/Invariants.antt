@@ -1,5 +1,6 @@
 use Rattle.commit_lanes.proofs.Undoing.{done_part}
-use Rattle.commit_lanes.specs.Undos.{Adds, NumbersWithin}
+use Rattle.commit_lanes.specs.Undos.{NumbersWithin}
+use Rattle.commit_lanes.specs.inner.Undos.{Adds}
 use Rattle.std.proofs.Common.{length, ◌≤◌}
 use Rattle.commit_lanes.proofs.reverting.add_completed.Given as goal
 

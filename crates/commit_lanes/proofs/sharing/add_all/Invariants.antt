@@ -1,5 +1,6 @@
 use Rattle.text_and_lists.specs.Order.{text_eq}
-use Rattle.commit_lanes.specs.Clashes.{Finds, Item}
+use Rattle.commit_lanes.specs.Clashes.{Item}
+use Rattle.commit_lanes.specs.inner.Clashes.{Finds}
 use Rattle.job_protocol.specs.LaneTable.{In}
 use Rattle.std.proofs.Common.{List, map, take, ℕ, ◌++◌, ◌≤◌}
 use Rattle.std.specs.HashMap.{get}

@@ -1,5 +1,6 @@
 use Rattle.text_and_lists.specs.Order.{text_eq}
-use Rattle.commit_lanes.specs.Clashes.{Finds, items_from}
+use Rattle.commit_lanes.specs.Clashes.{items_from}
+use Rattle.commit_lanes.specs.inner.Clashes.{Finds}
 use Rattle.std.proofs.Common.{take}
 use Rattle.std.specs.HashMap.{get}
 use Rattle.commit_lanes.proofs.sharing.shared.Given as goal

@@ -1,4 +1,4 @@
-use Rattle.copy_tree.specs.Parts.{chosen}
+use Rattle.copy_tree.specs.inner.Parts.{chosen}
 use Rattle.std.proofs.Common.{length, ◌++◌, ◌≡◌}
 use Rattle.copy_tree.proofs.parts.chosen.Given as goal
 

@@ -1,4 +1,4 @@
-use Rattle.copy_tree.specs.Parts.{from_text}
+use Rattle.copy_tree.specs.inner.Parts.{from_text}
 use Rattle.std.proofs.Common.{length, ◌≡◌}
 use Rattle.copy_tree.proofs.parts.from_text.Given as goal
 

@@ -1,6 +1,6 @@
 use Rattle.durable_job.proofs.Ends.{one_played}
 use Rattle.durable_job.proofs.Held.{not_replaced_as}
-use Rattle.durable_job.specs.Moves.{Stays, left_of}
+use Rattle.durable_job.specs.inner.Moves.{Stays, left_of}
 use Rattle.durable_job.specs.Pace.{LacksSince}
 use Rattle.durable_job.specs.Played.{IsHeld, Survives}
 use Rattle.job_world.specs.Worlds.{Run}

@@ -1,6 +1,6 @@
 use Rattle.durable_job.proofs.Ends.{twins_are, two_played}
 use Rattle.durable_job.proofs.Held.{not_replaced_as}
-use Rattle.durable_job.specs.Moves.{TwinsStay, turns_left}
+use Rattle.durable_job.specs.inner.Moves.{TwinsStay, turns_left}
 use Rattle.durable_job.specs.Pace.{LacksSince}
 use Rattle.durable_job.specs.Played.{IsHeld, IsPlayed, Survives}
 use Rattle.durable_job.specs.declared.jobs.Jobs.TheVariants.{Two}

@@ -1,5 +1,6 @@
 use Rattle.durable_store.proofs.Keeping.{saved_answer}
-use Rattle.durable_store.specs.Outcomes.{IsAnswer, text_at}
+use Rattle.durable_store.specs.Outcomes.{IsAnswer}
+use Rattle.durable_store.specs.inner.Outcomes.{text_at}
 use Rattle.durable_store.specs.Works.{Saves}
 use Rattle.exit_status.specs.declared.statuses.Status.{Status}
 use Rattle.std.proofs.Common.{List, Option, subst, sym, ℕ}

@@ -1,7 +1,8 @@
 use Rattle.folder_log.proofs.Crash.{left_behind, left_opened, written_behind}
 use Rattle.folder_log.proofs.Moments.{few_more, then_on, widened}
-use Rattle.folder_log.specs.Disk.{FewMore, File, IsTorn, Only, Settles, Writes, more}
-use Rattle.folder_log.specs.Kept.{IsLeftOf}
+use Rattle.folder_log.specs.Disk.{File, IsTorn, Only, Settles, Writes}
+use Rattle.folder_log.specs.inner.Disk.{FewMore, more}
+use Rattle.folder_log.specs.inner.Kept.{IsLeftOf}
 use Rattle.std.proofs.Common.{Err, List, Ok, OnErr, Option, Result, Some, ap, arith, length, subst, ℕ, [], ◌++◌, ◌+◌, ◌∙◌, ◌∷◌, ◌≡◌, ◌⊎◌}
 use Rattle.folder_log.proofs.log_shelf.open_record.Goals as goal
 

@@ -1,5 +1,5 @@
 use Rattle.job_operations.proofs.Beginnings.{commit_begun_if}
-use Rattle.job_operations.specs.Begins.{commit_by}
+use Rattle.job_operations.specs.inner.Begins.{commit_by}
 use Rattle.commit_lanes.specs.Fitting.{least_missing}
 use Rattle.std.proofs.Common.{IfOk, subst, sym, ◌≡◌}
 use Rattle.job_operations.proofs.begun.begin_commit.Goals as goal

@@ -1,4 +1,4 @@
-use Rattle.job_report.specs.Left.{IsWithin, ended_in, left_lines}
+use Rattle.job_report.specs.inner.Left.{IsWithin, ended_in, left_lines}
 use Rattle.job_report.specs.TwinText.{played_lines}
 use Rattle.std.proofs.Common.{drop, string_bytes, ◌++◌, ◌≡◌}
 use Rattle.job_report.proofs.played.write_played.Given as goal

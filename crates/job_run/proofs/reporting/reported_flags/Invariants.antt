@@ -1,4 +1,4 @@
-use Rattle.job_run.specs.Reporting.{AreFlags}
+use Rattle.job_run.specs.inner.Reporting.{AreFlags}
 use Rattle.job_run.proofs.reporting.reported_flags.Given as goal
 
 abbrev pub invariant-loop-place : goal.invariant-loop-place

@@ -1,4 +1,4 @@
-use Rattle.job_setup.specs.Files.{first_of}
+use Rattle.job_setup.specs.inner.Files.{first_of}
 use Rattle.list_walk.specs.Walks.{keys_on}
 use Rattle.std.proofs.Common.{drop, ◌≡◌}
 use Rattle.job_setup.proofs.files.first_behind.Given as goal

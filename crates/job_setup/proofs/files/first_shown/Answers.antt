@@ -2,7 +2,7 @@ use Rattle.job_model.specs.Jobs.{Job}
 use Rattle.job_model.specs.Plans.{IsJob}
 use Rattle.job_protocol.specs.AtWork.{job_script}
 use Rattle.job_setup.proofs.Shown.{dest_some, first_is}
-use Rattle.job_setup.specs.Files.{first_of}
+use Rattle.job_setup.specs.inner.Files.{first_of}
 use Rattle.list_walk.specs.Walks.{keys_on}
 use Rattle.std.proofs.Common.{IfOk, List, Option, ap, subst, ℕ, ◌++◌, ◌∙◌, ◌≡◌}
 use Rattle.std.specs.Prelude.{codes}

@@ -1,4 +1,4 @@
-use Rattle.job_states.specs.Mixes.{Mixes}
+use Rattle.job_states.specs.inner.Mixes.{Mixes}
 use Rattle.job_states.proofs.mixing.mix.Given as goal
 
 abbrev pub invariant-mixing : goal.invariant-mixing

@@ -1,4 +1,4 @@
-use Rattle.job_states.specs.Stands.{first_false}
+use Rattle.job_states.specs.inner.Stands.{first_false}
 use Rattle.std.proofs.Common.{drop, ◌≡◌}
 use Rattle.job_states.proofs.reports.first_untold.Given as goal
 

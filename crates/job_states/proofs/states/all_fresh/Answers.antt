@@ -2,7 +2,7 @@ use Rattle.job_model.specs.JobScript.{Script}
 use Rattle.job_spec.specs.States.{actors}
 use Rattle.job_states.proofs.PlaceLemmas.{length_actors}
 use Rattle.job_states.proofs.ReportLemmas.{all_same}
-use Rattle.job_states.specs.Standing.{fresh}
+use Rattle.job_states.specs.inner.Standing.{fresh}
 use Rattle.std.proofs.Common.{ap, length, ◌+◌, ◌∙◌}
 use Rattle.job_states.proofs.states.all_fresh.Goals as goal
 

@@ -1,4 +1,4 @@
-use Rattle.job_states.specs.Stands.{busy_from}
+use Rattle.job_states.specs.inner.Stands.{busy_from}
 use Rattle.std.proofs.Common.{drop, ◌++◌, ◌≡◌}
 use Rattle.job_states.proofs.states.busy_places.Given as goal
 

@@ -1,5 +1,5 @@
 use Rattle.job_states.proofs.ToldLemmas.{mapped_more}
-use Rattle.job_states.specs.Standing.{unreported_in}
+use Rattle.job_states.specs.inner.Standing.{unreported_in}
 use Rattle.job_states.specs.declared.standing.Standing.{Standing}
 use Rattle.std.proofs.Common.{List, ap, arith, drop, get_or, map, set, suc, take, ℕ, ◌++◌, ◌+◌, ◌∙◌, ◌≡◌}
 use Rattle.job_states.proofs.states.unreport.Goals as goal

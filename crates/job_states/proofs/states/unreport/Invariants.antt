@@ -1,4 +1,4 @@
-use Rattle.job_states.specs.Standing.{unreported_in}
+use Rattle.job_states.specs.inner.Standing.{unreported_in}
 use Rattle.std.proofs.Common.{drop, map, take, ◌++◌, ◌≡◌}
 use Rattle.job_states.proofs.states.unreport.Given as goal
 

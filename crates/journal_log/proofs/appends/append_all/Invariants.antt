@@ -1,4 +1,4 @@
-use Rattle.journal_log.specs.Appends.{Appended}
+use Rattle.journal_log.specs.inner.Appends.{Appended}
 use Rattle.journal_log.specs.Changes.{changes}
 use Rattle.journal_log.specs.Crashes.{IsBetween}
 use Rattle.devices.specs.Logged.{CrashesLeave}

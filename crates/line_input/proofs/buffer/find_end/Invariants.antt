@@ -2,7 +2,8 @@ use Rattle.std.proofs.Common.{◌≡◌, suc, ◌+◌, ◌-◌, ◌≤◌, lengt
 use Rattle.std.specs.List.{list_all}
 use Rattle.text_and_lists.specs.Parts.{is_other}
 use Rattle.line_input.specs.Reading.{unread}
-use Rattle.line_input.specs.Buffers.{held_in, IsSound}
+use Rattle.line_input.specs.Buffers.{held_in}
+use Rattle.line_input.specs.inner.Buffers.{IsSound}
 use Rattle.line_input.proofs.buffer.find_end.Given as goal
 
 abbrev pub invariant-loop-end : goal.invariant-loop-end

@@ -1,5 +1,6 @@
 use Rattle.std.proofs.Common.{ap, sym, ◌∙◌}
-use Rattle.line_input.specs.Buffers.{held_in, rest_at}
+use Rattle.line_input.specs.Buffers.{held_in}
+use Rattle.line_input.specs.inner.Buffers.{rest_at}
 use Rattle.line_input.proofs.Holding.{rest_range}
 use Rattle.line_input.proofs.buffer.pass_line.Goals as goal
 

@@ -1,5 +1,5 @@
 use Rattle.machine.proofs.Runs.{work}
-use Rattle.machine.specs.Drove.{Driving}
+use Rattle.machine.specs.inner.Drove.{Driving}
 use Rattle.machine.specs.Turns.{retried}
 use Rattle.machine.proofs.driving.drive.Given as goal
 

@@ -1,5 +1,5 @@
 use Rattle.multipart.proofs.Follow.{follows_rest, no_more, none_left, taken}
-use Rattle.multipart.specs.Listing.{AreOwn, Follows, below}
+use Rattle.multipart.specs.inner.Listing.{AreOwn, Follows, below}
 use Rattle.s3_types.specs.Pages.{begins}
 use Rattle.s3_types.specs.declared.request.UploadRef.{UploadRef}
 use Rattle.std.proofs.Common.{List, ap, append_assoc, cond, false, rules, subst, sym, true, ℕ, [], ◌++◌, ◌∙◌, ◌∷◌, ◌≡◌}

@@ -1,4 +1,4 @@
-use Rattle.multipart.specs.Listing.{AreOwn, Follows, below}
+use Rattle.multipart.specs.inner.Listing.{AreOwn, Follows, below}
 use Rattle.std.proofs.Common.{length, ◌++◌, ◌≡◌, ◌≤◌}
 use Rattle.std.specs.Map.{keys_of}
 use Rattle.multipart.proofs.list.add_uploads.Given as goal

@@ -1,6 +1,6 @@
 use Rattle.object_store.proofs.Flat.{follows_rest, no_more, none_left, taken}
-use Rattle.object_store.specs.Flat.{Follows, below, single}
-use Rattle.object_store.specs.Held.{AreOwn}
+use Rattle.object_store.specs.inner.Flat.{Follows, below, single}
+use Rattle.object_store.specs.inner.Held.{AreOwn}
 use Rattle.object_store.specs.declared.objects.Held.{Held}
 use Rattle.s3_types.specs.Pages.{begins}
 use Rattle.s3_types.specs.declared.reply.PageEntry.{PageEntry}

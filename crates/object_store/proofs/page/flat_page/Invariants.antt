@@ -1,5 +1,5 @@
-use Rattle.object_store.specs.Flat.{Follows, below}
-use Rattle.object_store.specs.Held.{AreOwn}
+use Rattle.object_store.specs.inner.Flat.{Follows, below}
+use Rattle.object_store.specs.inner.Held.{AreOwn}
 use Rattle.std.proofs.Common.{length, ◌++◌, ◌≡◌, ◌≤◌}
 use Rattle.object_store.proofs.page.flat_page.Given as goal
 

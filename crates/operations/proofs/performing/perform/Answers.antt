@@ -42,12 +42,15 @@ returns-in-Ok-answer_of-clause-answered g c = λ part e a.
     (sym c.into_inner.ensures ∙ sym c.into_stage-stage.ensures ∙ c.in-Ok-answer_of.ensures.answer) d.appended e a
 
 -- The machine that was driven is the new one.
-tried_new : {P A : Type 0} (t : Retrying (OperationStage P A)) (m : OperationStage P A) (retries : ℕ) (part : List Entry) (r : Result (Unit {0}) DriveStop)
+tried_new : {P A : Type 0} (t : Retrying (OperationStage P A)) (m : OperationStage P A) (retries : ℕ) (part : List Entry)
+    (r : Result (Unit {0}) DriveStop)
     → retried t ≡ fresh retries m → t.retries ≡ retries → Tried t.retries t.spare part r → Tried retries retries part r
-tried_new {P = P} {A = A} t m retries part r e n h = subst (λ (k : ℕ). Tried retries k part r) (ap (λ (t : Retried (OperationStage P A)). t.spare) e)
+tried_new {P = P} {A = A} t m retries part r e n h = subst (λ (k : ℕ). Tried retries k part r)
+    (ap (λ (t : Retried (OperationStage P A)). t.spare) e)
     (subst (λ (k : ℕ). Tried k t.spare part r) n h)
 
-literal_new : {P A : Type 0} (t : Retrying (OperationStage P A)) (m : OperationStage P A) (retries : ℕ) (part : List Entry) (r : Result (Unit {0}) DriveStop)
+literal_new : {P A : Type 0} (t : Retrying (OperationStage P A)) (m : OperationStage P A) (retries : ℕ) (part : List Entry)
+    (r : Result (Unit {0}) DriveStop)
     → retried t ≡ fresh retries m → t.retries ≡ retries → (retried t ≡ fresh t.retries t.machine → IsFaultBy t.retries part r)
     → IsFaultBy retries part r
 literal_new {P = P} {A = A} t m retries part r e n h =

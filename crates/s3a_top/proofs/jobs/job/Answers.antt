@@ -5,9 +5,9 @@ use Rattle.s3a_top.proofs.Playing.{over_of}
 use Rattle.s3a_top.proofs.Telling.{counted_done, counted_none, counted_read, counted_shelf, jobs_taken, played_counts, read_cause}
 use Rattle.s3a_top.proofs.Telling.{shelf_cause, stop_worked, wanting_cause}
 use Rattle.s3a_top.proofs.Verdicts.{jobs_final}
-use Rattle.s3a_top.specs.Plays.{IsFinal, JobBroke}
-use Rattle.s3a_top.specs.Stops.{of_shelf}
-use Rattle.s3a_top.specs.Workings.{Counted}
+use Rattle.s3a_top.specs.inner.Plays.{IsFinal, JobBroke}
+use Rattle.s3a_top.specs.inner.Stops.{of_shelf}
+use Rattle.s3a_top.specs.inner.Workings.{Counted}
 use Rattle.s3a_top.specs.declared.stop.Stop.{Stop}
 use Rattle.s3a_top.specs.declared.stop.Stop.TheVariants.{Image, NoMemory}
 use Rattle.std.proofs.Common.{Err, refl, subst, sym}

@@ -1,4 +1,4 @@
-use Rattle.s3a_top.specs.Reads.{AreJobsIn, IsNone}
+use Rattle.s3a_top.specs.inner.Reads.{AreJobsIn, IsNone}
 use Rattle.std.proofs.Common.{Bool, IfErr, IfOk, subst, sym}
 use Rattle.s3a_top.proofs.script.jobs_in.Goals as goal
 

@@ -4,7 +4,7 @@ use Rattle.durable_store.specs.declared.work.CommandAnswer.{CommandAnswer}
 use Rattle.exit_status.specs.Statuses.{code}
 use Rattle.s3a_top.proofs.Obeying.{answer_own, over_of, wanting_reason}
 use Rattle.s3a_top.proofs.Telling.{counted_bytes, counted_done, counted_none}
-use Rattle.s3a_top.specs.Statuses.{IsWorked}
+use Rattle.s3a_top.specs.inner.Statuses.{IsWorked}
 use Rattle.s3a_top.specs.declared.stop.Stop.TheVariants.{NoMemory}
 use Rattle.std.proofs.Common.{List, refl, subst, sym, ℕ}
 use Rattle.s3a_top.proofs.stores.commanded.Goals as goal
@@ -32,7 +32,8 @@ returns-in-Ok-work_of-clause-counted g c =
     let a = g.F.Shelf.faults c.obey.new.shelf in
     let answer = c.obey.result in
     counted_done c.quiet.result (g.Q.Source.faults c.args.input.now) (g.Q.Source.faults c.read_bytes.new.input) b a
-    (subst (λ (x : CommandAnswer). IsWorked x.due) (sym c.quiet.ensures.answer) (answer_own (work_in c.in-Ok-work_of.work) answer.due answer.text
+    (subst (λ (x : CommandAnswer). IsWorked x.due) (sym c.quiet.ensures.answer)
+    (answer_own (work_in c.in-Ok-work_of.work) answer.due answer.text
     answer.sent.entries c.obey.ensures.answer c.in-Ok-work_of.ensures.plain)) c.in-Ok.ensures.counted
     (subst (λ (x : CommandAnswer). Tells 5 (code x.due) b a) (sym c.quiet.ensures.answer) c.obey.ensures.counted)
 

@@ -4,7 +4,7 @@ use Rattle.s3a_top.proofs.Crashing.{as_found}
 use Rattle.s3a_top.proofs.Halting.{load_halted}
 use Rattle.s3a_top.proofs.Obeying.{load_stopped, store_from}
 use Rattle.s3a_top.proofs.Telling.{counted_shelf, load_counts, reads_less}
-use Rattle.s3a_top.specs.Workings.{Counted, Goes}
+use Rattle.s3a_top.specs.inner.Workings.{Counted, Goes}
 use Rattle.s3a_top.specs.declared.stop.Stop.{Stop}
 use Rattle.std.proofs.Common.{Err, refl, subst, sym, ℕ, ◌∙◌}
 use Rattle.s3a_top.proofs.top.do_command.Goals as goal

@@ -1,7 +1,7 @@
 use Rattle.durable_job.specs.declared.jobs.Jobs.TheVariants.{One}
 use Rattle.s3a_top.proofs.Verdicts.{jobs_final}
-use Rattle.s3a_top.specs.Plays.{IsFinal}
-use Rattle.s3a_top.specs.Tracings.{told_alone}
+use Rattle.s3a_top.specs.inner.Plays.{IsFinal}
+use Rattle.s3a_top.specs.inner.Tracings.{told_alone}
 use Rattle.std.proofs.Common.{subst, sym}
 use Rattle.s3a_top.proofs.tracing.show_job.Goals as goal
 

@@ -4,8 +4,8 @@ use Rattle.s3a_top.proofs.Halting.{load_halted}
 use Rattle.s3a_top.proofs.Obeying.{load_stopped}
 use Rattle.s3a_top.proofs.Showing.{job_traced, load_ended, store_traced, traces_job, traces_store}
 use Rattle.s3a_top.proofs.Telling.{counted_shelf, load_counts, reads_less}
-use Rattle.s3a_top.specs.Tracings.{Traces}
-use Rattle.s3a_top.specs.Workings.{Counted}
+use Rattle.s3a_top.specs.inner.Tracings.{Traces}
+use Rattle.s3a_top.specs.inner.Workings.{Counted}
 use Rattle.s3a_top.specs.declared.stop.Stop.{Stop}
 use Rattle.std.proofs.Common.{Err, inr, refl, subst, sym, ℕ, ◌∙◌}
 use Rattle.s3a_top.proofs.tracing.trace_command.Goals as goal

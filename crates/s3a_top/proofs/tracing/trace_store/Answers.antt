@@ -1,7 +1,7 @@
 use Rattle.s3a_top.proofs.Obeying.{reason_of, wanting_reason}
 use Rattle.s3a_top.proofs.Showing.{shown_counts}
 use Rattle.s3a_top.proofs.Telling.{counted_bytes, counted_none}
-use Rattle.s3a_top.specs.Tracings.{AnswerShown}
+use Rattle.s3a_top.specs.inner.Tracings.{AnswerShown}
 use Rattle.s3a_top.specs.declared.stop.Stop.TheVariants.{NoMemory}
 use Rattle.std.proofs.Common.{List, refl, subst, sym, ℕ}
 use Rattle.s3a_top.proofs.tracing.trace_store.Goals as goal

@@ -1,6 +1,6 @@
 use Rattle.clap.specs.Simple.{app_of_fields, on_top}
 use Rattle.clap.specs.Words.{app_of, new_rule, rule_of, with_rule}
-use Rattle.s3a_words.specs.Grammar.{bare, command_rule, grammar}
+use Rattle.s3a_words.specs.inner.Grammar.{bare, command_rule, grammar}
 use Rattle.std.proofs.Common.{ap, ap₂, codes, rules, true, ◌∙◌, ◌≡◌}
 use Rattle.std.proofs.lemmas.Result.{IfOk-weaker}
 use Rattle.s3a_words.proofs.grammar.grammar.Goals as goal

@@ -1,7 +1,7 @@
 use Rattle.clap.specs.Walk.{texts}
 use Rattle.clap.specs.Words.{fault_of, found_of, is_simple, is_simple_and_free, matches_of, rows_of, takes}
 use Rattle.s3a_words.proofs.Parse.{given_in, given_of, is_free, is_simply_built, read, without}
-use Rattle.s3a_words.specs.Grammar.{grammar}
+use Rattle.s3a_words.specs.inner.Grammar.{grammar}
 use Rattle.std.proofs.Common.{ap, sym, [], ◌∙◌, ◌≡◌}
 use Rattle.s3a_words.proofs.grammar.matches_in.Goals as goal
 

@@ -2,7 +2,7 @@ use Rattle.s3_types.specs.Store.{Upload}
 use Rattle.std.proofs.Common.{List, ap, rules, subst, ℕ, ◌∙◌, ◌≡◌}
 use Rattle.store_image.proofs.Loop.{upload_is}
 use Rattle.store_image.proofs.Maps.{held_at}
-use Rattle.store_image.specs.Fault.{GivesBy}
+use Rattle.store_image.specs.inner.Fault.{GivesBy}
 use Rattle.std.specs.FinMap as fin
 use Rattle.store_image.proofs.reading.upload_of.Goals as goal
 

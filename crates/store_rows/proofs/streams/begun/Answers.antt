@@ -3,7 +3,7 @@ use Rattle.block_stream.proofs.PartLaws.{get_same}
 use Rattle.block_stream.specs.Stream.{Stream}
 use Rattle.s3_types.specs.Store.{new_bucket}
 use Rattle.std.proofs.Common.{ap, arith, [], ◌≤◌}
-use Rattle.store_rows.specs.Lake.{lake}
+use Rattle.store_rows.specs.inner.Lake.{lake}
 use Rattle.std.specs.FinMap as fin
 use Rattle.store_rows.proofs.streams.begun.Goals as goal
 

@@ -1,5 +1,5 @@
 use Rattle.std.proofs.Common.{take}
-use Rattle.task_magic.specs.Committing.{IsListed}
+use Rattle.task_magic.specs.inner.Committing.{IsListed}
 use Rattle.task_magic.proofs.listing.files_of_keys.Given as goal
 
 abbrev pub invariant-loop-key : goal.invariant-loop-key

@@ -1,5 +1,6 @@
 use Rattle.std.proofs.Common.{drop, length, map, ◌≡◌, ◌≤◌}
-use Rattle.task_magic.specs.Committing.{least_unseen, record_of}
+use Rattle.task_magic.specs.Committing.{record_of}
+use Rattle.task_magic.specs.inner.Committing.{least_unseen}
 use Rattle.task_magic.proofs.listing.missing.Given as goal
 
 abbrev pub invariant-loop-left : goal.invariant-loop-left

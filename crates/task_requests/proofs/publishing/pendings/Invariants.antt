@@ -1,5 +1,6 @@
 use Rattle.std.proofs.Common.{take, ◌≡◌}
-use Rattle.task_requests.specs.Publishing.{picked, records_of}
+use Rattle.task_requests.specs.Publishing.{picked}
+use Rattle.task_requests.specs.inner.Publishing.{records_of}
 use Rattle.task_requests.proofs.publishing.pendings.Given as goal
 
 abbrev pub invariant-loop-place : goal.invariant-loop-place

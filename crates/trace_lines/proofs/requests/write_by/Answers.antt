@@ -1,4 +1,4 @@
-use Rattle.trace_lines.specs.Requests.{sent_bytes}
+use Rattle.trace_lines.specs.inner.Requests.{sent_bytes}
 use Rattle.trace_lines.proofs.Tagged.{digits_spell}
 use Rattle.trace_lines.proofs.requests.write_by.Goals as goal
 

@@ -1,5 +1,5 @@
 use Rattle.std.proofs.Common.{◌+◌}
-use Rattle.trace_text.specs.Tapes.{left}
+use Rattle.trace_text.specs.inner.Tapes.{left}
 use Rattle.trace_text.proofs.Written.{all_events}
 use Rattle.trace_text.proofs.events.write_events.Goals as goal
 

@@ -1,6 +1,6 @@
 use Rattle.std.proofs.Common.{◌++◌, ◌+◌, ◌≡◌, drop, string_bytes}
 use Rattle.std.specs.List.{zip}
-use Rattle.trace_text.specs.Tapes.{Follows, left}
+use Rattle.trace_text.specs.inner.Tapes.{Follows, left}
 use Rattle.trace_text.specs.Trace.{event_lines}
 use Rattle.trace_text.proofs.events.write_events.Given as goal
 

@@ -1,5 +1,5 @@
 use Rattle.std.proofs.Common.{ℕ, ◌<◌, ◌≡◌, ◌≤◌, IfSome, false, slice_get}
-use Rattle.trace_text.specs.Tapes.{is_reply_lost}
+use Rattle.trace_text.specs.inner.Tapes.{is_reply_lost}
 use Rattle.trace_text.proofs.replies.up_to_lost.Given as goal
 
 abbrev pub invariant-loop-place : goal.invariant-loop-place

@@ -1,7 +1,7 @@
 use Rattle.std.proofs.Common.{◌++◌, ◌-◌, ◌≡◌, length, string_bytes}
 use Rattle.std.specs.List.{flat_map}
 use Rattle.trace_text.specs.Sends.{send_lines}
-use Rattle.trace_text.specs.Tapes.{Follows, left}
+use Rattle.trace_text.specs.inner.Tapes.{Follows, left}
 use Rattle.trace_text.proofs.sends.write_all.Given as goal
 
 abbrev pub invariant-sends : goal.invariant-sends

@@ -1,5 +1,5 @@
 use Rattle.std.proofs.Common.{sym, subst}
-use Rattle.audit_claims.specs.Directories.{AreDirectories}
+use Rattle.audit_claims.specs.inner.Directories.{AreDirectories}
 use Rattle.audit_claims.proofs.Dirs.{none_next, none_there, some_there}
 use Rattle.audit_claims.proofs.dir_set.DirSet.reaches.Goals as goal
 

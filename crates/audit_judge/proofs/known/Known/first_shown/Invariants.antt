@@ -2,7 +2,7 @@ use Rattle.std.proofs.Common.{◌≡◌}
 use Rattle.std.specs.Prelude.{map}
 use Rattle.std.specs.FinMap as fin
 use Rattle.std.specs.List.{find}
-use Rattle.audit_judge.specs.Scene.{shows_sign}
+use Rattle.audit_judge.specs.inner.Scene.{shows_sign}
 use Rattle.audit_judge.proofs.known.Known.first_shown.Given as goal
 
 abbrev pub invariant-loop-path : goal.invariant-loop-path

@@ -2,7 +2,7 @@ use Rattle.std.proofs.Common.{List, None, ap, rules, subst, sym, ℕ, ◌∙◌,
 use Rattle.audit_objects.specs.Objects.{at, put}
 use Rattle.auditor.proofs.Opening.{opened_so, unopened}
 use Rattle.auditor.specs.AuditState.{AuditState}
-use Rattle.auditor.specs.Steps.{Opened}
+use Rattle.auditor.specs.inner.Steps.{Opened}
 use Rattle.auditor.proofs.audit.Audit.add_object.Goals as goal
 
 pub open-requires-clause-free : goal.open-requires-clause-free

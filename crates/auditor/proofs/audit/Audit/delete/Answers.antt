@@ -8,7 +8,7 @@ use Rattle.audit_model.specs.Recorded.{is_marker}
 use Rattle.audit_objects.specs.Objects.{at, delete}
 use Rattle.auditor.proofs.Requests.{delete_step, follows_some, given_paths}
 use Rattle.auditor.specs.AuditState.{AuditState}
-use Rattle.auditor.specs.Paths.{has_path}
+use Rattle.auditor.specs.inner.Paths.{has_path}
 use Rattle.text_and_lists.specs.Order.{text_cmp}
 use Rattle.soundness.specs.declared.marker.Marker.TheVariants as markers
 use Rattle.auditor.proofs.audit.Audit.delete.Goals as goal

@@ -1,7 +1,7 @@
 use Rattle.std.proofs.Common.{List, subst, ℕ, [], ◌∷◌}
 use Rattle.audit_model.specs.Answers.{seen_paths}
-use Rattle.auditor.specs.AuditState.{Stepped}
-use Rattle.auditor.specs.Steps.{put_after}
+use Rattle.auditor.specs.inner.AuditState.{Stepped}
+use Rattle.auditor.specs.inner.Steps.{put_after}
 use Rattle.auditor.proofs.audit.Audit.put.Goals as goal
 
 pub returns : goal.returns

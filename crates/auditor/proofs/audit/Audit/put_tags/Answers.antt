@@ -28,6 +28,7 @@ returns c = record {
       (c.in_ok-path.ensures.path ∙ ap (λ (h : AuditState). seen_paths h.dest c.args.bucket (c.args.key ∷ [])) c.self.view_is)
       (c.marker_by-marker.ensures.by ∙ (λ i. cond (c.is_marker.ensures.marker i) markers.New (c.marker.ensures.marker i))
       ∙ ap (λ (h : AuditState). cond (is_marker h.dest c.args.bucket c.args.key) markers.New h.bench.marker) c.self.view_is)
-      (λ b k. c.in_ok-put.ensures.put b k ∙ ap (λ (h : AuditState). put c.args.bucket c.args.key c.args.etags (at h.objects) b k) c.self.view_is)
+      (λ b k. c.in_ok-put.ensures.put b k ∙ ap (λ (h : AuditState). put c.args.bucket c.args.key c.args.etags (at h.objects) b k)
+      c.self.view_is)
       c.in_ok-reason.ensures.told;
 }

@@ -30,7 +30,8 @@ returns-in-Ok-first c =
     record {
       right = subst (λ (k : Option AuditState). Taken k (Some c.in-Ok-first.audit) c.args.line.now (Ok None)) (sym is)
           (begun_taken c.in-Ok-first.audit c.args.line.now c.in-Ok.line c.stage.result
-          (subst (λ (k : Option AuditState). StageOf k c.stage.result) is c.stage.ensures.stage) c.in-Ok.ensures c.in-Ok-first.ensures.begins);
+          (subst (λ (k : Option AuditState). StageOf k c.stage.result) is c.stage.ensures.stage) c.in-Ok.ensures
+          c.in-Ok-first.ensures.begins);
     }
 
 pub returns-in-Err-first : goal.returns-in-Err-first
@@ -39,5 +40,6 @@ returns-in-Err-first c =
     record {
       right = subst (λ (k : Option AuditState). Taken k None c.args.line.now (Err c.in-Err-first.fault)) (sym is)
           (unbegun None c.args.line.now c.in-Ok.line c.stage.result c.in-Err-first.fault
-          (subst (λ (k : Option AuditState). StageOf k c.stage.result) is c.stage.ensures.stage) c.in-Ok.ensures c.in-Err-first.ensures.begins);
+          (subst (λ (k : Option AuditState). StageOf k c.stage.result) is c.stage.ensures.stage) c.in-Ok.ensures
+          c.in-Err-first.ensures.begins);
     }

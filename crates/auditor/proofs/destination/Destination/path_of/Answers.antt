@@ -3,7 +3,7 @@ use Rattle.std.specs.Str.{bytes_eq}
 use Rattle.path_keys.specs.Paths.{Path, below}
 use Rattle.soundness.specs.Paths.{is_visible}
 use Rattle.auditor.proofs.Seen.{none_here, seen_here}
-use Rattle.auditor.specs.Destinations.{behind}
+use Rattle.auditor.specs.inner.Destinations.{behind}
 use Rattle.auditor.proofs.destination.Destination.path_of.Goals as goal
 
 pub returns-in_default : goal.returns-in_default

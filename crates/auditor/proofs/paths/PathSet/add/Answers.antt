@@ -1,6 +1,6 @@
 use Rattle.std.proofs.Common.{List, ap, sym, ℕ, ◌||◌, ◌∙◌}
 use Rattle.text_and_lists.specs.Order.{text_eq}
-use Rattle.auditor.specs.Paths.{has_path}
+use Rattle.auditor.specs.inner.Paths.{has_path}
 use Rattle.auditor.proofs.Sets.{has_added}
 use Rattle.auditor.proofs.paths.PathSet.add.Goals as goal
 

@@ -1,5 +1,5 @@
 use Rattle.std.proofs.Common.{◌≡◌, ◌++◌, None}
-use Rattle.auditor.specs.Paths.{given}
+use Rattle.auditor.specs.inner.Paths.{given}
 use Rattle.auditor.proofs.paths.PathSet.all_gone.Given as goal
 
 abbrev pub invariant-loop-path : goal.invariant-loop-path

@@ -1,6 +1,6 @@
 use Rattle.text_and_lists.proofs.Options.{none_is}
 use Rattle.block_stream.proofs.Invariant.{long_in, short_in}
-use Rattle.block_stream.specs.Kept.{front_of}
+use Rattle.block_stream.specs.inner.Kept.{front_of}
 use Rattle.block_stream.specs.Stream.{Stream, wrote}
 use Rattle.std.proofs.Common.{ap, length, refl, subst, sym, ◌*◌, ◌++◌, ◌+◌, ◌-◌, ◌<◌, ◌∙◌, ◌≤◌}
 use Rattle.block_stream.proofs.stream.BlockStream.add.Goals as goal

@@ -1,7 +1,8 @@
 use Rattle.text_and_lists.proofs.Options.{none_is}
 use Rattle.block_stream.proofs.Invariant.{close_in}
 use Rattle.block_stream.proofs.Written.{asked_closed, holds_closed, shut_ended}
-use Rattle.block_stream.specs.Kept.{front_of, last_of, seen}
+use Rattle.block_stream.specs.Kept.{seen}
+use Rattle.block_stream.specs.inner.Kept.{front_of, last_of}
 use Rattle.block_stream.specs.Stream.{Stream, close, shut}
 use Rattle.std.proofs.Common.{ap, refl, sym, ◌∙◌}
 use Rattle.block_stream.proofs.stream.BlockStream.close.Goals as goal

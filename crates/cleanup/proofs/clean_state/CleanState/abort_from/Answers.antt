@@ -1,5 +1,6 @@
 use Rattle.cleanup.proofs.Places.{aborts_from}
-use Rattle.cleanup.specs.Held.{abort_stage, clean_at}
+use Rattle.cleanup.specs.Held.{clean_at}
+use Rattle.cleanup.specs.inner.Held.{abort_stage}
 use Rattle.std.proofs.Common.{ap, length, ◌∙◌}
 use Rattle.cleanup.proofs.clean_state.CleanState.abort_from.Goals as goal
 

@@ -1,6 +1,7 @@
 use Rattle.cleanup.proofs.Places.{hears_aborting, remove_goes}
-use Rattle.cleanup.specs.Held.{clean_at, clean_of, within}
-use Rattle.cleanup.specs.Places.{behind}
+use Rattle.cleanup.specs.Held.{clean_at, clean_of}
+use Rattle.cleanup.specs.inner.Held.{within}
+use Rattle.cleanup.specs.inner.Places.{behind}
 use Rattle.job_model.specs.Jobs.{Job}
 use Rattle.job_protocol.specs.AtWork.{job_script}
 use Rattle.job_protocol.specs.Cleanups.{clean_hears, removing}

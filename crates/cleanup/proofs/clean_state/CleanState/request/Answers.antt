@@ -1,5 +1,5 @@
 use Rattle.cleanup.proofs.Places.{asks_at_aborting, asks_at_removing}
-use Rattle.cleanup.specs.Places.{abort_asks, remove_asks}
+use Rattle.cleanup.specs.inner.Places.{abort_asks, remove_asks}
 use Rattle.job_model.specs.Jobs.{Job}
 use Rattle.job_protocol.specs.AtWork.{job_script}
 use Rattle.s3_types.specs.declared.request.Request.{Request}

@@ -1,5 +1,5 @@
 use Rattle.cleanup.proofs.SparingPlaces.{reads_file, reads_key}
-use Rattle.cleanup.specs.Places.{get_asks, get_file_asks}
+use Rattle.cleanup.specs.inner.Places.{get_asks, get_file_asks}
 use Rattle.job_model.specs.Jobs.{Job}
 use Rattle.job_protocol.specs.AtWork.{job_script}
 use Rattle.s3_types.specs.declared.request.Request.{Request}

@@ -1,5 +1,5 @@
 use Rattle.folder_log.proofs.Appends.{append_fails, append_leaves, append_shows, settled_at}
-use Rattle.folder_log.specs.Kept.{IsPrepared}
+use Rattle.folder_log.specs.inner.Kept.{IsPrepared}
 use Rattle.folder_log.specs.Parts.{disk_of}
 use Rattle.std.proofs.Common.{List, subst, sym, ℕ}
 use Rattle.folder_log.proofs.log_shelf.LogShelfShelf.append.Goals as goal

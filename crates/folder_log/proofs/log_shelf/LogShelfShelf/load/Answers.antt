@@ -1,6 +1,6 @@
 use Rattle.folder_log.proofs.Appends.{begins_none, read_small}
 use Rattle.folder_log.proofs.Moments.{more_more}
-use Rattle.folder_log.specs.Disk.{more}
+use Rattle.folder_log.specs.inner.Disk.{more}
 use Rattle.devices.specs.Calls.{one_more}
 use Rattle.std.proofs.Common.{Some, ap, arith, refl, rules, ◌∙◌, ◌≡◌}
 use Rattle.folder_log.proofs.log_shelf.LogShelfShelf.load.Goals as goal

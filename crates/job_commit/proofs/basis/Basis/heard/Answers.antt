@@ -1,6 +1,6 @@
 use Rattle.commit_lanes.specs.Fitting.{FitsReply}
 use Rattle.job_commit.proofs.Steps.{deletion_told, fits_deletion}
-use Rattle.job_commit.specs.Stages.{operation_of}
+use Rattle.job_commit.specs.inner.Stages.{operation_of}
 use Rattle.job_commit.specs.declared.step.Step.{Step}
 use Rattle.std.proofs.Common.{subst}
 use Rattle.job_commit.proofs.basis.Basis.heard.Goals as goal

@@ -4,7 +4,8 @@ use Rattle.job_model.specs.declared.events.Op.TheVariants.{Commit, Setup}
 use Rattle.job_spec.specs.States.{end_op, is_commit, is_reported, is_setup}
 use Rattle.job_states.proofs.StandsLemmas.{changes_end, commit_was, decides, never, others_put, same_report, same_stage, setup_was}
 use Rattle.job_states.specs.Standing.{standing}
-use Rattle.job_states.specs.Stands.{ChangesAt, Kept, Stands}
+use Rattle.job_states.specs.Stands.{Kept, Stands}
+use Rattle.job_states.specs.inner.Stands.{ChangesAt}
 use Rattle.job_states.specs.declared.standing.Standing.{Standing}
 use Rattle.std.proofs.Common.{subst, sym, true, ◌∙◌, ◌≡◌}
 use Rattle.job_states.proofs.states.States.end_of.Goals as goal

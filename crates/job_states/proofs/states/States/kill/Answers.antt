@@ -1,7 +1,8 @@
 use Rattle.job_spec.specs.States.{kill}
 use Rattle.job_states.proofs.StandsLemmas.{changes_kill, others_put}
 use Rattle.job_states.specs.Standing.{standing}
-use Rattle.job_states.specs.Stands.{ChangesAt, Kept, Stands}
+use Rattle.job_states.specs.Stands.{Kept, Stands}
+use Rattle.job_states.specs.inner.Stands.{ChangesAt}
 use Rattle.job_states.specs.declared.standing.Standing.{Standing}
 use Rattle.std.proofs.Common.{subst, sym, ◌∙◌}
 use Rattle.job_states.proofs.states.States.kill.Goals as goal

@@ -2,8 +2,10 @@ use Rattle.job_spec.specs.States.{actors, is_reported}
 use Rattle.job_states.proofs.ReportLemmas.{whole}
 use Rattle.job_states.proofs.StandsLemmas.{changes_restart, others_put, renew}
 use Rattle.job_states.proofs.ToldLemmas.{map_twice, none_reported}
-use Rattle.job_states.specs.Standing.{standing, unreported_in}
-use Rattle.job_states.specs.Stands.{ChangesAt, Kept, Stands}
+use Rattle.job_states.specs.Standing.{standing}
+use Rattle.job_states.specs.inner.Standing.{unreported_in}
+use Rattle.job_states.specs.Stands.{Kept, Stands}
+use Rattle.job_states.specs.inner.Stands.{ChangesAt}
 use Rattle.job_states.specs.declared.standing.Standing.{Standing}
 use Rattle.s3_types.specs.declared.request.Actor.TheVariants.{Driver}
 use Rattle.std.proofs.Common.{ap, arith, drop, length, map, subst, sym, true≢false, ◌+◌, ◌∙◌, ◌≡◌}

@@ -1,5 +1,5 @@
 use Rattle.list_walk.proofs.Batches.{batch_last, batch_next}
-use Rattle.list_walk.specs.Kept.{next_from}
+use Rattle.list_walk.specs.inner.Kept.{next_from}
 use Rattle.list_walk.specs.Walks.{keys_on}
 use Rattle.std.proofs.Common.{None, Some, false, length, rules, sym, ◌≡◌}
 use Rattle.list_walk.proofs.sweeping.Sweep.hear.Goals as goal

@@ -1,6 +1,6 @@
 use Rattle.multipart.proofs.Numbered.{numbered_insert}
 use Rattle.multipart.proofs.Rows.{insert_is, put_made, put_sorted, set_is}
-use Rattle.multipart.specs.Numbers.{AreNumbered, IsPlace, is_number_at}
+use Rattle.multipart.specs.inner.Numbers.{AreNumbered, IsPlace, is_number_at}
 use Rattle.std.proofs.Common.{List, ap, set, subst, sym, ℕ, ◌∙◌}
 use Rattle.std.specs.FinMap as fin
 use Rattle.multipart.proofs.part.Parts.insert.Goals as goal

@@ -1,6 +1,6 @@
 use Rattle.text_and_lists.proofs.Tree.{insert_remove}
 use Rattle.multipart.proofs.Keyed.{keyed_insert}
-use Rattle.multipart.specs.Index.{keyed}
+use Rattle.multipart.specs.inner.Index.{keyed}
 use Rattle.std.proofs.Common.{None, ap, arith, sym, ◌∙◌, ◌≡◌, ◌≤◌}
 use Rattle.std.proofs.lemmas.Map.Lookups.{exact_unsigned}
 use Rattle.std.specs.Cmp.{nat_cmp_total}

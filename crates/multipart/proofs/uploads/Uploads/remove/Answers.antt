@@ -1,5 +1,5 @@
 use Rattle.multipart.proofs.Keyed.{keyed_remove}
-use Rattle.multipart.specs.Index.{keyed}
+use Rattle.multipart.specs.inner.Index.{keyed}
 use Rattle.std.proofs.Common.{ap, sym, ◌∙◌}
 use Rattle.std.specs.FinMap as fin
 use Rattle.multipart.proofs.uploads.Uploads.remove.Goals as goal

@@ -1,7 +1,7 @@
 use Rattle.text_and_lists.proofs.Viewed.{viewed_remove}
 use Rattle.text_and_lists.specs.Order.{text_cmp, text_total}
 use Rattle.object_store.proofs.Own.{own_remove}
-use Rattle.object_store.specs.Held.{AreOwn}
+use Rattle.object_store.specs.inner.Held.{AreOwn}
 use Rattle.object_store.specs.declared.objects.Held.{Held}
 use Rattle.std.proofs.Common.{subst, sym, ◌∙◌}
 use Rattle.std.proofs.lemmas.Map.Lookups.{exact_bytes}

@@ -6,7 +6,7 @@ use Rattle.std.proofs.Common.{Bool, List, ap, length, subst, sym, take, ℕ, ◌
 use Rattle.std.specs.Prelude.{IfOk, Result, nat_lt}
 use Rattle.std.specs.declared.alloc.AllocError.{AllocError}
 use Rattle.store_frame.proofs.Listed.{walked_listed}
-use Rattle.store_frame.specs.Walk.{walked}
+use Rattle.store_frame.specs.inner.Walk.{walked}
 use Rattle.std.specs.FinMap as map
 use Rattle.object_store.proofs.objects.Objects.list_page.Goals as goal
 

@@ -5,7 +5,7 @@ use Rattle.s3_types.specs.declared.object.Object.{Object}
 use Rattle.std.proofs.Common.{List, None, Some, ap, cond, false, subst, sym, true, ℕ, ◌∙◌, ◌≡◌}
 use Rattle.std.specs.Option.{option_map}
 use Rattle.store_frame.proofs.Walked.{found_next}
-use Rattle.store_frame.specs.Walk.{ComesNext}
+use Rattle.store_frame.specs.inner.Walk.{ComesNext}
 use Rattle.std.specs.FinMap as map
 use Rattle.object_store.proofs.objects.Objects.next_listed.Goals as goal
 

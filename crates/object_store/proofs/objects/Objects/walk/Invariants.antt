@@ -1,5 +1,5 @@
 use Rattle.std.proofs.Common.{length, true, ◌++◌, ◌-◌, ◌≡◌, ◌≤◌}
-use Rattle.store_frame.specs.Walk.{walked}
+use Rattle.store_frame.specs.inner.Walk.{walked}
 use Rattle.std.specs.FinMap as map
 use Rattle.object_store.proofs.objects.Objects.walk.Given as goal
 

@@ -1,6 +1,6 @@
 use Rattle.text_and_lists.proofs.Tree.{filter_all}
 use Rattle.s3_service.proofs.Next.{is_next}
-use Rattle.s3_service.specs.Next.{IsNext, next_of}
+use Rattle.s3_service.specs.inner.Next.{IsNext, next_of}
 use Rattle.s3_types.specs.Store.{BucketContent, Content}
 use Rattle.std.proofs.Common.{List, ap, rules, subst, sym, ℕ, ◌∙◌, ◌≡◌}
 use Rattle.std.specs.List.{slice_get}

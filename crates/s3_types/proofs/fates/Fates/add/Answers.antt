@@ -1,6 +1,7 @@
 use Rattle.s3_types.proofs.Spans.{apart_insert, first_named, named_insert, no_first, one_first}
 use Rattle.s3_types.specs.Fates.{FateMap, IsFirstNamed, with_fates}
-use Rattle.s3_types.specs.Spans.{AreApart, first_in, from_on, named}
+use Rattle.s3_types.specs.Spans.{named}
+use Rattle.s3_types.specs.inner.Spans.{AreApart, first_in, from_on}
 use Rattle.s3_types.specs.declared.fates.FateFault.{FateFault}
 use Rattle.s3_types.specs.declared.fates.FateFault.TheVariants.{NoMemory, Taken}
 use Rattle.s3_types.specs.declared.fates.Span.{Span}

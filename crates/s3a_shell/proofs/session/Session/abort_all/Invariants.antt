@@ -1,6 +1,7 @@
-use Rattle.s3a_shell.specs.Asking.{OnOne}
-use Rattle.s3a_shell.specs.Sendings.{Asked, AtMost, Sent}
-use Rattle.s3a_shell.specs.Uploading.{AfterSome, aborts, after_aborts}
+use Rattle.s3a_shell.specs.inner.Asking.{OnOne}
+use Rattle.s3a_shell.specs.inner.Sendings.{Asked, AtMost, Sent}
+use Rattle.s3a_shell.specs.Uploading.{aborts}
+use Rattle.s3a_shell.specs.inner.Uploading.{AfterSome, after_aborts}
 use Rattle.std.proofs.Common.{take, ◌≡◌}
 use Rattle.s3a_shell.proofs.session.Session.abort_all.Given as goal
 

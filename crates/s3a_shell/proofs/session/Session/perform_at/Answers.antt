@@ -3,7 +3,7 @@ use Rattle.bucket_ops.specs.Phases.{AlwaysIn, SendsIn}
 use Rattle.s3_types.specs.Store.{Objects, Scene}
 use Rattle.s3a_shell.proofs.Few.{few_in}
 use Rattle.s3a_shell.proofs.Performing.{asked, sent}
-use Rattle.s3a_shell.specs.Sendings.{Asked, Sent}
+use Rattle.s3a_shell.specs.inner.Sendings.{Asked, Sent}
 use Rattle.s3a_shell.specs.declared.session.Session.{Session}
 use Rattle.std.proofs.Common.{List, subst, ℕ, ◌∙◌, ◌≡◌}
 use Rattle.s3a_shell.proofs.session.Session.perform_at.Goals as goal

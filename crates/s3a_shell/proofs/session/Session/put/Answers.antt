@@ -1,6 +1,6 @@
 use Rattle.std.specs.Prelude.{◌≡◌, ◌≤◌, ℕ, Bool, List, false, length, nat_lt, OnOk}
 use Rattle.s3a_shell.specs.Doings.{FileOrNot, most_input}
-use Rattle.s3a_shell.specs.Sendings.{Asked}
+use Rattle.s3a_shell.specs.inner.Sendings.{Asked}
 use Rattle.s3a_shell.proofs.Joining.{sent_none}
 use Rattle.s3a_shell.proofs.Performing.{on_ok, none_stands}
 use Rattle.s3a_shell.proofs.Asking.{asked_none}

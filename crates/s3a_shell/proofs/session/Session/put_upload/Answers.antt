@@ -7,7 +7,7 @@ use Rattle.s3a_shell.proofs.Few.{few_one}
 use Rattle.s3a_shell.proofs.Joining.{sent_one, sent_read}
 use Rattle.s3a_shell.proofs.Looking.{read_same}
 use Rattle.s3a_shell.proofs.Performing.{on_ok}
-use Rattle.s3a_shell.specs.Sendings.{answered_by}
+use Rattle.s3a_shell.specs.inner.Sendings.{answered_by}
 use Rattle.std.proofs.Common.{List, ap, [], ◌++◌, ◌∙◌, ◌∷◌}
 use Rattle.store_frame.proofs.Reading.{reads_nothing}
 use Rattle.s3a_shell.proofs.session.Session.put_upload.Goals as goal

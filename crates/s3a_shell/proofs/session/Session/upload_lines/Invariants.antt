@@ -1,7 +1,9 @@
 use Rattle.bucket_ops.specs.Uploads.{IsStill}
-use Rattle.s3a_shell.specs.Asking.{OnOne, lists}
-use Rattle.s3a_shell.specs.Sendings.{Asked, AtMost, Sent, has_changed}
-use Rattle.s3a_shell.specs.Uploading.{asked_lines}
+use Rattle.s3a_shell.specs.Asking.{lists}
+use Rattle.s3a_shell.specs.inner.Asking.{OnOne}
+use Rattle.s3a_shell.specs.Sendings.{has_changed}
+use Rattle.s3a_shell.specs.inner.Sendings.{Asked, AtMost, Sent}
+use Rattle.s3a_shell.specs.inner.Uploading.{asked_lines}
 use Rattle.std.proofs.Common.{drop, string_bytes, ◌++◌, ◌≡◌}
 use Rattle.s3a_shell.proofs.session.Session.upload_lines.Given as goal
 

@@ -1,7 +1,8 @@
 use Rattle.job_protocol.specs.AtWork.{task_commit_wants}
 use Rattle.std.proofs.Common.{ap, false, refl, subst, sym, ◌∙◌}
 use Rattle.task_staging.proofs.Staged.{at_err, at_ok, found_told, holds_open, keeps_open, passed_holds, passed_told}
-use Rattle.task_staging.specs.Staging.{Keeps, seen}
+use Rattle.task_staging.specs.Staging.{Keeps}
+use Rattle.task_staging.specs.inner.Staging.{seen}
 use Rattle.task_staging.specs.declared.staging.Staging.{Staging}
 use Rattle.task_staging.proofs.staging.Staging.hear_check.Goals as goal
 

@@ -2,7 +2,8 @@ use Rattle.job_protocol.specs.AtWork.{task_commit_wants}
 use Rattle.std.proofs.Common.{ap, subst, sym, ◌∙◌}
 use Rattle.task_requests.proofs.Steps.{tag_none, tag_plain}
 use Rattle.task_staging.proofs.Staged.{gone_told, holds_open, is_sent, open_fits, sent_here, told_part}
-use Rattle.task_staging.specs.Staging.{Keeps, seen}
+use Rattle.task_staging.specs.Staging.{Keeps}
+use Rattle.task_staging.specs.inner.Staging.{seen}
 use Rattle.task_staging.specs.declared.staging.Staging.{Staging}
 use Rattle.job_model.specs.declared.ends.TaskEnd.TheVariants as ends
 use Rattle.task_staging.proofs.staging.Staging.hear_part.Goals as goal

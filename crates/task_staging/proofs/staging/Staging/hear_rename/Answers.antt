@@ -1,6 +1,6 @@
 use Rattle.std.proofs.Common.{ap, ◌∙◌}
 use Rattle.task_staging.proofs.Staged.{rename_told}
-use Rattle.task_staging.specs.Staging.{seen}
+use Rattle.task_staging.specs.inner.Staging.{seen}
 use Rattle.task_staging.specs.declared.staging.Staging.{Staging}
 use Rattle.task_staging.proofs.staging.Staging.hear_rename.Goals as goal
 

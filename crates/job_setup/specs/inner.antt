@@ -1,0 +1,3 @@
+-- Definitions that proofs and private functions need, and no public contract cites.
+pub mod Files
+pub mod Held

@@ -1,0 +1,4 @@
+-- Definitions that proofs and private functions need, and no public contract cites.
+pub mod Asking
+pub mod Sendings
+pub mod Uploading

@@ -1,0 +1,2 @@
+-- Definitions that proofs and private functions need, and no public contract cites.
+pub mod Walk

@@ -1,0 +1,4 @@
+-- Definitions that proofs and private functions need, and no public contract cites.
+pub mod Lines
+pub mod Reading
+pub mod Words
