@@ -1,4 +1,4 @@
-"""The model of S3 that the program runs over, read from docs/MODEL.md and crates/s3_types/specs: what each request is answered, and what it leaves.
+"""The model of S3 that the program runs over, read from crates/s3_types/specs (in words: docs/WHY.md): what each request is answered, and what it leaves.
 
 A request is a line of a trace, as a dictionary; `body` has the bytes of a put or a part. A reply is a dictionary too: `error` alone where the
 request is refused, and otherwise what S3's reply tells.
