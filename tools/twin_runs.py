@@ -37,8 +37,6 @@ class Twins:
         self.program, self.room, self.store = program, room, store
         self.data = text.encode()
         status, said, self.changes = self.play(self.data)
-        if said.startswith("twin fault") or "\nstatus " not in f"\n{said}":
-            raise Stop(refusal(status, said.strip()))
         self.first, self.second, self.order = parts_of(text)
         self.jobs, self.report = order_of(self.order[1]), said.splitlines()
         self.status, self.sent = status, int(next(it for it in self.report if it.startswith("sent ")).split()[1])
@@ -49,6 +47,8 @@ class Twins:
             put_store(folder, self.store)
             status, said = self.program.run(folder, "twins", data=data)
             left = store_of(folder)
+        if "\nstatus " not in f"\n{said}":
+            raise Stop(refusal(status, said.strip()))
         return status, said, [] if left is None else changes_in(left)
 
     def until(self, events):
