@@ -1,6 +1,7 @@
 """Sends requests to a server, and compares its replies, and what is there at the end, with those of the model."""
 import dataclasses
 
+from job_runs import Stop
 from s3_model import Store
 
 FIELDS = {"etag": "tag", "bytes": "content", "length": "length", "magic_length": "length header", "deleted": "list of keys"}
@@ -92,14 +93,21 @@ class Session:
     def begin(self):
         """Makes on the server what the model's store has."""
         for bucket, content in self.store.buckets.items():
-            self.send({"op": "CreateBucket", "bucket": bucket})
+            self.make({"op": "CreateBucket", "bucket": bucket})
             for key, it in content.objects.items():
-                self.send({"op": "PutObject", "bucket": bucket, "key": key, "body": it.data, "magic_length": it.header})
+                self.make({"op": "PutObject", "bucket": bucket, "key": key, "body": it.data, "magic_length": it.header})
             for id, upload in sorted(content.uploads.items()):
                 named = {"bucket": bucket, "key": upload.key}
-                self.uploads[id] = self.send({"op": "CreateMultipartUpload", **named}).get("upload")
+                self.uploads[id] = self.make({"op": "CreateMultipartUpload", **named}).get("upload")
                 for number, data in upload.parts.items():
-                    self.send({"op": "UploadPart", **named, "upload": id, "part": number, "body": data})
+                    self.make({"op": "UploadPart", **named, "upload": id, "part": number, "body": data})
+
+    def make(self, it):
+        """The server's reply to a request before the run. Without its effect no reply of the run could be compared."""
+        reply = self.send(it)
+        if "error" in reply:
+            raise Stop(f"the server refuses {it['op']}, before the first request of the run: {reply['error']}")
+        return reply
 
     def request(self, where, it, is_lost=False):
         """Sends a request, and compares its reply unless that is lost. Gives the model's reply."""

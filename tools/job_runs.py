@@ -1,4 +1,5 @@
 """Scripts of jobs, their traces, and the program that runs them: what the tools share."""
+import argparse
 import json
 import os
 import subprocess
@@ -42,6 +43,13 @@ def add_words(parser):
     parser.add_argument("script", metavar="SCRIPT", help="the script of a job; - for standard input")
     parser.add_argument("--over", metavar="FOLDER", help="run over the store in FOLDER, which is not changed (default: an empty folder)")
     parser.add_argument("--s3a", metavar="PATH", default=f"{TOP}/s3a", help="the program (default: the s3a beside tools/)")
+
+
+def option_number(word):
+    """The number that an option gives, from 1 on."""
+    if not (word.isascii() and word.isdigit()) or int(word) == 0:
+        raise argparse.ArgumentTypeError(f"{word} is no number from 1 on")
+    return int(word)
 
 
 def text_of(path):
@@ -172,10 +180,10 @@ class Program:
         if not os.access(self.path, os.X_OK) or os.path.isdir(self.path):
             raise Stop(f"there is no program {path}: name one by --s3a")
 
-    def run(self, folder, *words, data=b""):
-        """The status and the standard output of a command. What it says on standard error goes to the tool's own."""
+    def run(self, folder, *words, data=b"", is_quiet=False):
+        """The status and the standard output of a command. What it says on standard error goes to the tool's own, unless `is_quiet`."""
         try:
-            ran = subprocess.run([self.path, folder, *words], input=data, stdout=subprocess.PIPE)
+            ran = subprocess.run([self.path, folder, *words], input=data, stdout=subprocess.PIPE, stderr=subprocess.DEVNULL if is_quiet else None)
         except OSError as why:
             raise Stop(f"{self.path} cannot be run: {why.strerror}") from None
         if ran.returncode < 0:

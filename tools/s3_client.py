@@ -4,6 +4,13 @@ import hashlib
 from job_runs import Stop
 
 HEADER = "x-hadoop-s3a-magic-data-length"
+# What boto3 says where it reaches no server, and where it cannot send to it.
+UNREACHED = ("EndpointConnectionError", "ConnectTimeoutError")
+UNSENT = ("EndpointResolutionError", "NoCredentialsError", "PartialCredentialsError", "ProxyConnectionError", "SSLError")
+
+
+class NoServer(Stop):
+    """Why requests cannot be sent to the endpoint."""
 
 
 def connect(endpoint):
@@ -24,7 +31,7 @@ def connect(endpoint):
     try:
         client = boto3.client("s3", endpoint_url=endpoint, region_name="us-east-1", config=config)
     except (BotoCoreError, ValueError) as why:
-        raise Stop(f"boto3 makes no client of {endpoint}: {why}") from None
+        raise NoServer(f"boto3 makes no client of {endpoint}: {why}") from None
     return Client(client, endpoint, ClientError, (BotoCoreError, ResponseParserError))
 
 
@@ -55,9 +62,12 @@ class Client:
         except self.refused as why:
             return {"error": code_of(why.response)}
         except self.failed as why:
-            if type(why).__name__ in ("EndpointConnectionError", "NoCredentialsError", "ConnectTimeoutError"):
-                raise Stop(f"{self.endpoint} cannot be used: {why}") from None
-            return {"error": type(why).__name__}
+            name = type(why).__name__
+            if name in UNREACHED:
+                raise NoServer(f"{self.endpoint} cannot be reached") from None
+            if name in UNSENT:
+                raise NoServer(f"{self.endpoint} cannot be used: {why}") from None
+            return {"error": name}
 
     def where(self, it):
         return {name: it[word] for name, word in (("Bucket", "bucket"), ("Key", "key"), ("UploadId", "upload")) if word in it}

@@ -5,7 +5,7 @@ import random
 import tempfile
 
 from comparing import Session
-from job_runs import Stop, store_of
+from job_runs import Stop, refusal, store_of
 from job_scripts import OLD, WORDS, blocks, content, script
 from s3_model import MINIMUM, Store, md5
 from store_file import read_store
@@ -39,10 +39,12 @@ class Run:
 
     def __init__(self, program, folder, words, data):
         before = store_of(folder)
-        status, text = program.run(folder, "trace", *words, data=data)
+        status, text = program.run(folder, "trace", *words, data=data, is_quiet=words != ["job"])
         lines = [it for it in text.split("\n") if it]
+        if status == 2:
+            raise Stop("s3a has no such command, or shows no trace of it")
         if not all(it.startswith("{") for it in lines):
-            raise Stop(f"s3a ends with status {status} and says: {text.strip()}")
+            raise Stop(refusal(status, text.strip()))
         self.requests = [it for it in map(json.loads, lines) if "n" in it and not it["op"].startswith("Cluster")]
         program.run(folder, *words, data=data)
         after = store_of(folder)
