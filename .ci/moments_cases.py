@@ -15,27 +15,51 @@ SECOND = ["job jb", *HEAD[1:], "attempt 0.0", "file y text 2", *EVENTS]
 ORDER = ["a 3", "b 4", "a 1"]
 
 
+def look_of(shape):
+    """How a shape looks, wherever it stands."""
+    return shape.tag.removeprefix(SPACE), shape.get("fill"), shape.get("stroke")
+
+
 class Drawn:
-    """A picture: the tooltips of its rows by label, those of its marks, its texts, and where they stand."""
+    """A picture: the tooltips of its rows by label, those of its marks, its texts, and where they stand. Of marks, the cells of rows and the
+    legend it also has how they look."""
 
     def __init__(self, svg):
         root = xml.fromstring(svg)
-        self.rows, self.marks, self.cells = {}, [], []
+        self.rows, self.marks, self.cells, self.looks, self.fills = {}, [], [], {}, {}
+        self.legend, self.begin = legend_of(root), [float(it.get("x1")) for it in root.iter(f"{SPACE}line") if it.get("stroke-width") == "3"]
+        self.patterns = {f"url(#{it.get('id')})": [(one.get("fill"), one.get("d")) for one in it] for it in root.iter(f"{SPACE}pattern")}
         self.texts = [it.text for it in root.iter(f"{SPACE}text")]
         self.size = float(root.get("width")), float(root.get("height"))
         for group in root.iter(f"{SPACE}g"):
             told = group.find(f"{SPACE}title").text
             if told.startswith("line "):
                 self.marks.append(told)
+                self.looks[told] = [look_of(it) for it in group if it.tag != f"{SPACE}title"]
             else:
                 label, _, what = told.rpartition(": ")
                 box = group.find(f"{SPACE}rect")
                 self.cells.append((label, what, float(box.get("x")), float(box.get("y"))))
                 self.rows.setdefault(label, []).append(what)
+                shapes = [it for it in group if it.tag == f"{SPACE}rect" and it.get("stroke")][1:]
+                words = [it.text for it in group if it.tag == f"{SPACE}text"]
+                self.fills.setdefault(label, []).append(([(it.get("fill"), float(it.get("height"))) for it in shapes], words))
 
     def sight(self):
         """The paths that readers see at the end."""
         return sorted(label for label, told in self.rows.items() if not told[-1].startswith("nothing"))
+
+
+def legend_of(root):
+    """Of each text of a picture the looks of the shapes right before it, as they stand in the legend."""
+    found, shapes = {}, []
+    for it in root:
+        if it.tag == f"{SPACE}text" and it.text != "s":
+            found.setdefault(it.text, shapes)
+            shapes = []
+        else:
+            shapes = [] if it.tag in (f"{SPACE}g", f"{SPACE}line") else [*shapes, look_of(it)]
+    return found
 
 
 def drawn(check, script, *words):
@@ -94,6 +118,29 @@ def marked(check):
     check.see("moments --title", "A & B" in drawn(check, script, "--title", "A & B").texts, "the title is not there")
 
 
+def looks(check):
+    """Each mark and each cell looks as the legend has it, and each in its own way. Requests 4, 5 and 14 are slow or lost, and are sent again."""
+    picture = drawn(check, job("loss 4 slow", "loss 5 before", "loss 14 after"))
+    change, read, refused, lost, slow = meanings = ["a change that took effect", "a read", "refused", "request or reply lost", "slow: took no effect"]
+    due = dict(enumerate([[refused], [change], [read], [slow], [lost], *[[change]] * 4, [read], [read], [change], [read], [lost, change], [refused], [change]], 1))
+    found = {int(re.search(r"request (\d+):", told)[1]): look for told, look in picture.looks.items()}
+    check.same("moments, how marks look", found, {n: [look for it in them for look in picture.legend.get(it, [])] for n, them in due.items()})
+    check.see("moments, marks that differ", len({str(picture.legend.get(it)) for it in meanings}) == 5, str(picture.legend))
+    left = picture.cells[0][2]
+    check.same("moments, where the commit begins", [round((it - left) / 16, 3) for it in picture.begin[:1]], [13])
+    cases = ((job(), {"part-00000": ("new file", "0.0"), "_SUCCESS": ("_SUCCESS of this job", "new")}, ()),
+             (job(), {"keep": ("old file", "old"), "part-00000": ("new file", "0.0"), "_SUCCESS": ("_SUCCESS of this job", "new")},
+              ("--over", check.store("moments-looks", "keep"))),
+             ([*HEAD[:3], "tasks 2", "attempt 0.0", "file a text 1", "attempt 1.1", "file b text 2", *EVENTS[:3], "do 1.1 write", "do 1.1 commit", EVENTS[3]],
+              {"a": ("new file of attempt 0", "0.0"), "b": ("new file of attempt 1", "1.1"), "_SUCCESS": ("_SUCCESS of this job", "new")}, ()))
+    for script, due, words in cases:
+        picture = drawn(check, script, *words)
+        fills = {name: picture.legend.get(meaning, [[None] * 2])[0][1] for name, (meaning, _) in due.items()}
+        check.same("moments, how cells look", {name: them[-1] for name, them in picture.fills.items()},
+                   {name: ([(fills[name], 18.0)], [text]) for name, (_, text) in due.items()})
+        check.see("moments, cells that differ", len({str(picture.patterns.get(it, it)) for it in fills.values()}) == len(due), str(fills))
+
+
 def over(check):
     """Old files: one is replaced, one stays, and the old marker is deleted by request 2. The folder stays as it was."""
     folder = check.store("moments-old", "part-00000", "keep", "_SUCCESS")
@@ -135,31 +182,47 @@ def twins(check):
     check.same("moments, a wrong order", (status, error), (1, "moments: s3a ends with status 6 and says: twin fault 8 at line 1\n"))
 
 
-def large(tasks, files):
+def large(tasks, files, *head):
     """A job with so many files of each task. Its attempts send 3 + 4 * files + 2 requests each for the writes and the listings."""
     attempts = [line for task in range(tasks)
                 for line in (f"attempt {task}.0", *(f"file part-{task:03}-{it:02} text {task} {it}" for it in range(files)))]
     events = [f"do {task}.0 {word}" for word in ("write", "commit") for task in range(tasks)]
-    return [*HEAD[:3], f"tasks {tasks}", *attempts, EVENTS[0], *events, EVENTS[3]]
+    return [*HEAD[:3], f"tasks {tasks}", *head, *attempts, EVENTS[0], *events, EVENTS[3]]
 
 
 def folded(check):
     """20 tasks of 10 files: set-up 3 requests, writes 800, commits 20 times 12, then 20 reads and 200 completions."""
     attempts, starts = ([text.format(it) for it in range(90)] for text in ("attempt {}.0", "start {}.0 write"))
-    quiet = drawn(check, [*HEAD[:3], "tasks 90", *attempts, EVENTS[0], *starts, *(f"kill {it}.0" for it in range(3))])
-    check.see("moments, quiet lines", {"96 start 0.0 write and 89 more", "186 kill 0.0", "187 kill 1.0", "188 kill 2.0"} <= {*quiet.texts}, str(quiet.texts))
+    busy = [*(f"kill {it}.0" for it in range(3)), *(f"do {it}.0 commit" for it in range(3, 6))]
+    quiet = drawn(check, [*HEAD[:3], "tasks 90", *attempts, EVENTS[0], *starts, *busy])
+    check.see("moments, quiet lines", {"96 start 0.0 write and 89 more", *(f"{it} {text}" for it, text in enumerate(busy, 186))} <= {*quiet.texts}, str(quiet.texts))
     picture = drawn(check, large(20, 10))
     labels = [f"task {it}: 10 files" for it in range(20)]
     check.same("moments, rows of 200 files", list(picture.rows), [*labels, "_SUCCESS"])
     due = NOTHING + [f"{it + 1} 3.0, after request {1094 + it}" for it in range(10)]
     check.same("moments, a row of ten files", picture.rows[labels[3]], due)
     check.same("moments, the marker of 200 files", picture.rows["_SUCCESS"], NOTHING + ["new, after request 1264"])
+    # A row is 18 high.
+    cells = picture.fills[labels[3]][1:]
+    check.same("moments, how far cells are filled", [round(sum(high for _, high in them), 1) for them, _ in cells], [round(1.8 * it, 1) for it in range(1, 11)])
+    check.same("moments, what a full cell says", cells[-1][1], ["10/10"])
     check.see("moments, numbers of 200 files", {"1–3", "4–803", "804–1043", "1044–1063"} <= {*picture.texts}, str(picture.texts))
     check.see("moments, lines of 200 files", "226 do 0.0 write and 19 more" in picture.texts, str(picture.texts))
     check.see("moments, the size of 200 files", picture.size[0] < 2000 and picture.size[1] < 1000, f"it is {picture.size}")
     rows = drawn(check, large(20, 10), "--rows", "10").rows
     check.same("moments --rows", list(rows), [*(f"tasks {it}–{it + 1}: 20 files" for it in range(0, 20, 2)), "_SUCCESS"])
     check.same("moments --rows, a row for each path", len(drawn(check, large(3, 5), "--rows", "15").rows), 16)
+
+
+def folded_more(check):
+    """A lost request keeps a column of its own: of the 41 requests from 484 on, which one line sends, it is the 17th. 40 tasks of 10 files have 401 changes, so two share a column: requests 2124 to 2523 complete the files."""
+    texts = drawn(check, large(20, 10, "loss 500 after")).texts
+    check.see("moments, a lost request among many", {"4–483", "484–499", "500", "525–804"} <= {*texts}, str(texts))
+    picture = drawn(check, large(40, 10))
+    due = NOTHING + [f"{it} 3.0, after request {2153 + it}" for it in range(2, 11, 2)]
+    check.same("moments, a row of 400 files", picture.rows["task 3: 10 files"], due)
+    check.same("moments, the marker of 400 files", picture.rows["_SUCCESS"], NOTHING + ["new, after request 2524"])
+    check.same("moments, the last row of 400 files", picture.rows["task 39: 10 files"][-1], "10 39.0, after request 2523")
 
 
 def plays(check):
@@ -220,5 +283,5 @@ def step_of(path):
 
 
 def moments(check):
-    for look in (jobs, marked, over, twins, folded, plays, page, scenarios):
+    for look in (jobs, marked, looks, over, twins, folded, folded_more, plays, page, scenarios):
         look(check)
