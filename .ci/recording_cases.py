@@ -260,7 +260,7 @@ def in_order(check):
         it.write('{"op":"Job"}\n{"bucket":"lake","effect":true,"key":"x","n":7,"op":"DeleteObject"}')
 
     async def record():
-        return await changes_in_turn(Recorder(path, NAMES))
+        return await asyncio.wait_for(changes_in_turn(Recorder(path, NAMES)), 20)
     check.same("record, the order of changes", asyncio.run(record()), ["first", "part", "|", "|", "second", "|", "third", "|", "fourth"])
     with open(path, encoding="utf-8") as them:
         lines = [json.loads(it) for it in them]
@@ -280,6 +280,7 @@ with open(path, "a") as out:
     out.write('{{"bucket":"b","effect":null,"key":"k","n":1,"op":"PutObject","why":"no reply"}}\\n')
     out.write('{{"bucket":"b","effect":null,"key":"k","n":2,"op":"GetObject","why":"no reply"}}\\n')
     out.write('{{"bucket":"b","effect":true,"keys":["k","l"],"n":3,"op":"DeleteObjects"}}\\n')
+    out.write('{{"bucket":"b","effect":null,"keys":["k","l"],"n":4,"op":"DeleteObjects","why":"no reply"}}\\n')
 print(" ".join(it for it in words if not it.startswith(("trace=", "/"))))
 sys.exit(3 if "fails" in words else 0)
 """
@@ -298,8 +299,8 @@ def words(check):
         port, trace = held.getsockname()[1], f"{room}/a.jsonl"
         url = "http://s3.example.com"
         tried = lambda path, *given: check.run("record", *given, over={"PATH": f"{path}:{os.path.dirname(sys.executable)}:/usr/bin:/bin"})
-        check.same("record, a wrong endpoint", tried(room, "s3.example.com", trace),
-                   (1, "", "record: s3.example.com is no URL of an endpoint; write it as http://127.0.0.1:9000\n"))
+        for wrong in ("s3.example.com", "ftp://s3.example.com", "http://s3.example.com/lake", "http://[s3", "http://s3.example.com:99999", "http://s3?x=y"):
+            check.same(f"record, {wrong}", tried(room, wrong, trace), (1, "", f"record: {wrong} is no URL of an endpoint; write it as http://127.0.0.1:9000\n"))
         check.same("record, a port that is taken", tried(room, "--port", str(port), url, trace),
                    (1, "", f"record: the proxy cannot listen at 127.0.0.1:{port}: Address already in use\n"))
     with open(f"{room}/b.jsonl", "w", encoding="utf-8") as it:
@@ -307,7 +308,7 @@ def words(check):
     free = ["--port", str(port)]
     check.same("record, a wrong trace", tried(room, *free, url, f"{room}/b.jsonl"), (1, "", f"record: line 2 of {room}/b.jsonl lacks the member etags\n"))
     check.same("record, a folder", tried(room, *free, url, room), (1, "", f"record: {room} is no file\n"))
-    said = f"{trace}: 3 requests, 1 changes\ndecide line 1: PutObject b/k: no reply\n"
+    said = f"{trace}: 4 requests, 1 change\ndecide line 1: PutObject b/k: no reply\ndecide line 4: DeleteObjects b/k l: no reply\n"
     check.same("record", tried(room, *free, "--host", "t", url + "/", trace, "--", "more"), (0, f"{STARTED.format(port)} more\n{said}", ""))
     status, said, why = tried(room, *free, "--forward", url, f"{room}/c.jsonl", "--", "fails")
     check.same("record, a proxy that fails", (status, why), (1, "record: the proxy ended with status 3: the trace may lack requests\n"))

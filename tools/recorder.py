@@ -157,7 +157,8 @@ class Addon:
     def done(self):
         self.tell("finish")
         for host, count in self.passed.items():
-            print(f"record: {count} requests to {host} have no line", file=sys.stderr, flush=True)
+            told = "1 request" if count == 1 else f"{count} requests"
+            print(f"record: {told} to {host} {'has' if count == 1 else 'have'} no line", file=sys.stderr, flush=True)
         if self.has_failed:
             sys.exit(1)
 
