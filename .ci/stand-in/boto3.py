@@ -1,13 +1,13 @@
 """A stand-in for boto3, for .ci/tools: a client that gives the replies of the file REPLIES in their order, whatever it is asked.
 
-A line of REPLIES is the name of the method that must be called next, and its reply as JSON, or `refused` and an error code, or `unreadable`.
-`Body` in a reply is a text. Each call is written to the file CALLS.
+A line of REPLIES is the name of the method that must be called next, and its reply as JSON, or `refused` and an error code, or `unreadable`, or
+`unreached`. `Body` in a reply is a text. Each call is written to the file CALLS. With SERVER in the environment the client is a server of its own.
 """
 import io
 import json
 import os
 
-from botocore.exceptions import ClientError
+from botocore.exceptions import ClientError, EndpointConnectionError
 from botocore.parsers import ResponseParserError
 
 
@@ -24,6 +24,8 @@ class Client:
             assert method == due, f"{method} was called, and {due} is next"
             if reply.startswith("refused "):
                 raise ClientError({"Error": {"Code": reply.split(" ")[1]}})
+            if reply == "unreached":
+                raise EndpointConnectionError
             if reply == "unreadable":
                 raise ResponseParserError
             found = json.loads(reply)
@@ -32,4 +34,7 @@ class Client:
 
 
 def client(*_, **__):
+    if "SERVER" in os.environ:
+        from s3_server import Server
+        return Server()
     return Client(os.environ["REPLIES"], os.environ["CALLS"])

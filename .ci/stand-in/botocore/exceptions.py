@@ -5,6 +5,10 @@ class BotoCoreError(Exception):
     pass
 
 
+class EndpointConnectionError(BotoCoreError):
+    pass
+
+
 class ClientError(Exception):
     def __init__(self, response):
         super().__init__(response)
