@@ -2,10 +2,12 @@
 import html.parser
 import json
 import os
+import subprocess
 
 from job_runs import Trace
 from outcomes import Outcome
 
+TOP = os.path.dirname(os.path.dirname(os.path.abspath(__file__)))
 HEAD = ["job j1", "dest s3a://lake/out", "committer magic", "tasks 1", "retries 0"]
 FILES = ["attempt 0.0", "file part-00000 text hello"]
 EVENTS = ["do driver setup", "do 0.0 write", "do 0.0 commit", "do driver commit"]
@@ -18,6 +20,7 @@ class Page(html.parser.HTMLParser):
 
     def __init__(self, text):
         super().__init__()
+        self.text = text
         self.heads, self.keys, self.cells, self.names, self.inside = [], [], [], set(), None
         self.feed(text)
 
@@ -85,6 +88,7 @@ def pages(check):
     page, _ = swept(check, [*HEAD[:4], "retries 1", "loss 1 slow", *FILES, *EVENTS], "--limit", "1")
     check.same("the heads of a page with retries", page.heads, ["request", "actor", "operation", "key", "one try", "every try", "crash before", *COLUMNS, *COLUMNS])
     check.same("what the script itself loses", letters(page), ["–"] * 6 + ["O"])
+    check.see("what the legend says of it", ">&ndash;</td><td>not tried: the script itself says what happens to this request<" in page.text, "it is not told")
 
 
 def modes(check):
@@ -140,6 +144,20 @@ def unsafe(check):
         check.same(f"sweep, {what}", Outcome(Trace("\n".join([*claim, *lines])), "", "", {0: 0}).wrongs(), due)
 
 
+def samples(check):
+    """The sweeps in examples/sweeps are those that its commands make. (Beside this copy of the tools there is no `audit`: readers are always safe.)"""
+    old = check.store("samples", "d=1/part-00000", "d=1/x", "d=2/y")
+    for name, *words in (("lost-reply", "examples/sweeps/lost-reply.job"), ("revert", "examples/revert/1.job"),
+                         ("partitioned-replace", "examples/sweeps/partitioned-replace.job", "--over", old)):
+        path = f"{check.room}/sample.html"
+        ran = subprocess.run([f"{check.room}/tools/sweep", *words, "--html", path], cwd=TOP, capture_output=True, timeout=600)
+        with open(f"{TOP}/examples/sweeps/{name}.tsv", encoding="utf-8") as it:
+            check.see(f"examples/sweeps/{name}.tsv", ran.stdout.decode() == it.read().replace("\tsound\t", "\t-\t"), "the tool makes another one: make it anew")
+        with open(f"{TOP}/examples/sweeps/{name}.html", encoding="utf-8") as due, open(path, encoding="utf-8") as it:
+            is_same = it.read() == due.read().replace("at each moment: sound\n", "at each moment: -\n")
+            check.see(f"examples/sweeps/{name}.html", is_same, "the tool makes another one: make it anew")
+
+
 def sweeps_more(check):
-    for look in (pages, modes, commits, unsafe):
+    for look in (pages, modes, commits, unsafe, samples):
         look(check)

@@ -8,7 +8,7 @@ PROGRAM = f"{TOP}/audit"
 
 
 def audit(trace):
-    """The first line that `audit` prints of the text of a trace, or `-` while there is no such program."""
+    """The first line that `audit` prints of the text of a trace, or `-` if there is no such program."""
     if not os.access(PROGRAM, os.X_OK) or os.path.isdir(PROGRAM):
         return "-"
     ran = subprocess.run([PROGRAM], input=trace.encode(), capture_output=True)

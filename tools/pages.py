@@ -6,6 +6,7 @@ body { font: 15px sans-serif; margin: 2em; color: #111; max-width: 75em }
 table { border-collapse: collapse }
 th, td { padding: 2px 8px; text-align: left; font-weight: normal; font-size: 13px; white-space: nowrap }
 thead th { text-align: center; border-bottom: 2px solid #111; background: #fff; vertical-align: bottom }
+th.tries { border-left: 6px solid #fff; border-right: 6px solid #fff }
 td.key { font-family: monospace; font-size: 12px }
 tr.event td { border-top: 1px solid #777; padding-top: 7px; font-weight: bold }
 td.c { width: 34px; padding: 2px 0; text-align: center; border: 1px solid #999; color: #555; font-size: 14px }
@@ -17,7 +18,7 @@ td.s { background: #fdc981; color: #111 }
 td.e { background: #f08a62; color: #111 }
 td.l { background: #a50f15; color: #fff }
 td.u { background: #111; color: #fff }
-td.x { border: 0; color: #999 }
+td.x { border: 0; color: #555 }
 pre { background: #f3f3f3; padding: 1em; overflow-x: auto }
 @media print { td.c { print-color-adjust: exact; -webkit-print-color-adjust: exact } }
 """
@@ -28,10 +29,10 @@ LETTERS = {
     "O": "the old files, as at the start",
     "S": "some files: not all new ones, or not all old ones",
     "E": "nothing, though there were old files",
-    "L": "old files are gone, though the mode keeps them or, without the added fault, readers see a file there",
+    "L": "old files are gone that the mode keeps, or at whose paths readers see a file without the added fault",
     "U": "readers were not safe, so far as can be told",
 }
-UNTRIED = '<td class="c x" title="The script itself says what happens to this request.">&ndash;</td>'
+UNTRIED = "not tried: the script itself says what happens to this request"
 HEADS = {"slow": "slow", "before": "lost<br>before", "after": "lost<br>after"}
 
 
@@ -90,7 +91,7 @@ def row(request, sweep, runs, key_of):
     for fault in sweep.faults:
         run = runs.get((request["n"], fault))
         title = f"request {request['n']}, {request['actor']} {request['op']} {key_of(request)}: {fault}"
-        cells.append(cell(run, base, title) if run else UNTRIED)
+        cells.append(cell(run, base, title) if run else f'<td class="c x" title="{UNTRIED}">&ndash;</td>')
     where = f"<td>{request['n']}</td><td>{request['actor']}</td><td>{request['op']}</td>"
     return f'<tr>{where}<td class="key">{html.escape(key_of(request))}</td>{"".join(cells)}</tr>'
 
@@ -98,7 +99,7 @@ def row(request, sweep, runs, key_of):
 def head(sweep):
     """The grid's head: one try of a request, every try, and the crash before it."""
     fates = "".join(f"<th>{it}</th>" for it in HEADS.values())
-    spans = '<th colspan="3">one try</th>' + ('<th colspan="3">every try</th>' if sweep.retries else "")
+    spans = "".join(f'<th colspan="3" class="tries">{it}</th>' for it in ("one try", *(("every try",) if sweep.retries else ())))
     words = "".join(f'<th rowspan="2">{it}</th>' for it in ("request", "actor", "operation", "key"))
     return f'<thead><tr>{words}{spans}<th rowspan="2">crash<br>before</th></tr><tr>{fates * (2 if sweep.retries else 1)}</tr></thead>'
 
@@ -129,6 +130,8 @@ def legend(sweep, runs):
     rows.append(("m", "&nbsp;", f"thick border: the commit, what readers see or {SUCCESS} ended otherwise than without an added fault",
                  counted(marked, "run")))
     rows.append(("", "+", "more uploads are left than without an added fault", ""))
+    if len(letters) < len(sweep.requests) * len(sweep.faults):
+        rows.append(("x", "&ndash;", UNTRIED, ""))
     lines = (f'<tr><td class="c {name}">{it}</td><td>{said}</td><td>{many}</td></tr>' for name, it, said, many in rows)
     return f"<table>{''.join(lines)}</table>"
 
@@ -136,7 +139,7 @@ def legend(sweep, runs):
 def introduction(sweep):
     """What the page shows, and how the run without an added fault ends."""
     base = sweep.base.outcome
-    tries = f"every try of a request is {sweep.retries + 1} tries." if sweep.retries else "one loss exhausts them."
+    tries = f"every try of a request is {sweep.retries + 1} tries." if sweep.retries else "a request that is lost once has run out of retries."
     return (
         "<p>Each cell is one run of the script with one fault added: the row says which request it hits, the column what happens to it. "
         f"The letter says what readers see at the end. <code>retries {sweep.retries}</code>: {tries} A cell's tooltip has details.</p>\n"
