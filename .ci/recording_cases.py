@@ -284,7 +284,7 @@ with open(path, "a") as out:
 print(" ".join(it for it in words if not it.startswith(("trace=", "/"))))
 sys.exit(3 if "fails" in words else 0)
 """
-STARTED = "--quiet --mode reverse:http://s3.example.com --listen-host 127.0.0.1 --listen-port {} -s --set --set endpoint_names=*,localhost,s3.example.com,t" \
+STARTED = "--quiet --mode reverse:{} --listen-host 127.0.0.1 --listen-port {} -s --set --set endpoint_names=*,localhost,localhost,t" \
     " --set pass_others=false --set keep_host_header=true"
 
 
@@ -309,7 +309,10 @@ def words(check):
     check.same("record, a wrong trace", tried(room, *free, url, f"{room}/b.jsonl"), (1, "", f"record: line 2 of {room}/b.jsonl lacks the member etags\n"))
     check.same("record, a folder", tried(room, *free, url, room), (1, "", f"record: {room} is no file\n"))
     said = f"{trace}: 4 requests, 1 change\ndecide line 1: PutObject b/k: no reply\ndecide line 4: DeleteObjects b/k l: no reply\n"
-    check.same("record", tried(room, *free, "--host", "t", url + "/", trace, "--", "more"), (0, f"{STARTED.format(port)} more\n{said}", ""))
+    with socket.create_server(("127.0.0.1", 0)) as served:
+        own = f"http://localhost:{served.getsockname()[1]}"
+        check.same("record", tried(room, *free, "--host", "t", own + "/", trace, "--", "more"), (0, f"{STARTED.format(own, port)} more\n{said}", ""))
+    check.same("record, no server", tried(room, *free, own, trace), (1, "", f"record: {own} cannot be reached: Connection refused\n"))
     status, said, why = tried(room, *free, "--forward", url, f"{room}/c.jsonl", "--", "fails")
     check.same("record, a proxy that fails", (status, why), (1, "record: the proxy ended with status 3: the trace may lack requests\n"))
     check.see("record --forward", "--mode" not in said and "=s3.example.com --set pass_others=true" in said, said)
