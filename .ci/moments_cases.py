@@ -26,16 +26,18 @@ class Drawn:
 
     def __init__(self, svg):
         root = xml.fromstring(svg)
-        self.rows, self.marks, self.cells, self.looks, self.fills = {}, [], [], {}, {}
+        self.rows, self.marks, self.cells, self.looks, self.fills, self.middles = {}, [], [], {}, {}, {}
         self.legend, self.begin = legend_of(root), [float(it.get("x1")) for it in root.iter(f"{SPACE}line") if it.get("stroke-width") == "3"]
         self.patterns = {f"url(#{it.get('id')})": [(one.get("fill"), one.get("d")) for one in it] for it in root.iter(f"{SPACE}pattern")}
         self.texts = [it.text for it in root.iter(f"{SPACE}text")]
+        self.downs = {it.text: float(it.get("y")) for it in root if it.tag == f"{SPACE}text" and it.get("y")}
         self.size = float(root.get("width")), float(root.get("height"))
         for group in root.iter(f"{SPACE}g"):
             told = group.find(f"{SPACE}title").text
             if told.startswith("line "):
                 self.marks.append(told)
                 self.looks[told] = [look_of(it) for it in group if it.tag != f"{SPACE}title"]
+                self.middles[told] = [float(it.get("x")) + float(it.get("width")) / 2 for it in group.iter(f"{SPACE}rect")]
             else:
                 label, _, what = told.rpartition(": ")
                 box = group.find(f"{SPACE}rect")
@@ -110,8 +112,12 @@ def marked(check):
     left = begins["part-00000", NOTHING[0]]
     places = [round((begins[it] - left) / 16, 3) for it in (("part-00000", "0.0, after request 12"), ("_SUCCESS", "new, after request 14"))]
     check.same("moments, where effects begin", places, [12, 14])
+    # A row is 18 high, and its name stands beside it.
     downs = {label: y for label, _, _, y in picture.cells}
     check.same("moments, how far the rows are apart", round(downs["_SUCCESS"] - downs["part-00000"], 3), 22)
+    check.see("moments, the rows' names", all(y < picture.downs[label] < y + 18 for label, y in downs.items()), str(picture.downs))
+    changes = {int(re.search(r"request (\d+):", told)[1]): them[0] for told, them in picture.middles.items() if them}
+    check.same("moments, where marks stand", {n: round((x - left) / 16, 3) for n, x in changes.items()}, {n: n + 0.5 for n in (2, 4, 5, 6, 7, 10, 12, 14)})
     legend = {"new file", "_SUCCESS of this job", "readers see nothing", "a change that took effect", "a read", "refused", "request or reply lost",
               "the commit begins", "What readers see: standard input", "s3a://lake/out, 14 requests, status 0"}
     check.same("moments, title and legend", legend - {*picture.texts}, set())

@@ -127,7 +127,8 @@ class Session:
         found, behind = [], {"after": ""} if operation == "ListObjectsV2" else {}
         while behind is not None:
             reply = self.send({"op": operation, "bucket": bucket, "prefix": "", "max": BATCH, **behind, **said})
-            entries = reply.get("entries", [])
+            # (a server that does not go on from a place gives the same page again)
+            entries = [it for it in reply.get("entries", []) if it not in found]
             found += entries
             behind = None
             if reply.get("more") and entries:
