@@ -1,6 +1,6 @@
-"""Calls of ./audit for .ci/launcher. Each is what is called, what came out, and what must.
+"""Calls of ./audit for .ci/launcher. Each case is a name, what came out, and what must come out.
 
-Of the program's answer only the first line is compared: the launcher has no part in it.
+Only the first line of the program's answer is compared, because the launcher does not change the answer.
 """
 import concurrent.futures
 import os
@@ -60,7 +60,7 @@ def audits(copy):
 
 
 def with_help(copy):
-    """Calls that must show the help, beside the program's own line where it is asked to do something; and the versions."""
+    """Calls that must show the help, with the program's usage line if words were given; and `--version`."""
     shown = copy.read("release/audit-help.txt").decode()
     yield "audit --help", copy.call(["--help"], "./audit"), (0, shown, "")
     for words in (["trace"], [""], ["trace", "--help"], [copy.lake, "stat", "s3a://lake"], [copy.lake, "job"]):
@@ -73,7 +73,7 @@ def with_help(copy):
 
 
 def damaged(copy):
-    """Calls that must say what is wrong and run nothing, and those of the other program."""
+    """Calls with a damaged release. They must say what is wrong, and run nothing; the other program must still run."""
     trace, data, ls = traced(copy), copy.kept[PACKED["audit"]], [copy.lake, "ls", "s3a://lake"]
     at = len(data) // 2
 

@@ -1,6 +1,6 @@
-"""Calls for .ci/launcher that build: they find a stand-in of `rt` that proves nothing and gives the programs that it is given.
+"""Calls for .ci/launcher that build programs. They find a stand-in for `rt`, which proves nothing and "builds" the programs that it is given.
 
-Each is what is called, what came out, and what must.
+Each case is a name, what came out, and what must come out.
 """
 import gzip
 import os
@@ -31,7 +31,7 @@ def put(path, data):
 
 
 class StandIn:
-    """Where the stand-in of `rt` stands while calls may find it."""
+    """Installs the stand-in for `rt`, and removes it at the end."""
 
     def __init__(self, copy):
         self.copy = copy
@@ -49,18 +49,18 @@ class StandIn:
         shutil.rmtree(f"{self.copy.bin}/toolchain")
 
     def make(self, **programs):
-        """Lets the next builds give these programs."""
+        """Sets the programs that the next builds give."""
         for name, data in programs.items():
             put(f"{self.copy.bin}/{name}.made", data)
 
     def runs(self):
-        """How often everything was proved."""
+        """How often `rt ci` was called."""
         with open(f"{self.copy.bin}/runs", encoding="utf-8") as it:
             return len(it.readlines())
 
 
 def builds(copy):
-    """Calls of changed sources, and those of ./prove."""
+    """Calls with changed sources, and calls of ./prove."""
     if not shutil.which("python3", path="/usr/bin:/bin"):
         print("launcher: there is no python3 in /usr/bin, so nothing is built")
         return
@@ -71,7 +71,7 @@ def builds(copy):
 
 
 def changed(copy, kit):
-    """Each program is the one of the changed sources, and both are built at once."""
+    """With changed sources, each call runs the program that is built from them, and one build makes both programs."""
     ls = [copy.lake, "ls", "s3a://lake"]
     copy.restore()
     copy.call(ls)
@@ -94,7 +94,7 @@ def changed(copy, kit):
 
 
 def compared(copy, kit):
-    """What ./prove says of programs that are those of the release, and of others."""
+    """What ./prove says if a program is the released one, and if it is not."""
     copy.restore()
     released = {name: gzip.decompress(copy.kept[path]) for name, path in PACKED.items()}
     for other in (None, "s3a", "audit"):

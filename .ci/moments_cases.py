@@ -1,4 +1,4 @@
-"""Cases of tools/moments. What must come out was worked out by hand from docs/FORMATS.md, but for `scenarios`, which asks `ls`."""
+"""Cases of tools/moments. What must come out was worked out by hand from docs/FORMATS.md. Only `scenarios` takes it from `ls`."""
 import os
 import re
 import subprocess
@@ -75,7 +75,7 @@ def job(*head, files=FILES, events=EVENTS):
 
 
 def jobs(check):
-    """The rows of small jobs, each with what readers see and from which request on."""
+    """The rows of small jobs: what readers see, and from which request on."""
     marker = NOTHING + ["new, after request 13"]
     hello = NOTHING + ["0.0, after request 12"]
     four = [f"file {it} text {it}" for it in "abcd"]
@@ -99,7 +99,7 @@ def jobs(check):
 
 
 def marked(check):
-    """Each request has its mark, told by its line of the script, above the place where its effect begins."""
+    """Each request has a mark above the place at which its effect begins. The tooltip names its line of the script."""
     script = ["# a comment", *(f"{it}\r" for it in job("", "loss 12 after"))]
     picture = drawn(check, script)
     check.same("moments, the marks", [re.search(r"request (\d+):", it)[1] for it in picture.marks], [str(it) for it in range(1, 15)])
@@ -148,7 +148,7 @@ def looks(check):
 
 
 def over(check):
-    """Old files: one is replaced, one stays, and the old marker is deleted by request 2. The folder stays as it was."""
+    """Old files: one is replaced, one stays, and request 2 deletes the old marker. The folder is not changed."""
     folder = check.store("moments-old", "part-00000", "keep", "_SUCCESS")
     with open(f"{folder}/store.img", "rb") as it:
         before = it.read()
@@ -158,7 +158,7 @@ def over(check):
     due = {"keep": OLD, "part-00000": OLD, "y": NOTHING + ["b 0.0, from line 22 on"],
            "_SUCCESS": OLD + ["nothing, from line 19 on", "b, from line 22 on"]}
     check.same("moments --over, two jobs", drawn(check, twins, "--over", folder).rows, due)
-    # The changes in the log of the folder's file are none of the run's.
+    # The log in the folder has changes that are not of this run.
     idle = [*FIRST, "=====", *SECOND[:-4], "start driver setup", "=====", "b 1"]
     due = {"keep": OLD, "part-00000": OLD, "_SUCCESS": OLD}
     check.same("moments --over, two jobs that change nothing", drawn(check, idle, "--over", folder).rows, due)
@@ -169,7 +169,7 @@ def over(check):
 
 
 def twins(check):
-    """The two jobs of docs/FORMATS.md. The second sends 3, 4, 3 and 3 requests, and the look of the first one's commit is the 21st."""
+    """The two jobs of docs/FORMATS.md. The second sends 3, 4, 3 and 3 requests. The check before the first job's commit is request 21."""
     script = [*FIRST, "=====", *SECOND, "=====", *ORDER]
     picture = drawn(check, script)
     due = {"y": NOTHING + ["b 0.0, from line 22 on"], "_SUCCESS": NOTHING + ["b, from line 22 on"]}
@@ -197,7 +197,7 @@ def large(tasks, files, *head):
 
 
 def folded(check):
-    """20 tasks of 10 files: set-up 3 requests, writes 800, commits 20 times 12, then 20 reads and 200 completions."""
+    """20 tasks of 10 files: the set-up sends 3 requests, the writes 800, the commits 20 times 12; then come 20 reads and 200 completions."""
     attempts, starts = ([text.format(it) for it in range(90)] for text in ("attempt {}.0", "start {}.0 write"))
     # (an attempt without files has written them when it starts, and a second write is refused)
     loud = [*(f"kill {it}.0" for it in range(3)), *(f"do {it}.0 write" for it in range(3, 6))]
@@ -233,7 +233,7 @@ def folded_more(check):
 
 
 def plays(check):
-    """One play of the program for a job."""
+    """For a job the tool runs the program once."""
     counts, counter = f"{check.room}/plays", f"{check.room}/counter"
     with open(counter, "w", encoding="utf-8") as it:
         it.write(f'#!/bin/sh\necho "$2" >> {counts}\nexec {check.program} "$@"\n')
@@ -264,7 +264,7 @@ def listed(check, folder, path, below=""):
 
 
 def scenarios(check):
-    """Each job of the scenarios: at the end of its picture readers see the files that `ls` lists after its run."""
+    """For each job of the scenarios: at the end of its picture readers see the files that `ls` lists after its run."""
     seen = 0
     for name in sorted(it for it in os.listdir(f"{TOP}/examples") if os.path.exists(f"{TOP}/examples/{it}/1.out")):
         folder, step = f"{check.room}/scenario-{name}", 1

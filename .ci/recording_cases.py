@@ -1,4 +1,4 @@
-"""Cases of tools/record: requests and replies as the Amazon S3 API reference writes them, and the lines that they must become."""
+"""Cases of tools/record: requests and replies as the Amazon S3 API reference writes them, and the lines that must be recorded."""
 import asyncio
 import json
 import os
@@ -53,7 +53,7 @@ DELETED = {"op": "DeleteObjects", "bucket": "lake", "keys": ["a", "b"], "outcome
 JOINED = {"op": "CompleteMultipartUpload", **PLACE, "upload": "u", "parts": [{"etag": A, "part": 1}, {"etag": B, "part": 2}]}
 PART = {"op": "UploadPart", **PLACE, "upload": "u", "part": 2, "etag": HELLO, "length": 5}
 UNSURE = "the reply has an error for these keys that does not say what became of them"
-# Each: what it shows, the request line, headers, body, the reply (None where none came), and the lines.
+# Each case: its name, the request line, headers, body, the reply (None if there was none), and the lines.
 MAPPED = [
     ("a put", "PUT /lake/k", {}, b"hello", Reply(200, {"etag": f'"{HELLO}"'}), [PUT]),
     ("a put that the store encrypts", "PUT /lake/k", {}, b"hello", Reply(200, {"etag": f'"{A}"'}), [PUT | {"reply_etag": A}]),
@@ -152,7 +152,7 @@ def request_of(line, headers, body):
 
 
 def mapped(check):
-    """Each exchange of the table, and requests to hosts that are none of the endpoint's."""
+    """Each exchange of the table, and requests to hosts that the recorder does not know."""
     for what, line, headers, body, reply, due in MAPPED:
         found, doubt = exchanges.asked(request_of(line, headers, body), NAMES)
         check.same(f"record, {what}", [exchanges.lost(found, "gone")] if reply is None else exchanges.answered(found, reply, doubt), due)
@@ -165,7 +165,7 @@ def mapped(check):
             check.cases += 1
 
 
-# ---- what keys hold
+# ---- the tags at each key
 
 def put(key, tag, effect=True, bucket="lake"):
     return {"op": "PutObject", "bucket": bucket, "key": key, "etag": tag, "effect": effect}
@@ -191,7 +191,7 @@ TWO = {"op": "CompleteMultipartUpload", "parts": [{"etag": A, "part": 1}, {"etag
 UNSEEN = {"op": "PutObject", "etag": C, "effect": None, "why": "its source is in another bucket, and was not seen to be written: write the etag of its bytes"}
 BEFORE = {"effect": False, "why": "the upload was completed before"}
 MAYBE = {"effect": None, "why": "the upload may have been completed before, and the key changed since"}
-# Each: what it shows, the lines before, a line, and what that becomes.
+# Each case: its name, the lines before, a line, and the members that the recorder adds to it.
 FOLLOWED = [
     ("a copy of a put", [put("s", A)], copy("s"), {"op": "PutObject", "etag": A}),
     ("a copy of an upload", [joined("s", A, B)], copy("s"), TWO),
@@ -224,10 +224,10 @@ def followed(check):
         check.same(f"record, {what}", them.line_of(line), line | due)
 
 
-# ---- the order, and the file
+# ---- the order of changes, and the file
 
 async def changes_in_turn(recorder):
-    """The steps at which requests were let through."""
+    """The names of the requests in the order in which they were sent on, with a `|` at each step."""
     let = []
 
     async def send(name, line, body=b"hello"):
@@ -254,7 +254,7 @@ async def settled():
 
 
 def in_order(check):
-    """Changes wait for the reply of the change before them, whatever it is. The file goes on behind a claim without an LF."""
+    """A change waits until the change before it is answered or lost. The recorder adds its lines after a claim without an LF."""
     path = f"{check.room}/order.jsonl"
     with open(path, "w", encoding="utf-8") as it:
         it.write('{"op":"Job"}\n{"bucket":"lake","effect":true,"key":"x","n":7,"op":"DeleteObject"}')
@@ -270,7 +270,7 @@ def in_order(check):
                 (12, "PutObject", "d", None, "lost")])
 
 
-# ---- the words
+# ---- the command line
 
 PROXY = f"""#!{sys.executable}
 import sys
@@ -289,7 +289,7 @@ STARTED = "--quiet --mode reverse:{} --listen-host 127.0.0.1 --listen-port {} -s
 
 
 def words(check):
-    """What `record` says of wrong words, what it starts, and what it says at its end."""
+    """What `record` says about wrong words, what it starts, and what it says at its end."""
     room = f"{check.room}/proxy"
     os.mkdir(room)
     with open(f"{room}/mitmdump", "w", encoding="utf-8") as it:

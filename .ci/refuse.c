@@ -1,7 +1,7 @@
-/* Refuses one request for memory, or one call of the system, or ends the program there, by its number.
+/* A library that is loaded before the C library. It refuses one request for memory or one system call, or kills the program in its place.
 
-   REFUSE is `memory N`, `calls N` or `kills N`: the N-th is refused, or the program is killed in its place; none where N is 0. How many
-   there were is written to the file SEEN, unless the program was killed. */
+   REFUSE is `memory N`, `calls N` or `kills N`: the N-th one is refused, or the program is killed in its place. If N is 0, nothing is refused.
+   The number of requests or calls is written to the file SEEN, unless the program was killed. */
 #define _GNU_SOURCE
 #include <dlfcn.h>
 #include <errno.h>
@@ -19,7 +19,7 @@ extern void *__libc_realloc(void *, size_t);
 static int of_memory, kills;
 static long due = -1, seen;
 
-/* Whether this one is refused; before `begin` and after `end` none is counted. */
+/* Counts a request or call, and says whether to refuse it. Nothing is counted before `begin` and after `end`. */
 static int refused(int is_memory) {
     if (due < 0 || is_memory != of_memory || ++seen != due) return 0;
     if (kills) raise(SIGKILL);

@@ -1,9 +1,9 @@
 #!/usr/bin/env python3
-"""Audits a trace as the program `audit` does, line by line, with orjson: what bench/audit compares it with.
+"""Audits a trace as the program `audit` does, line by line, and reads the lines with orjson. bench/audits compares both programs.
 
     bench/audit_in_python.py < TRACE
 
-It takes recordings without faults, and keeps the claim, the live keys and the attempts that still fit.
+It takes recordings without faults. It keeps the claim, the live keys, and the attempts that can still explain what readers saw.
 """
 import sys
 

@@ -1,7 +1,7 @@
 # Reads script-lines.txt and then a script in which the program found a fault, and prints the faulty line and what is expected there.
 #
-# kind is `fault` or `twin`, number the fault's own, line that which the program tells. part is which part of two scripts and an order
-# the line is counted in (0, 1 or 2), or -1 where the file is one script.
+# kind is `fault` or `twin`. number and line are those that the program prints. part is the part of the file in which the line is counted: 0 or 1
+# for the first or second of two scripts, 2 for the order, and -1 if the file is one script.
 BEGIN {
     FS = "\t"
     order["head"] = 0; order["attempt"] = 1; order["event"] = 2
@@ -70,14 +70,14 @@ END {
     }
 }
 
-# Which script it is of two.
+# Says in which of two scripts the fault is.
 function of_part() {
     return part < 0 ? "" : part == 0 ? ", in the first script" : ", in the second script"
 }
 
 # ---- what is expected
 
-# What must stand in the place of this line.
+# What is expected in the place of this line.
 function of_line(    said) {
     if (number == 2 && first in group && order[group[first]] < now)
         return expected["fault 2 " (group[first] == "head" ? "a head line behind its group" : "an `attempt` or `file` behind its group")]
@@ -102,7 +102,7 @@ function of_line(    said) {
     return said
 }
 
-# The words by which a line may begin in this place.
+# The words with which a line may begin here.
 function beginnings(    it, said) {
     for (it = 1; it <= count; it++)
         if (order[group[words[it]]] >= now && (words[it] != "file" || now == 1))
@@ -110,7 +110,7 @@ function beginnings(    it, said) {
     return said
 }
 
-# Whether this is the line of which a fault of two scripts speaks; `whole` is then what is expected.
+# Whether the fault of two scripts is about this line. If so, `whole` is what is expected.
 function is_told() {
     whole = ""
     if (number == 4 && at == 1 && first == "job")
@@ -124,14 +124,14 @@ function is_told() {
     return whole != ""
 }
 
-# A row of the table as a terminal shows it.
+# A row of the table without its backticks.
 function plain(text) {
     gsub(/`/, "", text)
     return text
 }
 
-# Prints a line of the file by its number, no more than 200 bytes of it, and what is expected in its place. Bytes that a terminal does not
-# show, a byte order mark among them, are printed as `?`.
+# Prints the number of a line, its first 200 bytes, and what is expected in its place. Bytes that a terminal does not show, such as a byte order
+# mark, are printed as `?`.
 function tell(number, said,    it) {
     it = $0
     if (length(it) > 200) {

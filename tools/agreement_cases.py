@@ -1,4 +1,4 @@
-"""Directed cases: requests that a job seldom sends or never, in the words of a trace. The model's reply to each is that of s3_model."""
+"""Directed cases: requests that a job seldom or never sends, written as in a trace. s3_model gives the model's reply to each."""
 import dataclasses
 
 from comparing import Session
@@ -9,14 +9,14 @@ BUCKET = "lake"
 
 @dataclasses.dataclass
 class Case:
-    """A case: its name, the requests (a function of the least size of a part in bytes), and the greatest such size that it is tried with."""
+    """A case: its name, its requests (a function of the least size of a part in bytes), and the largest such size for which it is tried."""
     name: str
     requests: object
     most: int = 1 << 30
 
 
 def play_case(case, client, prefix, minimum):
-    """The session in which the requests of a case were sent."""
+    """Sends the requests of a case, and gives the session."""
     store = Store(minimum)
     store.do({"op": "CreateBucket", "bucket": BUCKET})
     session = Session(client, prefix, store)
@@ -77,7 +77,7 @@ def part(number, body=b"hello", upload=1, key="k", **more):
 
 
 def complete(*parts, upload=1, key="k", **more):
-    """A completion that names parts by their number and bytes."""
+    """A completion. Its parts are given by number and bytes."""
     return request("CompleteMultipartUpload", key=key, upload=upload, parts=[{"part": n, "etag": md5(body)} for n, body in parts], **more)
 
 
@@ -102,7 +102,7 @@ DONE = [create(), part(*ONE), complete(ONE)]
 
 
 def two(m):
-    """An upload with two parts, the first one of the least size."""
+    """An upload with two parts. The first one has the least size."""
     return [create(), part(1, b"a" * m), part(2, b"b")]
 
 
@@ -117,14 +117,14 @@ PLACES = ("", "a", "a/", "a/a", "a/b", "a/b/", "a/b/c", "a/zz", "a0", "b", "b/",
 
 
 def listings():
-    """Each listing of a small tree: by prefix, place to go on from, delimiter and size of page."""
+    """All listings of a small tree: with each prefix, start position, delimiter and size of a page."""
     many = [keys(prefix, after, most, **said) for prefix in ("", "a", "a/", "a/b", "b/", "none") for after in PLACES
             for most in (1, 2, 1000) for said in ({}, {"delimiter": "/"})]
     return [put(key, key.encode()) for key in TREE] + many
 
 
 def many_uploads():
-    """Uploads to three keys, two to one of them, in an order that is not that of the keys."""
+    """Uploads to three keys, two of them to one key, in another order than that of the keys."""
     return [create("m"), create("z"), create("a"), create("m")]
 
 

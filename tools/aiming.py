@@ -1,4 +1,4 @@
-"""Faults that are said by meaning: the lines `lose` and `crash`, and which request each of them hits."""
+"""The lines `lose` and `crash`, which name a request by actor and operation, and the request that each of them hits."""
 import dataclasses
 
 from job_runs import Script, Stop, actor_of, words_of
@@ -11,7 +11,7 @@ FORMS = {"lose": "lose ACTOR OPERATION K FATE [COUNT]", "crash": "crash ACTOR be
 
 
 class Unreached(Stop):
-    """A fault whose request is not sent, or has a fate already."""
+    """A fault whose request is never sent, or already has a fault."""
 
 
 @dataclasses.dataclass
@@ -34,7 +34,7 @@ class Fault:
         return found[self.k - 1]
 
     def put(self, script, trace, request, after):
-        """The script with the fault, which must hit a request behind number `after`."""
+        """The script with the fault. The request must have a number above `after`."""
         n = request["n"]
         if n <= after:
             raise Unreached(f"line {self.line}: the fault would hit request {n}, and an earlier line has a fault up to request {after}: "
@@ -53,13 +53,13 @@ class Fault:
 
 @dataclasses.dataclass
 class Stage:
-    """A script with some of its faults resolved, its trace, and of each of these faults the request that it hits."""
+    """A script with some of its faults resolved, its trace, and the request that each of these faults hits."""
     script: Script
     trace: object
     hits: list
 
     def after(self):
-        """The number behind which the next fault must come."""
+        """The number after which the next fault must come."""
         return max((fault.last(request) for fault, request in self.hits), default=0)
 
     def is_before(self, n):
@@ -74,14 +74,14 @@ class Stage:
 
 
 def number(word, line, what, least, most):
-    """The number that a word is."""
+    """Reads a word as a number."""
     if not (word.isascii() and word.isdigit() and len(word) <= 18 and least <= int(word) <= most):
         raise Stop(f"line {line}: {what} is {word}, and must be a number from {least} to {most}")
     return int(word)
 
 
 def read_fault(line, text, actors):
-    """The fault that a line says."""
+    """Reads a line with a fault."""
     words = text.split()
     if not (len(words) == 5 or words[0] == "lose" and len(words) == 6) or words[0] == "crash" and words[2] != "before":
         raise Stop(f"line {line}: the line must be: {FORMS[words[0]]}")
@@ -99,10 +99,10 @@ def read_fault(line, text, actors):
 
 
 def stages(text, trace_of):
-    """The script without its faults, and with one more of them after the other, down the file."""
+    """The stages of a script: without its faults, then with the first one, then with two, and so on."""
     lines = text.split("\n")
     said = [it for it, line in enumerate(lines) if words_of(line)[0] in FORMS]
-    # (first as empty lines, so that the program's faults name the lines of the file)
+    # (the faults are empty lines at first, so that the program's messages name the lines of the file)
     blank = Script(["" if it in said else line for it, line in enumerate(lines)])
     trace = trace_of(blank, "")
     faults = [read_fault(it + 1, lines[it], blank.actors()) for it in said]

@@ -1,4 +1,4 @@
-"""Whether readers were safe at each moment of a run, as the program `audit` says of its trace."""
+"""Asks the program `audit` whether readers were safe at each moment of a run."""
 import os
 import subprocess
 

@@ -1,4 +1,4 @@
-"""Sends requests to a server, and compares its replies, and what is there at the end, with those of the model."""
+"""Sends requests to a server, and compares its replies and its objects at the end with those of the model."""
 import dataclasses
 
 from job_runs import Stop
@@ -11,7 +11,7 @@ BATCH = 1000
 
 @dataclasses.dataclass
 class Difference:
-    """Where a server differs: the request, its place in the run, and what the model and the server say."""
+    """A difference: the request, its place in the run, and what the model and the server say."""
     where: str
     operation: str
     model: str
@@ -32,7 +32,7 @@ def short(value):
 
 
 def listing(model, server):
-    """How two lists of entries differ, in the words of a difference, or None."""
+    """How two lists of entries differ, or None."""
     if model == server:
         return None
     if sorted(map(str, model)) == sorted(map(str, server)):
@@ -42,7 +42,7 @@ def listing(model, server):
 
 
 def agrees(operation, model, server):
-    """Whether two error codes say the same. The reply to a HEAD request has no body, so it has no code but the status."""
+    """Whether two error codes mean the same. The reply to a HEAD request has no body, so the only code is the status."""
     return model == server or operation == "HeadObject" and model == "NoSuchKey" and server == "404"
 
 
@@ -65,7 +65,7 @@ def compared(operation, model, server):
 
 
 class Session:
-    """A run on a server, beside the model's own over the store `store`.
+    """A run on a server, and the model's run over the store `store`.
 
     Its buckets have other names on the server, `PREFIX-NAME`, and its uploads other ids. `sent` counts the requests of the run, `compared` the
     replies that were compared, and `stands` the objects and uploads that were compared at the end.
@@ -80,7 +80,7 @@ class Session:
         return f"{self.prefix}-{bucket}"
 
     def send(self, it):
-        """The server's reply to a request, with the model's ids of uploads where it knows them."""
+        """Sends a request, and gives the server's reply, with the model's ids of uploads if they are known."""
         if it["op"] == "CreateBucket" and "as_is" not in it:
             self.names.add(it["bucket"])
         ids = {name: self.uploads.get(it[name], "none") for name in ("upload", "after_upload") if name in it}
@@ -91,7 +91,7 @@ class Session:
         return reply
 
     def begin(self):
-        """Makes on the server what the model's store has."""
+        """Makes the objects and uploads of the model's store on the server."""
         for bucket, content in self.store.buckets.items():
             self.make({"op": "CreateBucket", "bucket": bucket})
             for key, it in content.objects.items():
@@ -139,7 +139,7 @@ class Session:
         self.found.append(Difference("at the end,", what, model, server, repr(detail)))
 
     def end(self):
-        """Compares all that is there: each object's bytes and length header, and each upload's parts."""
+        """Compares each object's bytes and length header, and each upload's parts."""
         for bucket, content in self.store.buckets.items():
             listed = [key for key, _ in self.pages("ListObjectsV2", bucket)]
             self.missing("object", sorted(content.objects, key=str.encode), listed)
@@ -165,7 +165,7 @@ class Session:
             self.found.append(Difference(f"at the end, {it['key']},", f"an {what}", *one))
 
     def clean(self):
-        """Deletes all that the run left on the server. Of a bucket whose name it did not choose it deletes the empty bucket alone."""
+        """Deletes everything that the run left on the server. A bucket whose name it did not choose is deleted only if it is empty."""
         for bucket in self.names:
             for it in self.pages("ListObjectsV2", bucket):
                 self.send({"op": "DeleteObject", "bucket": bucket, "key": it[0]})
@@ -175,7 +175,7 @@ class Session:
             self.client.send({"op": "DeleteBucket", "bucket": name})
 
     def abort_all(self, name):
-        """Aborts the uploads of a bucket, by the server's own ids. A listing that does not get shorter is the last."""
+        """Aborts the uploads of a bucket, by the server's own ids. It stops when a listing does not get shorter."""
         before, left = None, []
         while before is None or left and left != before:
             before = left

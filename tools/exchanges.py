@@ -1,4 +1,4 @@
-"""What a request to S3 and its reply are as lines of a trace. Knows no proxy: a request is a method, a host, a target, headers and a body."""
+"""Turns requests to S3 and their replies into lines of a trace. A request is a method, a host, a target, headers and a body; no proxy is involved here."""
 import dataclasses
 import hashlib
 import ipaddress
@@ -6,26 +6,26 @@ import urllib.parse
 import xml.etree.ElementTree as ET
 
 CHANGES = ("PutObject", "CopyObject", "DeleteObject", "DeleteObjects", "CompleteMultipartUpload")
-# Arguments of a query that name something else than the bucket or the object itself. By these methods none changes the bytes of an object.
+# Query arguments that name something other than the bucket or the object itself. With these methods none of them changes an object's bytes.
 OF_BUCKETS = ("abac", "accelerate", "acl", "analytics", "cors", "encryption", "intelligent-tiering", "inventory", "lifecycle", "location", "logging",
               "metadataConfiguration", "metadataInventoryTable", "metadataJournalTable", "metadataTable", "metrics", "notification", "object-lock",
               "ownershipControls", "policy", "policyStatus", "publicAccessBlock", "replication", "requestPayment", "session", "tagging",
               "versioning", "versions", "website")
 OF_OBJECTS = {"GET": ("acl", "attributes", "legal-hold", "retention", "tagging", "torrent"), "PUT": ("acl", "legal-hold", "retention", "tagging"),
               "DELETE": ("tagging",), "POST": ("restore", "select")}
-# Arguments that a change may have, beside those of its signature and `x-id`.
+# Arguments that a change may have, besides `x-id` and those of its signature.
 PLAIN = {"DeleteObject": ("versionId",), "DeleteObjects": ("delete",), "CompleteMultipartUpload": ("uploadId",)}
 SIGNATURE = ("awsaccesskeyid", "signature", "expires", "x-id")
 PASSED_ON = {"uploadId": "upload", "prefix": "prefix", "delimiter": "delimiter", "start-after": "after", "marker": "after", "key-marker": "after",
              "continuation-token": "token", "upload-id-marker": "after_upload", "versionId": "version"}
-# Operations whose reply may begin with status 200 and still end as an error.
+# Operations whose reply may have the status 200 and still be an error.
 LATE = ("CopyObject", "UploadPartCopy", "CompleteMultipartUpload")
 # Errors that do not say whether the request took effect.
 UNSURE = ("InternalError", "InternalServerError", "ServiceUnavailable")
 
 
 class Strange(Exception):
-    """Why a request is none that a trace could have."""
+    """Why a request cannot be a line of a trace."""
 
 
 @dataclasses.dataclass
@@ -60,13 +60,13 @@ def name_of(element):
 
 
 def texts(body, name):
-    """The texts of all elements with a name."""
+    """The texts of all elements with this name."""
     top = root(body)
     return [] if top is None else [it.text or "" for it in top.iter() if name_of(it) == name]
 
 
 def rows(body, name):
-    """The elements with a name right below the root, each as a map of its children's texts."""
+    """The elements with this name right below the root. Each is a map from its children's names to their texts."""
     top = root(body)
     return [] if top is None else [{name_of(it): it.text or "" for it in row} for row in top if name_of(row) == name]
 
@@ -79,7 +79,7 @@ def tag_of(text):
 # ---- where a request goes
 
 def bucket_in(host, names):
-    """The bucket that a host's name begins with, or an empty text where the bucket stands in the path. The name `*` is every IP address."""
+    """The bucket in a host's name, or an empty text if the bucket is in the path. The name `*` stands for every IP address."""
     host = host.lower().rstrip(".")
     if host in names or "*" in names and is_address(host):
         return ""
@@ -111,10 +111,10 @@ def place_of(request, names):
     return bucket, path, dict(urllib.parse.parse_qsl(query, keep_blank_values=True))
 
 
-# ---- what is asked
+# ---- the request
 
 def payload(request):
-    """The object's bytes: those of the body, without the framing of `aws-chunked`. None where the framing is broken."""
+    """The bytes of the body, without the framing of `aws-chunked`. None if the framing is broken."""
     is_chunked = "aws-chunked" in request.headers.get("content-encoding", "") or \
         request.headers.get("x-amz-content-sha256", "").startswith("STREAMING-")
     if not is_chunked:
@@ -137,18 +137,18 @@ def payload(request):
 
 
 def number(text):
-    """The number that a text is, else the text."""
+    """The text as a number if it is one, and otherwise the text."""
     return int(text) if text.isascii() and text.isdigit() and len(text) <= 18 else text
 
 
 def subresource(method, key, args):
-    """The argument that names a subresource, if there is one."""
+    """The argument that names a subresource, or an empty text."""
     known = OF_OBJECTS.get(method, ()) if key else () if "delete" in args else OF_BUCKETS
     return next((it for it in args if it in known), "")
 
 
 def operation(method, bucket, key, args, headers):
-    """The name of the operation, by the Amazon S3 API reference."""
+    """The name of the operation, as in the Amazon S3 API reference."""
     if subresource(method, key, args):
         return "Other"
     if not bucket:
@@ -171,7 +171,7 @@ def operation(method, bucket, key, args, headers):
 
 
 def doubts(line, args, headers):
-    """Why what a change leaves cannot be told from its request, if it cannot be."""
+    """The reasons why the request does not say what the change leaves."""
     if "version" in line:
         yield "it names a version"
     for it in args:
@@ -186,7 +186,7 @@ def doubts(line, args, headers):
 
 
 def asked(request, names):
-    """The members of a request's line that its sender decides, and why they do not tell what it leaves, if they do not."""
+    """The members of a line that follow from the request, and the reason if they do not say what it leaves."""
     bucket, key, args = place_of(request, names)
     method, headers = request.method, request.headers
     line = {"op": operation(method, bucket, key, args, headers)}
@@ -218,7 +218,7 @@ def asked(request, names):
 
 
 def put_into(line, request):
-    """Adds what a put or a part has, and gives what is not known of it."""
+    """Adds the members of a put or a part, and gives the reasons for doubt."""
     data = payload(request)
     line |= {"etag": hashlib.md5(data or b"").hexdigest(), "length": len(data or b"")}
     magic = request.headers.get("x-amz-meta-x-hadoop-s3a-magic-data-length")
@@ -228,7 +228,7 @@ def put_into(line, request):
 
 
 def copied_into(line, headers):
-    """Adds what a copy has, and gives what is not known of it."""
+    """Adds the members of a copy, and gives the reasons for doubt."""
     source, _, version = headers["x-amz-copy-source"].partition("?versionId=")
     bucket, _, line["source"] = urllib.parse.unquote_to_bytes(source).decode(errors="replace").removeprefix("/").partition("/")
     if bucket != line["bucket"]:
@@ -240,10 +240,10 @@ def copied_into(line, headers):
     return ["its source is a version"] if version else []
 
 
-# ---- what came of it
+# ---- the reply
 
 def effect_of(operation, reply):
-    """Whether a reply says that its request took effect (None where it does not tell), and the error that it names."""
+    """Whether the request took effect (None if the reply does not say it), and the error code."""
     is_good = 200 <= reply.status < 300
     top = None if is_good and operation not in LATE else root(reply.body)
     is_error = top is not None and name_of(top) == "Error"
@@ -261,7 +261,7 @@ def lost(line, why):
 
 
 def answered(line, reply, doubt=None):
-    """The lines of a request that got a reply: one, or two where a part of a batch is in doubt. `doubt` is what `asked` did not know."""
+    """The lines of a request with a reply: one, or two if part of a batch is in doubt. `doubt` is the reason that `asked` gave."""
     effect, error = effect_of(line["op"], reply)
     line = line | {"effect": effect, "outcome": "slow" if error == "SlowDown" else "answered"}
     if error:
@@ -274,7 +274,7 @@ def answered(line, reply, doubt=None):
 
 
 def told(line, reply):
-    """The members that a good reply adds."""
+    """The members that a successful reply adds."""
     operation = line["op"]
     if operation == "CreateMultipartUpload":
         return {"upload": [*texts(reply.body, "UploadId"), ""][0]}
@@ -291,7 +291,7 @@ def told(line, reply):
 
 
 def batch(line, reply):
-    """The lines of a batch: of the keys that were deleted, and of those of which the reply does not say it."""
+    """The lines of a batch: one for the deleted keys, and one for the keys about which the reply does not say it."""
     errors = rows(reply.body, "Error")
     named = [it.get("Key", "") for it in errors]
     unsure = [key for key, it in zip(named, errors) if it.get("Code") in UNSURE or line["keys"].count(key) > 1]

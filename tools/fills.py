@@ -1,14 +1,14 @@
-"""How the files of a picture are filled, so that they differ with and without colour."""
+"""The fills of files in a picture. They differ with and without colour."""
 from readers import OLD, SUCCESS, UNKNOWN
 
-# Of each attempt number: its fill, the ink on it, and lines over the fill.
+# For each attempt number: its fill, the colour of texts on it, and lines over the fill.
 FILLS = [("#2b5f9e", "#fff", ""), ("#ffc46b", "#000", "M0 6L6 0"), ("#bfe3c0", "#000", "M0 3H6"), ("#d9c7ee", "#000", "M3 0V6"),
          ("#f6b3a8", "#000", "M0 0L6 6M0 6L6 0"), ("#fff3a6", "#000", "M0 0L6 6")]
 PLAIN = {"old": ("#dcdcdc", "#000"), "marker": ("#111", "#fff"), "unknown": ("#fff", "#000")}
 
 
 class Styles:
-    """How files are filled: old ones, those of each job's attempt number, and others."""
+    """The fills of old files, of the files of each attempt number of each job, and of others."""
 
     def __init__(self, run):
         self.kinds = sorted({self.kind(name) for name in run.files})
@@ -30,7 +30,7 @@ class Styles:
         return f"url(#fill{at})", FILLS[at][1]
 
     def legend(self):
-        """Of each fill that is used its name and what it stands for."""
+        """Each fill that is used, and its meaning."""
         texts = {"old": "old file", "marker": f"{SUCCESS}, with its job's letter" if self.kinds and self.kinds[0][0] else f"{SUCCESS} of this job",
                  "unknown": "file of nobody"}
         for it in ("old", *self.kinds, "marker", "unknown"):

@@ -1,4 +1,4 @@
-"""The columns and rows of a picture of a run. Where there are too many, several requests share a column, and the files of a task, or of several, a row."""
+"""The columns and rows of a picture. If there are too many, several requests share a column, and the files of one or more tasks share a row."""
 import bisect
 import collections
 import dataclasses
@@ -13,21 +13,21 @@ MOST_COLUMNS, MOST_CHANGES, LEAST_FOLD = 80, 300, 3
 
 @dataclasses.dataclass
 class Column:
-    """The steps from `first` to `last`, of one event or of several whole ones. It shows what readers see after the last."""
+    """The steps from `first` to `last`, of one event or of several whole events. It shows what readers see after the last step."""
     first: int
     last: int
 
 
 @dataclasses.dataclass
 class Row:
-    """One file, or those of a task or of several."""
+    """One file, or the files of one or more tasks."""
     label: str
     paths: list
     is_folded: bool = False
 
 
 def joined(columns, kind_of, most):
-    """The columns with neighbours of one kind joined, so many at a time. The kind None stays apart."""
+    """Joins neighbours of one kind, at most `most` at a time. Columns of the kind None are not joined."""
     found = []
     for kind, them in itertools.groupby(columns, kind_of):
         them = [*them]
@@ -37,8 +37,10 @@ def joined(columns, kind_of, most):
 
 
 def kind_of(run, at, is_turn):
-    """What a request shares a column with: answered requests of its event after which readers see the same, or, where `is_turn`, other
-    files. None where it has a column of its own."""
+    """The kind of requests with which a request may share a column, or None if it has its own column.
+
+    These are answered requests of its event after which readers see the same or, if `is_turn`, other files.
+    """
     step, is_begun = run.steps[at], run.begin is not None and at >= run.begin
     is_marker = any(at == turn for turn, _ in run.sights[SUCCESS])
     is_same = step.request and step.request["outcome"] == "answered" and not is_marker and (at in run.turns) == is_turn
@@ -46,7 +48,7 @@ def kind_of(run, at, is_turn):
 
 
 def is_quiet(run, at):
-    """Whether nothing happens in an event of one column that a picture must show: an actor's death, a refusal, or what readers see."""
+    """Whether an event of one column needs no column of its own: no actor dies, nothing is refused, and readers see the same."""
     step = run.steps[at]
     event = run.events[step.event]
     if step.request:
@@ -55,7 +57,7 @@ def is_quiet(run, at):
 
 
 def quiet_events(run, columns):
-    """Of each column that is a whole quiet event: what the event is, whoever its attempt is."""
+    """The kind of each column that is a whole quiet event: the event without the attempt's number. Other columns have None."""
     many = collections.Counter(run.steps[it.first].event for it in columns)
     for it in columns:
         event = run.steps[it.first].event
@@ -65,7 +67,7 @@ def quiet_events(run, columns):
 
 
 def columns_of(run):
-    """The columns: one a step, if they are not too many."""
+    """The columns: one for each step, if these are not too many."""
     found = [Column(at, at) for at in range(len(run.steps))]
     if len(found) > MOST_COLUMNS:
         found = joined(found, lambda it: kind_of(run, it.first, False), len(found))
@@ -79,7 +81,7 @@ def columns_of(run):
 
 
 def folded(tasks, most):
-    """A row for each task, or, where there are more than so many, for several tasks of a job that follow one another."""
+    """A row for each task. If there are more than `most` tasks, a row is for several neighbouring tasks of a job."""
     size = max(1, -(-len(tasks) // max(most, 1)))
     for job, them in itertools.groupby(tasks, lambda it: it and it.rpartition(" ")[0]):
         them = [*them]
@@ -91,7 +93,7 @@ def folded(tasks, most):
 
 
 def rows_of(run, most):
-    """The rows, `_SUCCESS` last: one a path that is ever seen, if they are at most so many."""
+    """The rows, `_SUCCESS` last: one for each path that readers ever see, if these are at most `most`."""
     last = Row(SUCCESS, [SUCCESS])
     if len(run.sights) - 1 <= most:
         return [*(Row(it, [it]) for it in sorted(run.sights.keys() - {SUCCESS})), last]
@@ -99,8 +101,10 @@ def rows_of(run, most):
 
 
 def spans(run, columns, row):
-    """What a row shows: from which place on, before which place, and of whom it shows how many files. Place 0 is the start, then come the
-    columns."""
+    """What a row shows: the place from which on, the place before which it ends, and how many files of each owner it shows.
+
+    Place 0 is the start; the columns follow.
+    """
     starts, turns = [it.first for it in columns], {}
     for path in row.paths:
         for at, whose in run.sights[path]:
@@ -117,5 +121,5 @@ def spans(run, columns, row):
 
 
 def order_of(whose):
-    """Old files come first, then attempts by their names."""
+    """Sorts old files first, then attempts by name."""
     return whose != OLD, whose

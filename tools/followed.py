@@ -1,4 +1,4 @@
-"""What the keys of all buckets hold while a recording goes on, as an audit follows them, and what a line needs of that."""
+"""Follows the tags of all keys during a recording, as an audit does, and completes lines that depend on them."""
 import json
 
 from exchanges import CHANGES
@@ -8,7 +8,7 @@ UNKNOWN = ("unknown",)
 
 
 def lines_in(path):
-    """The lines of a trace with their numbers."""
+    """The lines of a trace, with their numbers."""
     with open(path, "rb") as lines:
         for at, data in enumerate(lines, 1):
             try:
@@ -30,13 +30,13 @@ def upload_of(line):
 
 
 class Followed:
-    """The tags of each key that was seen to change, the uploads that were completed, and the tags of parts by their own names."""
+    """The tags of each key that a line changed, the completed uploads, and the MD5 of parts to which the store gave other tags."""
 
     def __init__(self):
         self.tags, self.completed, self.parts = {}, {}, {}
 
     def take_all(self, lines, path):
-        """Does what the lines of a file do, and gives the greatest number of a request."""
+        """Takes the lines of a file, and gives the largest number of a request."""
         most = 0
         for at, line in lines:
             try:
@@ -49,7 +49,7 @@ class Followed:
         return most
 
     def take(self, line):
-        """Does what a line does: an object that was there at first, a part, or a change."""
+        """Takes a line: an object that was there at first, a part, or a change."""
         operation = line.get("op")
         if operation == "Object":
             self.tags[line["bucket"], line["key"]] = line["etags"]
@@ -71,7 +71,7 @@ class Followed:
             self.parts.pop(upload_of(line), None)
 
     def left_by(self, line):
-        """The tags that a change leaves at its keys. None of a deletion."""
+        """The tags that a change leaves at its keys. For a deletion there are none."""
         if line["op"] == "PutObject":
             return [line["etag"]]
         if line["op"] == "CompleteMultipartUpload":
@@ -79,7 +79,7 @@ class Followed:
         return self.tags.get((line["bucket"], line["source"]), UNKNOWN) if line["op"] == "CopyObject" else None
 
     def line_of(self, line):
-        """A line of the recorder as an audit can read it."""
+        """The line, with what an audit needs to read it."""
         if line["op"] == "CompleteMultipartUpload" and line["effect"] is not False:
             return self.completion(line)
         if line["op"] == "CopyObject" and "source_bucket" in line and line["effect"] is not False:
@@ -87,7 +87,7 @@ class Followed:
         return line
 
     def completion(self, line):
-        """A completion, with each part's tag by its bytes, and without an effect where an earlier one had it."""
+        """A completion with the MD5 of each part. If an earlier one took effect, this one has no effect."""
         own = self.parts.get(upload_of(line), {})
         line = line | {"parts": [it | {"etag": own.get((it["part"], it["etag"]), it["etag"])} for it in line["parts"]]}
         earlier = self.completed.get(upload_of(line), False)

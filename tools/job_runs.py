@@ -11,12 +11,12 @@ HEAD = ("job", "dest", "committer", "tasks", "mode", "unique", "retries", "block
 EVENTS = ("do", "start", "step", "run", "mix", "kill", "restart", "recover")
 FAULTS = ("NotUtf8", "BadLine", "UnknownWord", "MissingHead", "RepeatedName", "BadPath", "HiddenPath", "UnknownActor", "DestIsRoot",
           "TooLarge", "BadNumber", "NoMemory")
-# What a request's line has of its try alone. All other members are the same when it is sent again.
+# The members of a request's line that may differ from try to try. All others are the same when it is sent again.
 TOLD = ("n", "event", "outcome", "effect", "error", "listed", "more")
 
 
 class Stop(Exception):
-    """Why a tool gives up, in a sentence for its user."""
+    """Why a tool stops, as a sentence for the user."""
 
 
 def run_tool(name, main):
@@ -70,7 +70,7 @@ def words_of(line):
 
 
 def actor_of(word):
-    """An actor's name as traces have it, or None where the word names none."""
+    """The name of an actor as traces have it, or None if the word is not one."""
     task, dot, attempt = word.partition(".")
     if word == "driver":
         return word
@@ -78,13 +78,13 @@ def actor_of(word):
 
 
 def asked(request):
-    """What a request asks: what is the same when it is sent again."""
+    """The members of a request that are the same when it is sent again."""
     told = (*TOLD, "upload") if request["op"] == "CreateMultipartUpload" else TOLD
     return {name: value for name, value in request.items() if name not in told}
 
 
 def key_of(request):
-    """The key of a request, or what it has in its place."""
+    """The key of a request, or the prefix, path, source or bucket if it has no key."""
     keys = request.get("keys")
     if keys:
         return keys[0] + (f" and {len(keys) - 1} more" if len(keys) > 1 else "")
@@ -92,7 +92,7 @@ def key_of(request):
 
 
 class Trace:
-    """What `s3a FOLDER trace job` prints: its lines, and among them the requests and the events."""
+    """The output of `s3a FOLDER trace job`: its lines, and the requests and events among them."""
 
     def __init__(self, text):
         self.text = text
@@ -115,7 +115,7 @@ class Trace:
 
 
 class Script:
-    """The lines of a script. What changes it gives a new one."""
+    """The lines of a script. Methods that change it return a new script."""
 
     def __init__(self, lines):
         self.lines = lines
@@ -125,7 +125,7 @@ class Script:
         return (text if text.endswith("\n") else f"{text}\n").encode()
 
     def head(self, word, default):
-        """What the head line with this word says."""
+        """The value of the head line with this word."""
         return next((words_of(it)[1] for it in self.lines if words_of(it)[0] == word), default)
 
     def actors(self):
@@ -142,13 +142,13 @@ class Script:
         return found
 
     def with_loss(self, first, fate, count, note=None):
-        """The script with a `loss` line behind its last head line."""
+        """The script with one more `loss` line, after its last head line."""
         at = max((it for it, line in enumerate(self.lines, 1) if words_of(line)[0] in HEAD), default=0)
         loss = f"loss {first} {fate}" + (f" {count}" if count > 1 else "")
         return Script([*self.lines[:at], *comment(note), loss, *self.lines[at:]])
 
     def with_crash(self, trace, request, note=None):
-        """The script with the event in which a request is sent replaced by lines in which its actor dies right before it."""
+        """The script in which the actor dies right before it sends this request. The event that sends it is replaced by other lines."""
         at = [it for it, line in enumerate(self.lines) if words_of(line)[0] in EVENTS][request["event"] - 1]
         before = [it["actor"] for it in trace.requests if it["event"] == request["event"] and it["n"] < request["n"]]
         word, *rest = words_of(self.lines[at])
@@ -199,19 +199,19 @@ class Program:
 
 
 def room_for_stores():
-    """A folder for scratch stores, to be used by `with`: in memory where the system has such a place."""
+    """A temporary folder for stores, to be used with `with`. It is in memory if the system has /dev/shm."""
     return tempfile.TemporaryDirectory(dir="/dev/shm" if os.access("/dev/shm", os.W_OK) else None)
 
 
 def put_store(folder, store):
-    """Puts the bytes of a store into a folder, or nothing where they are None."""
+    """Writes the bytes of a store into a folder. Does nothing if they are None."""
     if store is not None:
         with open(f"{folder}/store.img", "wb") as it:
             it.write(store)
 
 
 def refusal(status, text):
-    """Why the program ran no script, by what it wrote."""
+    """Why the program did not run a script, from its status and output."""
     words = text.split(" ")
     if words[:2] == ["script", "fault"] and len(words) == 6:
         line = f"line {words[5]}: " if words[5] != "0" else ""
@@ -220,7 +220,7 @@ def refusal(status, text):
 
 
 def store_of(folder):
-    """The bytes of a folder's store, or None where it has none."""
+    """The bytes of a folder's store, or None if it has none."""
     if folder is None:
         return None
     if not os.path.isdir(folder):

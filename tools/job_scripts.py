@@ -1,4 +1,4 @@
-"""Random scripts of jobs, and the bytes that a script's files have."""
+"""Random scripts of jobs, and the bytes of a script's files."""
 
 FATES = {"slow": "slow", "before": "lost-before", "after": "lost-after"}
 WORDS = ("text 7", "text hello world", "hex -", "hex 00ff41", "fill 11 65", "fill 30 90", "fill 0 66")
@@ -67,14 +67,14 @@ def events(rng, names):
 
 
 def script(rng, contents=WORDS):
-    """The lines of a random script, with `contents` as the words that a `file` line may have behind its path."""
+    """The lines of a random script. `contents` are the words that a `file` line may have after its path."""
     said = list(head(rng))
     said += attempts(rng, int(next(it for it in said if it.startswith("tasks")).split()[1]), contents)
     return said + list(events(rng, [it.split()[1] for it in said if it.startswith("attempt")]))
 
 
 def content(words):
-    """The bytes of a file, by the words behind its path."""
+    """The bytes of a file, from the words after its path."""
     kind, *rest = words.split(" ")
     if kind == "fill":
         return bytes([int(rest[1])]) * int(rest[0])
@@ -82,6 +82,6 @@ def content(words):
 
 
 def blocks(data, least):
-    """The parts of at least so many bytes in which a file's bytes are uploaded: at most 10,000, and one where there are no bytes."""
+    """The parts in which a file is uploaded: at most 10,000, and one empty part for an empty file. All but the last have at least this many bytes."""
     size = max(least, 1, -(-len(data) // 10000))
     return [data[at:at + size] for at in range(0, max(len(data), 1), size)]

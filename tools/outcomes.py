@@ -20,12 +20,12 @@ def directory(path):
 
 
 def below(place, objects):
-    """The objects below a place by their paths from there."""
+    """The objects below a place, by their paths from there."""
     return {key.removeprefix(place): tags for key, tags in objects.items() if key.startswith(place) and key != place}
 
 
 def changes_of(request):
-    """What a request changed: of each key the tags of the parts of its object, or None where there is no object any more."""
+    """What a request changed: for each key the tags of its object's parts, or None if the object is gone."""
     if not request["effect"]:
         return {}
     if request["op"] == "PutObject":
@@ -36,12 +36,12 @@ def changes_of(request):
 
 
 def opening_of(trace):
-    """The objects when the run began, by key: the tags of their parts."""
+    """The objects at the start of the run: for each key the tags of its parts."""
     return {it["key"]: it["etags"] for it in trace.lines if it["op"] == "Object"}
 
 
 def objects_of(trace, place):
-    """The objects below a key when the run began and when it was over: of each path the tags of its parts."""
+    """The objects below a key at the start and at the end of the run: for each path the tags of its parts."""
     opening = opening_of(trace)
     now = dict(opening)
     for request in trace.requests:
@@ -50,7 +50,7 @@ def objects_of(trace, place):
 
 
 def files_of(trace):
-    """The files of each attempt, as the trace's first lines say: of each path the tags of its parts."""
+    """The files of each attempt, from the first lines of the trace: for each path the tags of its parts."""
     found, files = {}, None
     for it in trace.lines:
         if it["op"] == "Attempt":
@@ -61,7 +61,7 @@ def files_of(trace):
 
 
 def driver_end(event):
-    """How the driver's operation ended in an event, if it did."""
+    """How the driver's operation ended in an event, or None."""
     if event["text"].startswith("mix "):
         return next((it.removeprefix("driver ") for it in event["end"].split(", ") if it.startswith("driver ")), None)
     return None if event["end"] == "ok" else event["end"]
@@ -86,7 +86,7 @@ def commit_end(trace):
 class Outcome:
     """How a run ended.
 
-    `report` and `uploads` are what these commands print. `picks` has an attempt for each task of which the report does not tell one.
+    `report` and `uploads` are what these commands print. `picks` has an attempt for each task for which the report has none.
     """
 
     def __init__(self, trace, report, uploads, picks):
@@ -100,7 +100,7 @@ class Outcome:
         self.wanted = {path: tags for pick in self.picks.items() for path, tags in files.get(pick, {}).items()}
         self.opening, self.seen = visible(opening), visible(now)
         self.hidden = sorted(it for it in now if is_hidden(it) and it != "_SUCCESS")
-        # (a marker that was never put anew has the very list that it had at first)
+        # (a marker that was not put again has the same list object as at the start)
         self.success = "no" if "_SUCCESS" not in now else "old" if now["_SUCCESS"] is opening.get("_SUCCESS") else "yes"
         self.new = [it for it, tags in self.wanted.items() if self.seen.get(it) == tags]
         self.old = [it for it, tags in self.opening.items() if self.seen.get(it) == tags]
@@ -108,14 +108,14 @@ class Outcome:
         self.audit = audit(trace.text)
 
     def readers(self):
-        """What readers see at the end, in a word."""
+        """What readers see at the end, as one word."""
         is_old, is_new = self.seen == self.opening, self.wanted and len(self.new) == len(self.wanted)
         if is_old:
             return "same" if is_new else "old"
         return "new" if is_new else "some" if self.seen else "nothing"
 
     def unsafe(self):
-        """Why readers were not safe, so far as can be told."""
+        """The reasons why readers were not safe, as far as the tool can see."""
         if self.audit.startswith("unsound"):
             yield f"audit says: {self.audit}"
         if self.seen != self.opening and not self.begun:
@@ -129,21 +129,21 @@ class Outcome:
                 yield f"the file {path} is neither an old nor a new one"
 
     def against_mode(self):
-        """The old files that are gone although the mode keeps them."""
+        """The old files that are gone, although the mode keeps them."""
         if self.keeps == "partitions":
             return [it for it in self.gone if not any(it.startswith(to) for to in self.partitions)]
         return [] if self.keeps == "none" else self.gone
 
     def wrongs(self):
-        """Why the run is not as it must be: readers were not safe, or old files are gone against the mode."""
+        """Why the run is wrong: readers were not safe, or old files are gone that the mode keeps."""
         return [*self.unsafe(), *(f"the old file {it} is gone, and the mode keeps it" for it in self.against_mode())]
 
     def lost(self, base):
-        """The old files that are gone, at whose paths readers see a file after the run without a fault."""
+        """The old files that are gone, although readers see files at their paths after the run without a fault."""
         return [it for it in self.gone if it in base.seen]
 
     def mark(self, base):
-        """`unsafe`, `lost` or `otherwise` where a run needs a look, by how the run without a fault ended."""
+        """`unsafe`, `lost` or `otherwise` if a run needs a look, compared with the run without a fault. Otherwise an empty text."""
         if any(self.unsafe()):
             return "unsafe"
         if self.lost(base):
@@ -152,12 +152,12 @@ class Outcome:
 
 
 def place_of(trace):
-    """The destination's key with a `/` behind it."""
+    """The destination's key, followed by a `/`."""
     return trace.lines[0]["dest"].removeprefix("s3a://").partition("/")[2] + "/"
 
 
 def check_keys(program, folder, trace, outcome):
-    """Sees that the store has the paths that the trace says, by the keys that `rmr` would delete."""
+    """Checks that the store has the paths that follow from the trace. `rmr` shows the store's keys, since it would delete them."""
     place = place_of(trace)
     text = program.run(folder, "trace", "rmr", trace.lines[0]["dest"])[1]
     asked = [json.loads(it) for it in text.split("\n") if it.startswith("{")]

@@ -52,7 +52,7 @@ def counted(number, what):
 
 
 def some_of(them, most=8):
-    """A list as text, the first of it where it is long."""
+    """A list as text. If it is long, only its beginning."""
     return " ".join(them[:most]) + (f" and {len(them) - most} more" if len(them) > most else "")
 
 
@@ -61,7 +61,7 @@ def listed(them):
 
 
 def details(run, base, title):
-    """What a cell's tooltip says of its run."""
+    """The tooltip of a cell."""
     it = run.outcome
     return "\n".join([
         title,
@@ -78,7 +78,7 @@ def details(run, base, title):
 
 
 def cell(run, base, title):
-    """A run's cell. A thick border and a bold letter mark it, and a plus says that more uploads are left than without an added fault."""
+    """The cell of a run. A marked run has a thick border and a bold letter. A plus means that more uploads are left than without an added fault."""
     letter = letter_of(run.outcome, base)
     marked = " m" if run.outcome.mark(base) else ""
     more = "+" if len(run.outcome.uploads) > len(base.uploads) else ""
@@ -86,7 +86,7 @@ def cell(run, base, title):
 
 
 def row(request, sweep, runs, key_of):
-    """A request's row."""
+    """The row of a request."""
     base, cells = sweep.base.outcome, []
     for fault in sweep.faults:
         run = runs.get((request["n"], fault))
@@ -105,7 +105,7 @@ def head(sweep):
 
 
 def event_line(event):
-    """An event's line in the report."""
+    """The line of an event in the report."""
     return f"{event['event']} {event['text']}: {event['end']}"
 
 
@@ -149,7 +149,7 @@ def introduction(sweep):
 
 
 def page(name, text, sweep, runs, key_of):
-    """The page of all runs. It needs nothing beside it."""
+    """The page of all runs. It needs no other files."""
     found = {(run.request["n"], run.fault): run for run in runs if run.request}
     events = "\n".join(map(event_line, sweep.last.trace.events))
     title = f"Every single fault: {html.escape(name)}"

@@ -1,4 +1,4 @@
-"""The picture of what readers see at each point of a run: a row a file, a column a request."""
+"""The picture of what readers see at each point of a run. A row is a file, and a column is a request."""
 import collections
 import html
 
@@ -20,12 +20,12 @@ def wide(text, size=12):
 
 
 def cut(text, most):
-    """A text with its middle left out where it is long."""
+    """A text. If it is long, its middle is left out."""
     return text if len(text) <= most else f"{text[:most // 2 - 1]}…{text[-(most - most // 2):]}"
 
 
 class Picture:
-    """A run's picture. Its shapes stand in `shapes`."""
+    """The picture of a run. `shapes` has its shapes."""
 
     def __init__(self, run, title, most_rows):
         self.run, self.title, self.shapes = run, title, []
@@ -42,7 +42,7 @@ class Picture:
         self.bottom = self.under + ROW * len(self.rows)
 
     def label(self, column):
-        """The script's line of a column's requests."""
+        """The line of the script that sends a column's requests."""
         first, last = self.events(column)
         event, more = self.run.events[first], f" and {last - first} more" if last > first else ""
         return f"{event.line} {event.text}{more}" + (f" ({event.note})" if event.note else "")
@@ -56,7 +56,7 @@ class Picture:
         return at == 0 or self.events(self.columns[at - 1])[1] != self.events(self.columns[at])[0]
 
     def number(self, at):
-        """What stands below a column's mark: the numbers of its requests. A change of two jobs has none; its event has them."""
+        """The text below a column's mark: the numbers of its requests. With two jobs a change has no number, and its event has them."""
         column = self.columns[at]
         first, last = self.run.steps[column.first].request, self.run.steps[column.last].request
         if first and "n" in first:
@@ -109,7 +109,7 @@ class Picture:
                 end = x + wide(self.number(at), SMALL) + 4
         self.upright(self.x[-1], "at the end")
     def upright(self, x, text):
-        """A line down the picture, with a text that reads upwards."""
+        """A vertical line, with a text that reads upwards."""
         self.line(x, 56, x, self.bottom)
         self.shapes.append(f'<text transform="translate({x + 12:.1f},{self.top - 2:.1f}) rotate(-90)">{html.escape(text)}</text>')
 
@@ -148,18 +148,18 @@ class Picture:
             self.line(x, self.top, x, self.bottom, BEGIN)
 
     def last_width(self):
-        """The width of the place at the end, which has room for each row's last text."""
+        """The width of the last place. It has room for each row's last text."""
         return max([78, *(wide(self.said(row, spans(self.run, self.columns, row)[-1][2])) + 12 for row in self.rows)])
 
     @staticmethod
     def said(row, shown):
-        """What a cell says."""
+        """The text of a cell."""
         if not shown:
             return ""
         return f"{sum(shown.values())}/{len(row.paths)}" if row.is_folded else " or ".join(next(iter(shown)))
 
     def cell(self, row, x, y, width, shown, place):
-        """What a row shows from one place on: its files fill the cell from below, in proportion."""
+        """A cell: what a row shows from one place on. The files fill the cell from below, in proportion."""
         shapes, down, ink = [self.box(x, y, width, TALL, "#fff", "#bbb")], y + TALL, "#000"
         fills = collections.Counter()
         for whose, count in sorted(shown.items(), key=lambda it: order_of(it[0])):
@@ -176,14 +176,14 @@ class Picture:
         self.shapes.append(f"<g>{''.join(shapes)}<title>{html.escape(title)}</title></g>")
 
     def words(self, x, y, text, ink, is_boxed):
-        """A cell's words, in a box of their own where lines run below them."""
+        """The text of a cell. If its fill has lines, the text is in a box."""
         if is_boxed:
             yield f'<rect x="{x + 2:.1f}" y="{y + 2:.1f}" width="{wide(text) + 4:.1f}" height="{TALL - 4}" fill="#fff"/>'
             ink = "#000"
         yield f'<text x="{x + 4:.1f}" y="{y + 13:.1f}" fill="{ink}">{html.escape(text)}</text>'
 
     def since(self, place):
-        """From when on a place shows what it shows."""
+        """The point from which on a cell is valid."""
         if place == 0:
             return "at first"
         step = self.run.steps[self.columns[place - 1].last]
@@ -193,7 +193,7 @@ class Picture:
     # ---- the legend
 
     def legend(self):
-        """What the fills and marks mean, so far as they are used. Gives how far down and to the right it goes."""
+        """The meaning of the fills and marks that are used. Gives the right and the lower edge of the legend."""
         entries = [(lambda x, y, fill=fill: self.box(x, y, 16, 12, fill), text) for fill, text in self.styles.legend()]
         entries.append((lambda x, y: self.box(x, y, 16, 12, "#fff", "#bbb"), "readers see nothing"))
         entries += [(shape, text) for text, shape in self.used_marks()]

@@ -10,7 +10,7 @@ OLD, NEW, UNKNOWN = ("old",), ("new",), ("?",)
 
 @dataclasses.dataclass
 class Event:
-    """An event: the number of its line in the script's file, its text, how it ended, and the numbers of its requests, if it sent any."""
+    """An event: the number of its line in the script, its text, how it ended, and the first and last number of its requests, if it sent any."""
     line: int
     text: str
     end: str
@@ -20,13 +20,13 @@ class Event:
 
 @dataclasses.dataclass
 class Step:
-    """A request of an event, or, where `request` is None, an event that shows none."""
+    """A request of an event. If `request` is None, an event without requests."""
     event: int
     request: dict
 
 
 class Owners:
-    """The files of each attempt, and the attempt that uploaded the parts of each upload, so far as a run says."""
+    """The files of each attempt, and the attempt that sent the parts of each upload, as far as it is known."""
 
     def __init__(self, files):
         self.files, self.uploads = files, {}
@@ -46,15 +46,15 @@ class Owners:
 
 
 def is_seen(path):
-    """Whether readers see a file at a path below the destination. `_SUCCESS` counts, since readers look at it."""
+    """Whether readers see a file at a path below the destination. `_SUCCESS` counts, because readers look for it."""
     return path == SUCCESS or not (path == "" or path.endswith("/") or is_hidden(path))
 
 
 class Run:
     """A run of a job or of two.
 
-    `sights` has of each path the steps at which it changes, from -1 on, which is the start. Each has the names of those whose file readers
-    see from then on: `old`, or attempts; None where they see none.
+    `sights` has for each path the steps at which it changes; the start is step -1. Each has the owners of the file that readers see from then
+    on: `old`, or attempts. It has None if readers see no file.
     """
 
     def __init__(self, dest, opening, files, events, steps, last):
@@ -71,7 +71,7 @@ class Run:
         self.turns = {at for them in self.sights.values() for at, _ in them}
 
     def follow(self, at, request, place, owners):
-        """Takes in what a request changed."""
+        """Takes the changes of a request."""
         for key, tags in changes_of(request).items():
             path = key.removeprefix(place)
             if key.startswith(place) and is_seen(path):
@@ -81,7 +81,10 @@ class Run:
                     them.append((at, whose))
 
     def tasks(self):
-        """The paths that are ever seen, by the task that writes them: of two jobs behind the job's letter. Old files alone are under None."""
+        """The paths that readers ever see, by the name of the task that writes them. Paths that no task writes are under None.
+
+        With two jobs, the job's letter comes before the number of the task.
+        """
         wrote = {}
         for name, files in self.files.items():
             wrote |= {path: name.rpartition(".")[0] for path in files if path not in wrote}
@@ -92,28 +95,28 @@ class Run:
 
 
 def numbers(first, last):
-    """Some numbers that follow one another."""
+    """A range of numbers as text."""
     return f"{first}" if first == last else f"{first}–{last}"
 
 
 def job_and_task(name):
-    """A task's name for sorting: the job's letter and the number."""
+    """A task's name as a key for sorting: the job's letter and the task's number."""
     job, _, task = name.rpartition(" ")
     return job, int(task)
 
 
 def event_lines(lines, first=1):
-    """The numbers of the lines that are events. The first line has the number `first`."""
+    """The numbers of the lines that are events. Lines are counted from `first`."""
     return [number for number, line in enumerate(lines, first) if words_of(line)[0] in EVENTS]
 
 
 def named_files(trace, job=""):
-    """The files of each attempt of a trace, by the attempt's name behind the job's letter."""
+    """The files of each attempt of a trace, by the attempt's name, which follows the job's letter."""
     return {f"{job}{task}.{attempt}": files for (task, attempt), files in files_of(trace).items()}
 
 
 def run_of(trace, text):
-    """The run of one job, from its trace. `text` is the script's."""
+    """The run of one job, from its trace. `text` is the script."""
     events, steps = [], []
     for event, line in zip(trace.events, event_lines(text.split("\n"))):
         events.append(Event(line, event["text"], event["end"]))

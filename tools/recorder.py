@@ -19,7 +19,7 @@ def text_of(line):
 
 
 class Sent:
-    """A request on its way: its number, its line so far, and what that does not tell."""
+    """A request that has no reply yet: its number, its line so far, and the reason if the line is in doubt."""
 
     def __init__(self, n, line, doubt):
         self.n, self.line, self.doubt = n, line, doubt
@@ -27,7 +27,7 @@ class Sent:
 
 
 class Recorder:
-    """Writes the lines of requests. A change waits until the change before it got its reply, so the lines have the store's order."""
+    """Writes the lines of requests. A change waits until the change before it has its reply, so the lines have the order of the store."""
 
     def __init__(self, path, names):
         self.followed, self.names = Followed(), names
@@ -48,7 +48,7 @@ class Recorder:
                 raise OSError("the disk is full")
 
     async def begin(self, which, request):
-        """Takes a request. Returns when it may be sent on. `which` is a name of its own."""
+        """Takes a request, and returns when it may be sent on. `which` names the request."""
         line, doubt = exchanges.asked(request, self.names)
         self.n += 1
         self.sent[which] = sent = Sent(self.n, line, doubt)
@@ -60,7 +60,7 @@ class Recorder:
                 self.turn.release()
 
     def end(self, which, lines_of):
-        """Writes what became of a request, and lets the next change go. Does nothing for a request that is over."""
+        """Writes the line of a request that is over, and lets the next change go. Does nothing if the line is written already."""
         sent = self.sent.pop(which, None)
         if sent is None:
             return
@@ -77,18 +77,18 @@ class Recorder:
         self.end(which, lambda sent: [exchanges.lost(sent.line, why)])
 
     def unsent(self, which):
-        """Writes the line of a request that is not sent on, since its client went away while it waited for its turn."""
+        """Writes the line of a request that is not sent on, because its client went away while it waited."""
         self.end(which, lambda sent: [exchanges.lost(sent.line, "the client went away before it was sent on") | {"effect": False}])
 
     def finish(self):
-        """Writes the lines of the requests that are still on their way."""
+        """Writes the lines of the requests that have no reply yet."""
         for which in [*self.sent]:
             self.lose(which, "the recording ended before its reply")
         self.out.close()
 
 
 class Addon:
-    """What mitmproxy calls."""
+    """The methods that mitmproxy calls."""
 
     def __init__(self):
         self.recorder, self.passed, self.has_failed = None, {}, False
@@ -106,7 +106,7 @@ class Addon:
             self.stop(why)
 
     def stop(self, why):
-        """Ends the proxy, since its trace would lack a line."""
+        """Ends the proxy, because its trace would miss a line."""
         from mitmproxy import ctx
         self.has_failed = True
         print(f"record: {why}", file=sys.stderr, flush=True)
@@ -134,7 +134,7 @@ class Addon:
             flow.kill()
 
     def responseheaders(self, flow):
-        """Lets the bytes of objects that are read pass through: no line has them."""
+        """Streams the bytes of objects that are read, because no line needs them."""
         sent = self.recorder and self.recorder.sent.get(flow.id)
         if sent and sent.line["op"] == "GetObject" and flow.response.status_code < 300:
             flow.response.stream = True
@@ -147,7 +147,7 @@ class Addon:
         self.tell("lose", flow.id, f"no reply: {flow.error}")
 
     def tell(self, what, *words):
-        """Calls a method of the recorder, if there is one."""
+        """Calls a method of the recorder, if there is a recorder."""
         try:
             if self.recorder:
                 getattr(self.recorder, what)(*words)
@@ -168,7 +168,7 @@ def headers_of(message):
 
 
 def request_of(request):
-    """A request of mitmproxy as one of ours."""
+    """Turns a request of mitmproxy into a Request."""
     host = request.host_header or request.pretty_host
     return exchanges.Request(request.method, host, request.path, headers_of(request), request.raw_content or b"")
 

@@ -9,7 +9,7 @@ def dots(x, y):
 
 
 def marks(request, x, y, size):
-    """The shapes of a request's mark around x: below what it did, above that its answer is missing."""
+    """The shapes of a request's mark around x: below, what it did; above, that its reply is missing."""
     half = min(size, 9) / 2
     if request["outcome"] == "slow":
         yield f'<text x="{x - 3.5:.1f}" y="{y + 16:.1f}" font-size="12" font-weight="bold">s</text>'

@@ -1,4 +1,4 @@
-"""Sends requests to an S3 endpoint by boto3, and reads the replies into the words of s3_model."""
+"""Sends requests to an S3 endpoint with boto3, and turns the replies into those of s3_model."""
 import hashlib
 
 from job_runs import Stop
@@ -14,7 +14,7 @@ class NoServer(Stop):
 
 
 def connect(endpoint):
-    """A client of an endpoint. It sends each request once, and checks no word that it is given: that is the server's part."""
+    """A client of an endpoint. It sends each request once, and checks no argument, so that the server does."""
     try:
         import boto3
         from botocore.config import Config
@@ -50,13 +50,13 @@ def page(entries, reply):
 
 
 class Client:
-    """A boto3 client, and the exceptions by which it says that a request was refused, or that there was no reply."""
+    """A boto3 client, and the exceptions that it raises if a request is refused or has no reply."""
 
     def __init__(self, client, endpoint, refused, failed):
         self.client, self.endpoint, self.refused, self.failed = client, endpoint, refused, failed
 
     def send(self, it):
-        """The reply to a request: `error` alone where the server refused it, or sent what boto3 cannot read."""
+        """The reply to a request. It has only `error` if the server refused the request, or if boto3 cannot read the reply."""
         try:
             return getattr(self, it["op"])(it)
         except self.refused as why:
@@ -112,7 +112,7 @@ class Client:
         said = {"Delimiter": it["delimiter"]} if "delimiter" in it else {}
         reply = self.client.list_objects_v2(Bucket=it["bucket"], Prefix=it["prefix"], StartAfter=it["after"], MaxKeys=it["max"], **said)
         entries = [(one["Key"], one["Size"]) for one in reply.get("Contents", [])] + [(one["Prefix"],) for one in reply.get("CommonPrefixes", [])]
-        # (S3 tells keys and common prefixes apart. Each of the two lists must be in order.)
+        # (S3 lists keys and common prefixes apart. Each of the two lists must be in order.)
         return page(sorted(entries, key=lambda one: one[0].encode()) if said else entries, reply)
 
     def CreateMultipartUpload(self, it):
@@ -130,7 +130,7 @@ class Client:
         return {}
 
     def ListParts(self, it):
-        """All parts of an upload, over as many pages as the server makes."""
+        """All parts of an upload, from as many pages as the server sends."""
         entries, behind = [], 0
         while behind is not None:
             reply = self.client.list_parts(**self.where(it), PartNumberMarker=behind)
@@ -145,5 +145,5 @@ class Client:
 
 
 def code_of(response):
-    """The code of a refusal. A reply without one, as of a HEAD request, has its status in its place."""
+    """The code of a refusal. If the reply has no code, such as that to a HEAD request, this is its status."""
     return response.get("Error", {}).get("Code") or str(response.get("ResponseMetadata", {}).get("HTTPStatusCode", ""))

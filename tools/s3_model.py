@@ -1,7 +1,7 @@
 """The model of S3 that the program runs over, read from crates/s3_types/specs (in words: docs/WHY.md): what each request is answered, and what it leaves.
 
-A request is a line of a trace, as a dictionary; `body` has the bytes of a put or a part. A reply is a dictionary too: `error` alone where the
-request is refused, and otherwise what S3's reply tells.
+A request is a line of a trace, as a dictionary; `body` has the bytes of a put or a part. A reply is a dictionary too. It has only `error` if the
+request is refused, and otherwise the content of S3's reply.
 """
 import dataclasses
 import hashlib
@@ -53,13 +53,13 @@ def md5(data):
 
 
 def is_bucket(name):
-    """Whether a text is a bucket's name by the model's rule, which leaves further rules of S3 out."""
+    """Whether a text is a bucket's name by the model's rules, which are only some of S3's."""
     fits = 3 <= len(name) <= 63 and all(it.isascii() and (it.islower() or it.isdigit() or it in ".-") for it in name)
     return fits and name[0] not in ".-" and name[-1] not in ".-"
 
 
 def entry_of(it, key, length):
-    """A key's entry in a listing: itself with its length, or under a delimiter the common prefix that it folds to."""
+    """The entry of a key in a listing: the key with its length, or, with a delimiter, its common prefix."""
     head, slash, _ = key[len(it["prefix"]):].partition("/")
     return (it["prefix"] + head + slash,) if "delimiter" in it and slash else (key, length)
 

@@ -1,4 +1,4 @@
-"""Reads a store from its file, whose format docs/FORMATS.md has: the image with which the log begins, and the changes behind it."""
+"""Reads a store from its file (docs/FORMATS.md has the format): the image at the beginning of the log, and the changes after it."""
 from job_runs import Stop
 from s3_model import Object, Store, Upload
 
@@ -25,12 +25,12 @@ class Reader:
         return self.take(self.number(length)).decode()
 
     def header(self):
-        """A length header, which is written as its length plus 1, and as 0 where there is none."""
+        """A length header. The file has the length plus 1, or 0 if there is no header."""
         written = self.number()
         return written - 1 if written else None
 
     def is_open(self):
-        """Whether a gate is open, so that a record follows it."""
+        """Whether the gate is open, which means that a record follows."""
         return self.take(1) == b"\x01"
 
 
@@ -44,7 +44,7 @@ def read_upload(reader, bucket):
 
 
 def read_image(data):
-    """The store that an image is of."""
+    """The store in an image."""
     reader = Reader(data)
     if reader.take(8) != IMAGE:
         raise Stop("the store's file does not begin as one")
@@ -67,7 +67,7 @@ def tags(reader):
     return [{"part": number, "etag": tag} for number, tag, _ in found]
 
 
-# Of each kind of record: the operation, and its fields behind the bucket.
+# For each kind of record: the operation, and its fields after the bucket.
 RECORDS = {
     1: ("CreateBucket", {}),
     2: ("PutObject", {"key": Reader.text, "magic_length": Reader.header, "body": lambda it: it.take(it.number())}),
@@ -82,14 +82,14 @@ RECORDS = {
 
 
 def read_record(body):
-    """The request that a record of the log has."""
+    """The request in a record of the log."""
     reader = Reader(body)
     operation, fields = RECORDS[reader.number(1)]
     return {"op": operation, "bucket": reader.text(), **{name: read(reader) for name, read in fields.items()}}
 
 
 def read_store(data):
-    """The store with which a file begins, and the changes behind it."""
+    """The store at the beginning of a file, and the changes after it."""
     reader = Reader(data)
     if not data.startswith(LOG):
         return read_image(data), []

@@ -1,4 +1,4 @@
-"""The changes in the log of a store, as docs/FORMATS.md tells its format, in the form of a trace's requests."""
+"""Reads the changes in the log of a store (docs/FORMATS.md has the format), in the form of a trace's requests."""
 import hashlib
 import json
 
@@ -36,7 +36,7 @@ def part(fields):
 
 
 def request_of(body):
-    """The change of a record's body. Its `id`, where it puts a `_SUCCESS`, is that of the job which that names."""
+    """The change in a record's body. If it puts a `_SUCCESS`, `id` is the id of the job that this names."""
     fields = Fields(body)
     kind = fields.number(1)
     if not 1 <= kind <= len(OPERATIONS):

@@ -9,14 +9,14 @@ FATES = ("slow", "before", "after")
 
 
 class Run:
-    """A run of the script with one fault added, or, where `request` is None, without."""
+    """A run of the script with one added fault. If `request` is None, no fault is added."""
 
     def __init__(self, request, fault, outcome):
         self.request, self.fault, self.outcome = request, fault, outcome
 
 
 class Sweep:
-    """The runs of a script with every single fault, each over the store of a folder. The folders of the runs stand in `room`."""
+    """The runs of a script with every single fault, each over the store of a folder. The runs have their folders in `room`."""
 
     def __init__(self, program, text, over, room, limit=None):
         self.program, self.store, self.room = program, store_of(over), room
@@ -34,7 +34,7 @@ class Sweep:
         return self.program.trace(self.still, script, where)
 
     def outcome(self, stage, picks):
-        """How the run of a script ends, in a folder of its own."""
+        """Runs a script in its own folder, and gives the outcome."""
         with tempfile.TemporaryDirectory(dir=self.room) as folder:
             put_store(folder, self.store)
             report = self.program.run(folder, "job", data=stage.script.data())[1]
@@ -44,11 +44,11 @@ class Sweep:
         return outcome
 
     def cases(self):
-        """Each request with each fault that it is tried with. (Where the script loses a request itself, it is not lost once more.)"""
+        """Each request with each of its faults. (If the script itself loses a request, only the crash is tried.)"""
         return [(it, fault) for it in self.requests for fault in self.faults if fault == "crash" or it["n"] not in self.fated]
 
     def run(self, request, fault):
-        """The run with a fault. The script's own faults that come later follow their requests, or fall away with them."""
+        """The run with a fault. Later faults of the script itself follow their requests; if a request is no longer sent, its fault is dropped."""
         stage = next(it for it in reversed(self.stages) if it.is_before(request["n"]))
         later = self.last.hits[len(stage.hits):]
         stage = self.crashed(stage, request) if fault == "crash" else self.lost(stage, request["n"], *fault.split("-"))
@@ -64,11 +64,11 @@ class Sweep:
         return Stage(script, self.trace_of(script), stage.hits)
 
     def crashed(self, stage, request):
-        """The stage with the actor of a request dying right before it."""
+        """The stage in which the actor dies right before it sends this request."""
         return self.with_script(stage, stage.script.with_crash(stage.trace, request))
 
     def lost(self, stage, n, fate, every=None):
-        """The stage with one try of request n slow or lost, or every one."""
+        """The stage in which one try of request n, or every try, is slow or lost."""
         if not every:
             return self.with_script(stage, stage.script.with_loss(n, fate, 1))
         numbers = range(n, n + self.retries + 1)
@@ -79,7 +79,7 @@ class Sweep:
         return self.lost_one_by_one(stage, n, fate)
 
     def lost_one_by_one(self, stage, n, fate):
-        """The same where the tries do not follow one another, or some are lost already."""
+        """The stage in which every try is slow or lost, if the tries are not in a row or some are lost already."""
         while n:
             if n not in stage.script.fated():
                 stage = self.with_script(stage, stage.script.with_loss(n, fate, 1))

@@ -1,4 +1,4 @@
-"""Traced runs of the program: the store that a run begins with, its requests, and the bytes of each put and part."""
+"""Traced runs of the program: the store at the start of a run, its requests, and the bytes of each put and part."""
 import json
 import os
 import random
@@ -15,7 +15,7 @@ LARGE = 1 << 20  # bytes: from this minimum on, few files of a random script hav
 
 
 def folded(data):
-    """The store that a file stands for, after all of its changes."""
+    """The store in a file, after all changes of the file."""
     store, changes = read_store(data)
     for it in changes:
         store.do(it)
@@ -23,7 +23,7 @@ def folded(data):
 
 
 def files_of(text):
-    """The size of blocks that a script's head says, and the bytes of each of its files."""
+    """The size of blocks in a script's head, and the bytes of each of its files."""
     block, found = 0, []
     for line in text.splitlines():
         word, _, rest = line.partition(" ")
@@ -35,7 +35,7 @@ def files_of(text):
 
 
 class Run:
-    """A run of a command: its trace's requests, the store at its beginning and at its end, and the bytes of puts and parts by their MD5."""
+    """A run of a command: the requests of its trace, the store at its start and at its end, and the bytes of puts and parts by their MD5."""
 
     def __init__(self, program, folder, words, data):
         before = store_of(folder)
@@ -56,7 +56,7 @@ class Run:
             self.bodies |= {md5(one): one for one in blocks(it, max(block, self.opening.minimum))} | {md5(it): it}
 
     def request(self, it):
-        """A request as it is sent: with its bytes, and without what its line tells of the reply."""
+        """The request to send: with its bytes, and without the members that come from the reply."""
         told = ("error", "effect", "listed", "more", *(["upload"] if it["op"] == "CreateMultipartUpload" else []))
         name_is_bad = it.get("error") == "InvalidBucketName"
         it = {name: value for name, value in it.items() if name not in told}
@@ -69,7 +69,7 @@ class Run:
         return it
 
     def play(self, client, prefix):
-        """The session in which the requests were sent, those left out that never reached the server."""
+        """Sends the requests, except those that were lost on the way or slow, and gives the session."""
         session = Session(client, prefix, self.opening)
         try:
             session.begin()
@@ -85,7 +85,7 @@ class Run:
 
 
 def check(it, reply):
-    """Sees that the reply of the tool's own model is what the trace tells."""
+    """Checks that the reply of the tool's own model agrees with the trace."""
     told = {"effect": "error" not in reply} | {name: reply[name] for name in ("error", "more") if name in reply}
     told |= {"listed": len(reply["entries"])} if "more" in reply else {}
     if it["outcome"] == "answered":
@@ -98,13 +98,13 @@ def check(it, reply):
 
 
 def check_end(model, closing):
-    """Sees that the tool's own model has the store that the run left in its folder."""
+    """Checks that the tool's own model has the same store as the run left in its folder."""
     if [vars(it) for it in model.buckets.values()] != [vars(it) for it in closing.buckets.values()]:
         raise Stop("the store that the run left and the tool's own model differ")
 
 
 def run_of(program, over, minimum, words, data):
-    """A run over a copy of a folder's store, or over a store that `init` makes."""
+    """A run over a copy of a folder's store, or over a new store made by `init`."""
     with tempfile.TemporaryDirectory(dir=ROOM) as folder:
         store = store_of(over)
         if store is not None:
@@ -118,7 +118,7 @@ def run_of(program, over, minimum, words, data):
 
 
 def buckets_of(words, data):
-    """The bucket of a job's destination, which `job` and `gen` make in a folder without a store only."""
+    """The bucket of a job's destination. `job` and `gen` make it only in a folder without a store."""
     if words[0] == "gen":
         return ["lake"]
     return [it.split(" ")[1].removeprefix("s3a://").split("/")[0] for it in data.decode(errors="replace").split("\n") if it.startswith("dest ")][:1]

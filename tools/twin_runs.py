@@ -1,7 +1,7 @@
 """Runs of two jobs, event by event.
 
-There is no trace of two jobs. They are run with their whole order, and once with each beginning of it. The log of the store that a run leaves has
-each change in order, and the report says how many requests were sent: so each change belongs to the event by whose end it is there.
+`trace` does not show two jobs. So the tool runs them with their whole order, and once with each beginning of the order. The log that a run leaves
+has all changes in order, and the report has the number of requests. So each change belongs to the first event after which the log has it.
 """
 import tempfile
 
@@ -15,7 +15,7 @@ FATES = {"slow": "slow", "before": "lost before", "after": "lost after"}
 
 
 def parts_of(text):
-    """The lines of the two scripts and the order, each with the number of its first line; None where the text is no such thing."""
+    """The lines of the two scripts and the order, each with the number of its first line. None if the text has no separating line."""
     lines = text.split("\n")
     cuts = [at for at, line in enumerate(lines) if line.removesuffix("\r") == SEPARATOR]
     if not cuts:
@@ -31,7 +31,7 @@ def order_of(lines):
 
 
 class Twins:
-    """Two scripts and an order, and the runs of its beginnings."""
+    """Two scripts and an order, and the runs with beginnings of the order."""
 
     def __init__(self, program, room, text, store):
         self.program, self.room, self.store = program, room, store
@@ -42,7 +42,7 @@ class Twins:
         self.status, self.sent = status, int(next(it for it in self.report if it.startswith("sent ")).split()[1])
 
     def play(self, data):
-        """The status of a run, its report, and the changes that it made."""
+        """Runs a script, and gives the status, the report, and the changes that it made."""
         with tempfile.TemporaryDirectory(dir=self.room) as folder:
             put_store(folder, self.store)
             status, said = self.program.run(folder, "twins", data=data)
@@ -52,7 +52,7 @@ class Twins:
         return status, said, [] if left is None else changes_in(left)
 
     def until(self, events):
-        """How many requests a run with so many events sends, and how many changes it makes."""
+        """How many requests and changes a run of the first `events` events has."""
         text = "\n".join([*self.first[1], SEPARATOR, *self.second[1], SEPARATOR, *(f"{it} 1" for it in self.jobs[:events]), ""])
         _, said, changes = self.play(text.encode())
         if changes != self.changes[:len(changes)]:
@@ -60,7 +60,7 @@ class Twins:
         return int(next(it for it in said.splitlines() if it.startswith("sent ")).split()[1]), len(changes)
 
     def events(self):
-        """The events, each with its end, the numbers of its requests and its losses; and the number of changes by its end."""
+        """The events, each with its end, the numbers of its requests and its losses; and the number of changes after each event."""
         lines = {job: iter(event_lines(part[1], part[0])) for job, part in (("a", self.first), ("b", self.second))}
         fated = Script(self.first[1]).fated()
         sent, found, changes = 0, [], []
@@ -75,7 +75,7 @@ class Twins:
 
 
     def lost(self, fated, sends):
-        """Which of these requests were lost or slow, by their numbers."""
+        """The numbers of those requests among these that were lost or slow, as text."""
         found = {}
         for it in (it for it in sends if it in fated):
             found.setdefault(fated[it], []).append(it)

@@ -1,4 +1,4 @@
-"""A stand-in for boto3, for .ci/tools: a client that gives the replies of the file REPLIES in their order, whatever it is asked.
+"""A stand-in for boto3, for .ci/tools: a client that returns the replies of the file REPLIES in their order.
 
 A line of REPLIES is the name of the method that must be called next, and its reply as JSON, or `refused` and an error code, or `unreadable`, or
 `unreached`. `Body` in a reply is a text. Each call is written to the file CALLS. With SERVER in the environment the client is a server of its own.

@@ -1,4 +1,4 @@
-"""A stand-in for the exception of botocore that tells a reply that cannot be read."""
+"""A stand-in for the exception that botocore raises when it cannot read a reply."""
 
 
 class ResponseParserError(Exception):

@@ -1,4 +1,4 @@
-//! An attempt of a task of the magic committer.
+//! An attempt of a task, with the magic committer.
 
 use crate::store::{Bytes, Key, Reply, Request};
 use crate::{World, DEST};
@@ -74,7 +74,7 @@ impl Attempt {
         format!("{}{}", self.directory, self.files[at].0)
     }
 
-    /// Sends its next request, and says whether it goes on.
+    /// Sends the next request of the attempt. Gives false once its operation is over.
     pub fn send(&mut self, world: &mut World, actor: u32) -> bool {
         self.stage = match self.stage {
             Stage::Idle => Stage::Idle,

@@ -1,4 +1,4 @@
-//! The writes and syncs by which a folder's log came to be, and nothing else: what a disk alone takes of a run.
+//! Makes a copy of a folder's log by the writes and syncs that made the log. This shows how much of a run's time the disk alone takes.
 use std::fs::{self, File};
 use std::io;
 use std::os::unix::fs::FileExt;
@@ -9,8 +9,8 @@ fn number(bytes: &[u8]) -> usize {
     u64::from_be_bytes(bytes.try_into().unwrap()) as usize
 }
 
-/// Reads the log at one path and makes the file at another as the program made it: the base whole, and then each record behind
-/// the closed gate before it, and the gate. Prints how many records that were.
+/// Reads the log at one path, and writes the file at the other path as `s3a` wrote the log: first the whole base, then each record after
+/// a closed gate, which is opened last. Prints the number of records.
 pub fn copy_log(from: &str, to: &str) -> io::Result<()> {
     let log = fs::read(from)?;
     let mut gate = HEAD + number(&log[8..HEAD]);

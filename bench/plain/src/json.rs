@@ -1,4 +1,4 @@
-//! JSON as the records need it: objects, lists, texts and whole numbers.
+//! Reads the JSON that the records use: objects, lists, texts and whole numbers.
 
 use std::collections::BTreeMap;
 

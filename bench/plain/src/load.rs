@@ -1,4 +1,4 @@
-//! A reader of a folder's log, as a plain program would have it: the base and each change behind it fill the maps of one bucket.
+//! A plain reader of a folder's log. It fills the maps of one bucket from the base and from each change after it.
 use crate::store::{Key, Request, Store};
 use std::fs;
 
@@ -12,24 +12,24 @@ impl<'a> Reader<'a> {
         front
     }
 
-    /// A number in so many bytes, the highest first.
+    /// A number of `length` bytes, big-endian.
     fn number(&mut self, length: usize) -> u64 {
         self.bytes(length).iter().fold(0, |sum, it| sum << 8 | u64::from(*it))
     }
 
-    /// Bytes with their length in so many bytes before them.
+    /// Bytes that come after their count, a number of `length` bytes.
     fn block(&mut self, length: usize) -> &'a [u8] {
         let length = self.number(length) as usize;
         self.bytes(length)
     }
 
-    /// A text with its length in so many bytes before it.
+    /// A text that comes after the count of its bytes, a number of `length` bytes.
     fn text(&mut self, length: usize) -> Key {
         std::str::from_utf8(self.block(length)).unwrap().into()
     }
 }
 
-/// The objects of a base. Its live uploads are none where a job has ended well.
+/// Reads the objects of a base. The base must have no live uploads.
 fn base(store: &mut Store, bytes: &[u8]) {
     let mut rest = Reader(bytes);
     rest.bytes(24);
@@ -45,7 +45,7 @@ fn base(store: &mut Store, bytes: &[u8]) {
     }
 }
 
-/// The change that a record's body is; none where it makes a bucket.
+/// Reads the change in a record's body. Gives none if it makes a bucket.
 fn change(body: &[u8]) -> Option<Request> {
     let mut rest = Reader(body);
     let kind = rest.number(1);

@@ -1,5 +1,5 @@
-//! The job that `s3a FOLDER gen SEED TASKS FILES` plays, as a plain program: the same requests in the same order, to a store
-//! in memory that keeps no log. `plain SEED TASKS FILES` prints the same line. It takes no failure into account.
+//! A plain program that runs the job of `s3a FOLDER gen SEED TASKS FILES`. `plain SEED TASKS FILES` sends the same requests in the same
+//! order, to a store in memory without a log, and prints the same line. It assumes that no request fails.
 
 mod attempt;
 mod disk;
@@ -12,7 +12,7 @@ use attempt::{Attempt, Op};
 use std::rc::Rc;
 use store::{Bytes, Key, Reply, Request, Store};
 
-/// One sending: who sent it, and what.
+/// One request that was sent, and the number of the actor that sent it.
 pub struct Entry {
     #[allow(dead_code)]
     pub actor: u32,
@@ -20,7 +20,7 @@ pub struct Entry {
     pub request: Request,
 }
 
-/// The numbers of a seed.
+/// The sequence of random numbers that a seed gives.
 pub struct Numbers(u64);
 
 impl Numbers {
@@ -73,7 +73,7 @@ impl World {
         }
     }
 
-    /// Lets these attempts go on, one sending each, as a seed chooses.
+    /// Lets all busy attempts send, one request at a time in the order that the seed gives, until all are done.
     fn mix(&mut self, attempts: &mut [Attempt], seed: u64) {
         let mut numbers = Numbers::new(seed);
         let mut busy: Vec<usize> = (0..attempts.len())
@@ -126,7 +126,7 @@ fn main() {
     world.send(0, Request::Head(DEST.into()));
     world.send(0, Request::Delete(format!("{DEST}/_SUCCESS").into()));
     world.sweep(&magic);
-    // writes, and the killed ones again
+    // the writes; the tasks whose first attempt is killed are written again
     for it in attempts.iter_mut().filter(|it| it.attempt == 0) {
         it.start(Op::Write);
     }
@@ -137,7 +137,7 @@ fn main() {
             while attempts[at].send(&mut world, at as u32 + 1) {}
         }
     }
-    // commits
+    // the commits of the tasks
     for it in attempts
         .iter_mut()
         .filter(|it| (it.attempt == 1) == (it.task % 5 == 4))

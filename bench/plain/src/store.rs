@@ -1,4 +1,4 @@
-//! A bucket in memory, as a plain program would have it: tree maps, shared bytes, no proofs.
+//! A plain bucket in memory: tree maps, shared bytes, no proofs.
 
 use crate::md5::{digest, hex};
 use std::collections::BTreeMap;
