@@ -232,6 +232,14 @@ def folded_more(check):
     check.same("moments, the last row of 400 files", picture.rows["task 39: 10 files"][-1], "10 39.0, after request 2523")
 
 
+def folded_mixed(check):
+    """A row of five files, of which the second has an old file: each cell has a part for old files and one for new ones, 3.6 high for each file."""
+    folder = check.store("moments-mixed", "part-000-01")
+    picture = drawn(check, large(3, 5), "--rows", "3", "--over", folder)
+    highs = [[round(high, 1) for _, high in them] for them, _ in picture.fills["task 0: 5 files"]]
+    check.same("moments, old and new files in one row", highs, [[3.6], [3.6, 3.6], [7.2], [10.8], [14.4], [18.0]])
+
+
 def plays(check):
     """For a job the tool runs the program once."""
     counts, counter = f"{check.room}/plays", f"{check.room}/counter"
@@ -290,5 +298,5 @@ def step_of(path):
 
 
 def moments(check):
-    for look in (jobs, marked, looks, over, twins, folded, folded_more, plays, page, scenarios):
+    for look in (jobs, marked, looks, over, twins, folded, folded_more, folded_mixed, plays, page, scenarios):
         look(check)
